@@ -1,0 +1,11 @@
+pub mod Refusals
+pub mod Stamps
+pub mod Clocks
+pub mod Operations
+pub mod Delivery
+pub mod Tree
+pub mod Reading
+pub mod Lawful
+pub mod Splice
+pub mod Edits
+pub mod Asked

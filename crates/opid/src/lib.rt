@@ -1,0 +1,16 @@
+//! The words that every other crate speaks: sites, stamps, kinds of operation, edits and refusals. Its
+//! `specs/` define the document: operations, their order, what is visible, versions and edits.
+#![tactic(auto)]
+
+mod edit;
+mod kind;
+pub mod laws;
+mod refusal;
+mod site;
+mod stamp;
+
+pub use edit::Edit;
+pub use kind::OpKind;
+pub use refusal::Refusal;
+pub use site::Site;
+pub use stamp::Stamp;
