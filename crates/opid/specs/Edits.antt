@@ -1,5 +1,5 @@
 -- The edit of each operation of a log: what it does to the text that was visible before it (Attiya and others 2016).
-use Rattle.std.specs.Prelude.{ℕ, ◌+◌, if◌then◌else◌, Option, Some, None, List, [], ◌∷◌, ◌++◌, take, slice_get}
+use Rattle.std.specs.Prelude.{ℕ, ◌+◌, if◌then◌else◌, List, [], ◌∷◌, ◌++◌}
 use Rattle.std.specs.List.{list_any}
 use Rattle.opid.specs.declared.stamp.Stamp.{Stamp}
 use Rattle.opid.specs.declared.kind.OpKind as kind

@@ -1,5 +1,5 @@
 -- Which logs are lawful, and which sets of operations make one tree (Roh and others 2011; Attiya and others 2016).
-use Rattle.std.specs.Prelude.{◌≡◌, ℕ, ◌<◌, true, false, Option, Some, None, List, [], ◌∷◌, ◌++◌, length, sum, Contains}
+use Rattle.std.specs.Prelude.{◌≡◌, ◌<◌, true, false, Some, None, List, [], ◌∷◌, ◌++◌, length, sum, Contains}
 use Rattle.std.specs.List.{AllByRecursion}
 use Rattle.opid.specs.declared.stamp.Stamp.{Stamp}
 use Rattle.opid.specs.declared.kind.OpKind.{OpKind}

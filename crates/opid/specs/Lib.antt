@@ -9,3 +9,4 @@ pub mod Lawful
 pub mod Splice
 pub mod Edits
 pub mod Asked
+pub mod Worked

@@ -8,6 +8,7 @@ pub mod laws;
 mod refusal;
 mod site;
 mod stamp;
+pub mod worked;
 
 pub use edit::Edit;
 pub use kind::OpKind;

@@ -1,0 +1,11 @@
+pub mod Order
+pub mod Walk
+pub mod Rising
+pub mod Between
+pub mod Permuted
+pub mod Sound
+pub mod Logs
+pub mod Orders
+pub mod Equation
+pub mod Told
+pub mod Stated
