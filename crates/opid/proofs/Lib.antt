@@ -8,4 +8,7 @@ pub mod Logs
 pub mod Orders
 pub mod Equation
 pub mod Told
+pub mod Counts
+pub mod Runs
+pub mod Placing
 pub mod Stated

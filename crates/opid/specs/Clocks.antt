@@ -3,7 +3,7 @@ use Rattle.std.specs.Prelude.{ℕ, ◌+◌, Bool, ◌&&◌, ◌||◌, ◌==◌, 
 use Rattle.std.specs.List.{range_with_len, list_all}
 
 -- the sites
-abbrev pub sites : List ℕ
+unfoldable pub sites : List ℕ
 sites = range_with_len 0 32
 
 -- a site's count

@@ -1,6 +1,6 @@
 //! What holds of the definitions, whatever the operations: each law is the contract of a function that does
 //! nothing, so that it is proved with the crate. (Attiya and others 2016: the timestamped insertion tree.)
-ghost use Rattle.std.specs.Prelude.{◌≡◌, ℕ, ◌&&◌, true, false, List, [], Option, Some, None, not, filter, take};
+ghost use Rattle.std.specs.Prelude.{◌≡◌, ℕ, ◌<◌, ◌≤◌, ◌&&◌, ◌++◌, length, true, false, List, [], Option, Some, None, not, filter, take};
 ghost use Rattle.std.specs.List.Sorted.{IsPermutation};
 ghost use Rattle.opid.specs.declared.refusal.Refusal.{Refusal};
 ghost use Rattle.opid.specs.declared.stamp.Stamp.{Stamp};
@@ -8,7 +8,8 @@ ghost use Rattle.opid.specs.Refusals.{number_of, name_of};
 ghost use Rattle.opid.specs.Stamps.{is_before, is_same};
 ghost use Rattle.opid.specs.Operations.{Operation, Insertion, insertions, has_element, is_deleted};
 ghost use Rattle.opid.specs.Tree.{rising, preorder, all, IsPreorder};
-ghost use Rattle.opid.specs.Reading.{visible};
+ghost use Rattle.opid.specs.Reading.{visible, visible_at};
+ghost use Rattle.opid.specs.Asked.{asked_insertions, asked_deletions, IsPlaced};
 ghost use Rattle.opid.specs.Lawful.{AreApart, IsLawful, IsSound, IsPart};
 
 /// No two refusals have one number or one name.
@@ -62,4 +63,21 @@ pub fn one_order()
 pub fn lawful_logs()
     ensures sound { (log : List Operation) → IsLawful log → IsSound log }
     ensures beginnings { (log : List Operation) (n : ℕ) → IsLawful log → IsLawful (take n log) }
+{}
+
+/// What is asked for by places in a version is lawful after the log, however far the log went on since.
+#[tactic(auto, using(crate::proofs::Stated::laws))]
+pub fn asked_operations_are_lawful()
+    ensures insertions { (log : List Operation) (site v k : ℕ) (chars : List ℕ) → IsLawful log → site < 32 →
+        IsLawful (log ++ asked_insertions log site v k chars) }
+    ensures deletions { (log : List Operation) (site v k c : ℕ) → IsLawful log → site < 32 →
+        IsLawful (log ++ asked_deletions log site v k c) }
+{}
+
+/// Asked insertions stand at the place that was asked for, in the version that was named: also where the
+/// element to their left was deleted since.
+#[tactic(auto, using(crate::proofs::Stated::laws))]
+pub fn asked_insertions_are_placed()
+    ensures { (log : List Operation) (site v k : ℕ) (chars : List ℕ) → IsLawful log → site < 32 → k ≤ length (visible_at log v) →
+        IsPlaced log v k (asked_insertions log site v k chars) }
 {}

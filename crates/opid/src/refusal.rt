@@ -151,7 +151,7 @@ impl From<AllocError> for Refusal {
     ghost from_gives = { λ _ e. e ≡ Memory };
 
     fn from(_: AllocError) -> Refusal {
-        Refusal::Memory
+        Self::Memory
     }
 }
 
@@ -162,6 +162,6 @@ impl<T: Drop> From<AllocFailed<T>> for Refusal {
     ghost from_gives = { λ _ e. e ≡ Memory };
 
     fn from(_: AllocFailed<T>) -> Refusal {
-        Refusal::Memory
+        Refusal::from(AllocError)
     }
 }
