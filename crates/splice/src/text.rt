@@ -1,0 +1,134 @@
+//! A text that edits are applied to.
+ghost use Rattle.std.specs.Prelude.{◌≡◌, ◌↔◌, [], Some, None, IfOk, OnOk, OnErr, IfErr, Err, length, ◌==◌};
+ghost use Rattle.std.specs.Str.{chars};
+ghost use Rattle.opid.specs.declared.refusal.Refusal.TheVariants.{BadPlace, Memory};
+ghost use Rattle.opid.specs.Splice.{apply};
+ghost use Rattle.splice.specs.Causes.{MayRefuse};
+
+use opid::{Edit, Refusal};
+use std::alloc::Global;
+use std::marker::Model;
+
+/// A text, seen as the list of its characters (Unicode scalar values). Places count characters.
+#[derive(Debug, Drop)]
+pub struct Text {
+    characters: Vec<char>,
+}
+
+impl Model for Text {
+    ghost use Rattle.std.specs.Prelude.{ℕ, List};
+
+    ghost Value = { List ℕ };
+
+    ghost view = { λ t. t.characters.items };
+}
+
+impl Text {
+    /// The empty text. Takes no memory.
+    pub fn new(alloc: Global) -> Text
+        ensures { result ≡ [] }
+    {
+        Text {
+            characters: Vec::new(alloc),
+        }
+    }
+
+    /// The empty text after one insertion of `start` at 0. Linear in its length. Refused with `Memory` alone.
+    pub fn start(alloc: Global, start: &str) -> Result<Text, Refusal>
+        ensures ok { IfOk result (λ t. t ≡ chars start.now) }
+        ensures err { IfErr result (λ e. e ≡ Memory) }
+    {
+        let characters = start.chars().collect(alloc)?;
+        Ok(Text { characters })
+    }
+
+    /// How many characters there are. Constant time.
+    pub fn len(&self) -> usize
+        ensures { result ≡ length self.now }
+    {
+        self.characters.len()
+    }
+
+    /// Whether there are none. Constant time.
+    pub fn is_empty(&self) -> bool
+        ensures { result ≡ (length self.now == 0) }
+    {
+        self.characters.is_empty()
+    }
+
+    /// The characters. Constant time.
+    pub fn characters(&self) -> &[char]
+        ensures { result.now ≡ self.now }
+    {
+        &self.characters
+    }
+
+    /// Splices the text by one edit; linear in the number of characters behind its place. Refused with `BadPlace`
+    /// exactly where an insertion's place is above the length, or a deletion's isn't below it, and with `Memory`
+    /// where an insertion finds none. A refused edit changes nothing.
+    pub fn apply(&mut self, edit: &Edit) -> Result<(), Refusal>
+        ensures ok { OnOk result (apply self.old edit.now ≡ Some self.new) }
+        ensures outside { (result ≡ Err BadPlace) ↔ (apply self.old edit.now ≡ None) }
+        ensures err { OnErr result (self.new ≡ self.old) }
+        ensures cause { IfErr result (MayRefuse edit.now) }
+    {
+        match *edit {
+            Edit::Ins(place, character) => {
+                if place > self.characters.len() {
+                    return Err(Refusal::BadPlace);
+                }
+                self.characters.insert(place, character)?;
+                Ok(())
+            }
+            Edit::Del(place) => {
+                if place >= self.characters.len() {
+                    return Err(Refusal::BadPlace);
+                }
+                self.characters.remove(place);
+                Ok(())
+            }
+            Edit::Nop => Ok(()),
+        }
+    }
+}
+
+#[cfg(test)]
+mod tests {
+    use super::*;
+    use std::test::Fail;
+
+    fn is(text: &Text, characters: &[char]) -> bool {
+        text.characters() == characters
+    }
+
+    #[test]
+    fn splices(rt: HostRuntime) -> Result<(), Fail> {
+        let mut text = Text::start(rt.alloc(), "abc")?;
+        text.apply(&Edit::Del(1))?;
+        text.apply(&Edit::Ins(1, 'X'))?;
+        text.apply(&Edit::Nop)?;
+        assert!(rt; is(&text, &['a', 'X', 'c']));
+        text.apply(&Edit::Ins(3, '\u{1F600}'))?;
+        assert_eq!(rt; text.len(), 4);
+        assert!(rt; !text.is_empty());
+        Ok(())
+    }
+
+    #[test]
+    fn starts_empty(rt: HostRuntime) -> Result<(), Fail> {
+        let mut text = Text::new(rt.alloc());
+        assert!(rt; text.is_empty());
+        text.apply(&Edit::Ins(0, 'a'))?;
+        assert!(rt; is(&text, &['a']));
+        Ok(())
+    }
+
+    #[test]
+    fn refuses_what_lies_outside(rt: HostRuntime) -> Result<(), Fail> {
+        let mut text = Text::start(rt.alloc(), "ab")?;
+        assert_eq!(rt; text.apply(&Edit::Ins(3, 'c')), Err(Refusal::BadPlace));
+        assert_eq!(rt; text.apply(&Edit::Del(2)), Err(Refusal::BadPlace));
+        assert!(rt; is(&text, &['a', 'b']));
+        Ok(())
+    }
+}
