@@ -41,7 +41,7 @@ has_element-sum n (x ∷ xs) s b h = elim (or_cases _ _ (sym (list_any-append (�
     here (Del d) q = cc
 
 -- a site's next operation may follow, if what it does is allowed
-next_may_follow : (log : List Operation) (site : ℕ) (k : OpKind) → IsLawful log → site < 32 → IsAllowed log (stamp_at site (raised (clock_of log) site)) k
+pub next_may_follow : (log : List Operation) (site : ℕ) (k : OpKind) → IsLawful log → site < 32 → IsAllowed log (stamp_at site (raised (clock_of log) site)) k
     → MayFollow log (op_at site (raised (clock_of log) site) k)
 next_may_follow log site k l b a =
     let inside : site < length (clock_of log) = omega (arith, b, length-clock_of log) in
@@ -57,10 +57,10 @@ next_may_follow log site k l b a =
 pub smaller : (p : Stamp) (n i : ℕ) → p.sum < n → is_before p (record { sum = n; site = i }) ≡ true
 smaller p n i h = grind (arith, nat_tests)
 
-next_sum : (log : List Operation) (site : ℕ) → IsLawful log → site < 32 → sum (raised (clock_of log) site) ≡ length log + 1
+pub next_sum : (log : List Operation) (site : ℕ) → IsLawful log → site < 32 → sum (raised (clock_of log) site) ≡ length log + 1
 next_sum log site l b = sum-raised (clock_of log) site (omega (arith, b, length-clock_of log)) ∙ ap (λ n. n + 1) (sum-clock_of log l)
 
-before_next : (log : List Operation) (site : ℕ) (p : Stamp) → IsLawful log → site < 32 → has_element log p ≡ true → is_before p (stamp_at site (raised (clock_of log) site)) ≡ true
+pub before_next : (log : List Operation) (site : ℕ) (p : Stamp) → IsLawful log → site < 32 → has_element log p ≡ true → is_before p (stamp_at site (raised (clock_of log) site)) ≡ true
 before_next log site p l b h =
     let within : p.sum ≤ length log = has_element-sum (length log) log p (sums_within log l) h in
     let next : sum (raised (clock_of log) site) ≡ length log + 1 = next_sum log site l b in
@@ -156,7 +156,7 @@ parent_at-has_version log v k l = go (k == 0) (slice_get (visible_at log v) (k -
     go false None h = tt
     go false (Some x) h = Each-some (λ y. has_element (take v log) y.stamp ≡ true) (visible_at log v) (k - 1) x (version_elements log v l) h
 
-HasParent-take : (log : List Operation) (v : ℕ) (o : Option Stamp) → HasParent (insertions (take v log)) o → HasParent (insertions log) o
+pub HasParent-take : (log : List Operation) (v : ℕ) (o : Option Stamp) → HasParent (insertions (take v log)) o → HasParent (insertions log) o
 HasParent-take log v None h = tt
 HasParent-take log v (Some p) h = has_element-take log v p h
 

@@ -1,0 +1,87 @@
+//! Operations: what a site did, with the clock that tells what it knew (Roh and others 2011).
+ghost use Rattle.std.specs.Prelude.{◌≡◌, ◌↔◌, ◌<◌, IsOk, IfOk, IfErr};
+ghost use Rattle.opid.specs.declared.refusal.Refusal.TheVariants.{BadClock};
+ghost use Rattle.opid.specs.Clocks.{entry};
+ghost use Rattle.opid.specs.Operations.{stamp_of, number_of};
+ghost use Rattle.causal_clock.specs.Kinds.{IsOperation};
+
+use crate::clock::Clock;
+use opid::{OpKind, Refusal, Site, Stamp};
+use std::marker::Model;
+
+/// An operation of a site. Its clock counts it: the own entry is at least 1.
+#[derive(Clone, Copy, Debug, PartialEq, Eq)]
+pub struct Op {
+    site: Site,
+    clock: Clock,
+    kind: OpKind,
+}
+
+impl Model for Op {
+    ghost use Rattle.opid.specs.Operations.{Operation};
+    ghost use Rattle.causal_clock.specs.Kinds.{IsOperation};
+
+    ghost Value = { Operation };
+
+    ghost view = { λ o. record { site = o.site; clock = o.clock; kind = o.kind } };
+
+    ghost invariant = { λ o. IsOperation (record { site = o.site; clock = o.clock; kind = o.kind }) };
+
+    ghost inverse = { λ x. record { site = x.site; clock = x.clock; kind = x.kind } };
+}
+
+impl Op {
+    /// An operation of the site with this clock. Refused with `BadClock` exactly where the clock doesn't count it.
+    pub fn new(site: Site, clock: Clock, kind: OpKind) -> Result<Op, Refusal>
+        ensures value { IfOk result (λ op. op ≡ record { site = site; clock = clock; kind = kind }) }
+        ensures accepted { IsOk result ↔ (0 < entry clock site) }
+        ensures cause { IfErr result (λ e. e ≡ BadClock) }
+    {
+        let known = &clock;
+        if known.entry(site) == 0 {
+            return Err(Refusal::BadClock);
+        }
+        Ok(Op { site, clock, kind })
+    }
+
+    /// The site that made it.
+    pub fn site(&self) -> Site
+        ensures value { result ≡ self.now.site }
+        ensures kept { IsOperation self.now }
+    {
+        self.site
+    }
+
+    /// Its clock: the operations that its site knew, and itself.
+    pub fn clock(&self) -> Clock
+        ensures value { result ≡ self.now.clock }
+        ensures kept { IsOperation self.now }
+    {
+        self.clock
+    }
+
+    /// What it does to the document.
+    pub fn kind(&self) -> OpKind
+        ensures { result ≡ self.now.kind }
+    {
+        self.kind
+    }
+
+    /// Its stamp: the sum of its clock, and its site.
+    pub fn stamp(&self) -> Stamp
+        ensures { result ≡ stamp_of self.now }
+    {
+        Stamp {
+            sum: self.clock.sum(),
+            site: self.site,
+        }
+    }
+
+    /// Its number: its site, and how many operations that site has made with it.
+    pub fn number(&self) -> (Site, u32)
+        ensures value { result ≡ number_of self.now }
+        ensures counted { 0 < result.1 }
+    {
+        (self.site, self.clock.entry(self.site))
+    }
+}

@@ -1,0 +1,10 @@
+pub mod Identifiers
+pub mod Linked
+pub mod Ordered
+pub mod Refused
+pub mod Reserved
+pub mod Put
+pub mod Integrated
+pub mod Shown
+pub mod Deleted
+pub mod Own

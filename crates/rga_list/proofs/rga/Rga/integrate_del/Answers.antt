@@ -1,0 +1,46 @@
+use Rattle.std.proofs.Common.{◌≡◌, ◌∙◌, ◌<◌, ℕ, true, List, Some, refl, ap, subst, sym, set, length, arith}
+use mathlib.Core.Path.{ap₂}
+use Rattle.rga_list.specs.declared.links.Node.{Node}
+use Rattle.rga_list.specs.Entries.{Contents, Entry, elem_of, has_stamp, hidden, is_shown}
+use Rattle.rga_list.specs.Links.{entries_of, IsList}
+use Rattle.rga_list.proofs.Ordered.{has_stamp-some, has_stamp-none}
+use Rattle.rga_list.proofs.Deleted.{off, target-within, deleted}
+use Rattle.rga_list.proofs.Shown.{listed-deletion}
+use Rattle.rga_list.proofs.rga.Rga.integrate_del.Goals as goal
+
+-- what holds once the element is hidden
+after : (c : goal.After-self-1) → IsList (set c.self.inside.nodes.items c.in-Some.elem (off c.index_mut-node.result.now)) c.self.inside.first c.self.inside.tables
+    × (entries_of (set c.self.inside.nodes.items c.in-Some.elem (off c.index_mut-node.result.now)) c.self.inside.first ≡ hidden c.args.target c.args.self.now.entries)
+    × (c.index_mut-node.result.now.shown ≡ is_shown c.args.target c.args.self.now.entries)
+after c =
+    deleted c.self.inside.nodes.items c.self.inside.first c.self.inside.tables c.args.target c.in-Some.elem c.index_mut-node.result.now c.args.self.now.entries
+    c.self.invariant.0 (ap (λ (r : Contents). r.entries) c.self.view_is) (sym c.elem_of.ensures.value ∙ c.in-Some.is) c.index_mut-node.ensures.value
+
+pub index_mut-node-requires : goal.index_mut-node-requires
+index_mut-node-requires c =
+    let within : c.in-Some.elem < length c.self.inside.nodes.items =
+    target-within c.self.inside.nodes.items c.self.inside.first c.self.inside.tables c.args.target c.in-Some.elem c.args.self.now.entries
+    c.self.invariant.0 (ap (λ (r : Contents). r.entries) c.self.view_is) (sym c.elem_of.ensures.value ∙ c.in-Some.is) in
+    omega arith
+
+pub invariant_of-self : goal.invariant_of-self
+invariant_of-self c = ((after c).0, c.self.invariant.1)
+
+pub returns-in-None-clause-cause : goal.returns-in-None-clause-cause
+returns-in-None-clause-cause c = (refl, has_stamp-none c.args.target c.args.self.now.entries (sym c.elem_of.ensures.value ∙ c.in-None.is))
+
+pub returns-in-Some-clause-list : goal.returns-in-Some-clause-list
+returns-in-Some-clause-list c =
+    ap₂ (λ (e : List Entry) (n : ℕ). let r : Contents = record { entries = e; room = n } in r) (after c).1 (ap (λ (r : Contents). r.room) c.self.view_is)
+
+pub returns-in-Some-clause-shown : goal.returns-in-Some-clause-shown
+returns-in-Some-clause-shown c = (after c).2
+
+pub returns-in-Some-clause-shows : goal.returns-in-Some-clause-shows
+returns-in-Some-clause-shows c ops x sound kind is =
+    let there : has_stamp c.args.self.now.entries c.args.target ≡ true = has_stamp-some c.args.target c.args.self.now.entries c.in-Some.elem (sym c.elem_of.ensures.value ∙ c.in-Some.is) in
+    let list = listed-deletion ops x c.args.target sound kind (subst (λ v. has_stamp v c.args.target ≡ true) is there) in
+    (list.0, (after c).1 ∙ ap (hidden c.args.target) is ∙ list.1)
+
+pub returns-in-Some-clause-ok : goal.returns-in-Some-clause-ok
+returns-in-Some-clause-ok c = has_stamp-some c.args.target c.args.self.now.entries c.in-Some.elem (sym c.elem_of.ensures.value ∙ c.in-Some.is)

@@ -1,0 +1,6 @@
+pub mod Found
+pub mod Inserting
+pub mod Histories
+pub mod Accepted
+pub mod Ways
+pub mod Documents

@@ -1,0 +1,5 @@
+pub mod Sessions
+pub mod Machine
+pub mod History
+pub mod Parts
+pub mod Kept

@@ -1,0 +1,236 @@
+//! The room as a sequential machine: its document and its sessions, without its history.
+ghost use Rattle.std.specs.Prelude.{◌≡◌, ◌+◌, ◌<◌, ◌≤◌, ◌==◌, ◌++◌, [], ◌∷◌, MatchOption, Some, None, IfOk, OnOk, OnErr, length, List};
+ghost use Rattle.opid.specs.Lawful.{IsLawful};
+ghost use Rattle.room.specs.declared.call.Call.TheVariants.{Join, Ins, Read};
+ghost use Rattle.room.specs.Machine.{check_submission};
+ghost use Rattle.room.specs.Parts.{IsPlaceOf, IsNoPlaceOf, Inserts};
+
+use crate::call::Call;
+use crate::characters::Characters;
+use crate::document::Document;
+use crate::finding::Finding;
+use crate::reply::Reply;
+use crate::session::Session;
+use opid::{Refusal, Site};
+use std::alloc::{AllocError, Global};
+use std::marker::Model;
+
+/// At most so many sessions are there at one time.
+const MAX_SESSIONS: usize = 64;
+
+/// At most so many calls are recorded.
+const MAX_CALLS: u32 = 1_048_576;
+
+/// At most so many characters are put in by one call.
+const MAX_TEXT: usize = 64;
+
+/// Where the session with this number stands.
+fn place_of(sessions: &[Session], number: u32) -> Option<usize>
+    ensures { MatchOption result (IsNoPlaceOf number sessions.now) (IsPlaceOf number sessions.now) }
+{
+    for (i, session) in sessions.iter().enumerate() {
+        if session.number == number {
+            return Some(i);
+        }
+    }
+    None
+}
+
+/// The checks of a submission that need no document, in their order: its number, its version, its text.
+fn check_of(session: Session, n: u32, v: u32, x: &Characters) -> Finding
+    ensures { result ≡ check_submission session n v x.now }
+{
+    if n == session.last && n > 0 {
+        return Finding::Repeated(session.start, session.end);
+    }
+    if n == 0 || n - 1 != session.last {
+        return Finding::Refused(Refusal::BadNumber);
+    }
+    if v < session.first || v > session.sent {
+        return Finding::Refused(Refusal::BadVersion);
+    }
+    let length = x.len();
+    if length == 0 || length > MAX_TEXT {
+        return Finding::Refused(Refusal::BadText);
+    }
+    Finding::Accepted
+}
+
+/// Puts `x` in at place `k` of version `v`, as submission `n` of session `s` of this site.
+#[allow(clippy::too_many_arguments)]
+fn insert_for(
+    alloc: Global,
+    document: &mut Document,
+    sessions: &mut [Session],
+    site: Site,
+    s: u32,
+    n: u32,
+    v: u32,
+    k: u32,
+    x: &Characters,
+) -> Result<Reply, AllocError>
+    ensures answered { IfOk result (λ reply. Inserts site document.old sessions.old (Ins s n v k x.now) reply document.new sessions.new) }
+    ensures err_document { OnErr result (document.new ≡ document.old) }
+    ensures err_sessions { OnErr result (sessions.new ≡ sessions.old) }
+{
+    let Some(place) = place_of(sessions, s) else {
+        return Ok(Reply::No(Refusal::NoSession));
+    };
+    let session = sessions[place];
+    match check_of(session, n, v, x) {
+        Finding::Refused(e) => return Ok(Reply::No(e)),
+        Finding::Repeated(from, to) => return Ok(Reply::Ok { from, to }),
+        Finding::Accepted => {}
+    }
+    let from = document.len();
+    match document.insert_at(alloc, site, v, k, x)? {
+        Some(e) => return Ok(Reply::No(e)),
+        None => {}
+    }
+    let to = document.len();
+    sessions[place] = Session {
+        last: n,
+        start: from,
+        end: to,
+        ..session
+    };
+    Ok(Reply::Ok { from, to })
+}
+
+/// A site's document, its sessions in order of joining, the number of the next one, and how many calls count.
+#[derive(Drop)]
+pub(crate) struct Machine {
+    alloc: Global,
+    site: Site,
+    document: Document,
+    sessions: Vec<Session>,
+    next_number: u32,
+    count: u32,
+}
+
+impl Model for Machine {
+    ghost use Rattle.std.specs.Prelude.{◌+◌, ◌≤◌};
+    ghost use Rattle.room.specs.Machine.{State};
+
+    ghost Value = { State };
+
+    ghost view = { λ m. record { site = m.site; log = m.document; sessions = m.sessions.items; next_number = m.next_number; count = m.count } };
+
+    ghost invariant = { λ m. (m.count ≤ 1048576) × (m.next_number ≤ m.count + 1) };
+}
+
+impl Machine {
+    ghost use Rattle.room.specs.declared.call.Call.{Call};
+    ghost use Rattle.room.specs.History.{PlacesInsertion};
+    ghost use Rattle.room.specs.Machine.{State, empty_room, may_record, answer, next};
+
+    /// The machine of a site with an empty document. Takes no memory.
+    pub(crate) fn new(alloc: Global, site: Site) -> Machine
+        ensures { result ≡ empty_room site }
+    {
+        Machine {
+            alloc,
+            site,
+            document: Document::new(alloc),
+            sessions: Vec::new(alloc),
+            next_number: 1,
+            count: 0,
+        }
+    }
+
+    /// Whether a further call is recorded.
+    #[tactic(auto, using(crate::proofs::Accepted::accepted_is_placed))]
+    pub(crate) fn may_record(&self) -> bool
+        ensures value { result ≡ may_record self.now }
+        ensures within { self.now.count ≤ 1048576 }
+        ensures lawful { IsLawful self.now.log }
+        ensures site { self.now.site < 32 }
+        ensures placed { (c : Call) → PlacesInsertion self.now c }
+    {
+        let _ = self.document.len();
+        let _ = self.site.number();
+        self.count < MAX_CALLS
+    }
+
+    /// Answers a call, and counts it if it is recorded. An error is for want of memory.
+    pub(crate) fn answer(&mut self, call: &Call) -> Result<Reply, AllocError>
+        ensures reply { IfOk result (λ reply. reply ≡ answer self.old call.now) }
+        ensures next { OnOk result (self.new ≡ next self.old call.now) }
+        ensures err { OnErr result (self.new ≡ self.old) }
+    {
+        if self.count >= MAX_CALLS {
+            return Ok(Reply::No(Refusal::HistoryFull));
+        }
+        match call {
+            Call::Join => self.join(),
+            Call::Ins { s, n, v, k, x } => self.insert(*s, *n, *v, *k, x),
+            Call::Read => self.read(),
+        }
+    }
+
+    fn join(&mut self) -> Result<Reply, AllocError>
+        requires { self.old.count < MAX_CALLS }
+        ensures reply { IfOk result (λ reply. reply ≡ answer self.old Join) }
+        ensures next { OnOk result (self.new ≡ next self.old Join) }
+        ensures err { OnErr result (self.new ≡ self.old) }
+    {
+        if self.sessions.len() >= MAX_SESSIONS {
+            self.count += 1;
+            return Ok(Reply::No(Refusal::TooManySessions));
+        }
+        let s = self.next_number;
+        let v = self.document.len();
+        let x = self.document.reading(self.alloc)?;
+        self.sessions.push(Session {
+            number: s,
+            first: v,
+            sent: v,
+            last: 0,
+            start: 0,
+            end: 0,
+        })?;
+        self.next_number += 1;
+        self.count += 1;
+        Ok(Reply::Joined { s, v, x })
+    }
+
+    fn insert(
+        &mut self,
+        s: u32,
+        n: u32,
+        v: u32,
+        k: u32,
+        x: &Characters,
+    ) -> Result<Reply, AllocError>
+        requires { self.old.count < MAX_CALLS }
+        ensures reply { IfOk result (λ reply. reply ≡ answer self.old (Ins s n v k x.now)) }
+        ensures next { OnOk result (self.new ≡ next self.old (Ins s n v k x.now)) }
+        ensures err { OnErr result (self.new ≡ self.old) }
+    {
+        let reply = insert_for(
+            self.alloc,
+            &mut self.document,
+            &mut self.sessions,
+            self.site,
+            s,
+            n,
+            v,
+            k,
+            x,
+        )?;
+        self.count += 1;
+        Ok(reply)
+    }
+
+    fn read(&mut self) -> Result<Reply, AllocError>
+        requires { self.old.count < MAX_CALLS }
+        ensures reply { IfOk result (λ reply. reply ≡ answer self.old Read) }
+        ensures next { OnOk result (self.new ≡ next self.old Read) }
+        ensures err { OnErr result (self.new ≡ self.old) }
+    {
+        let v = self.document.len();
+        let x = self.document.reading(self.alloc)?;
+        self.count += 1;
+        Ok(Reply::Text { v, x })
+    }
+}

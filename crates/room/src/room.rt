@@ -1,0 +1,107 @@
+//! The room: the machine with the history of the calls that it recorded.
+ghost use Rattle.std.specs.Prelude.{◌≡◌, ◌+◌, ◌^◌, ◌<◌, ◌≤◌, [], length, IfOk, OnOk, OnErr, Result};
+ghost use Rattle.opid.specs.Lawful.{IsLawful};
+
+use crate::call::Call;
+use crate::machine::Machine;
+use crate::reply::Reply;
+use crate::reserved::push_reserved;
+use opid::{Refusal, Site};
+use std::alloc::{AllocError, Global};
+use std::marker::Model;
+
+/// One document with its sessions, seen as the state that it was opened with, the calls that it recorded, and its
+/// state now, which is that of these calls one after another.
+#[derive(Drop)]
+pub struct Room {
+    machine: Machine,
+    history: Vec<(u64, Call)>,
+    mark: u64,
+}
+
+impl Model for Room {
+    ghost use Rattle.room.specs.History.{Account};
+
+    ghost Value = { Account };
+
+    ghost use Rattle.room.specs.Machine.{empty_room};
+    ghost use Rattle.room.specs.Kept.{IsRoom};
+
+    ghost view = { λ r. record { opening = empty_room r.machine.site; history = r.history.items; state = r.machine } };
+
+    ghost invariant = { λ r. IsRoom r.machine r.history.items r.mark };
+}
+
+impl Room {
+    ghost use Rattle.room.specs.Machine.{State, empty_room, answer};
+    ghost use Rattle.room.specs.History.{state_of, mark, IsLegal, called, ran, Runs, PlacesInsertion};
+
+    /// The room of a site with an empty document. Takes no memory.
+    pub fn new(alloc: Global, site: Site) -> Room
+        ensures { result ≡ record { opening = empty_room site; history = []; state = empty_room site } }
+    {
+        Room {
+            machine: Machine::new(alloc, site),
+            history: Vec::new(alloc),
+            mark: 0,
+        }
+    }
+
+    /// The recorded calls, each with its ticket. Constant time.
+    pub fn history(&self) -> &[(u64, Call)]
+        ensures value { result.now ≡ self.now.history }
+        ensures legal { IsLegal self.now.history }
+        ensures replays { state_of self.now.opening self.now.history ≡ self.now.state }
+        ensures lawful { IsLawful self.now.state.log }
+    {
+        let _ = self.machine.may_record();
+        &self.history
+    }
+
+    /// The least ticket that may follow: the last recorded one plus one, or 0. Constant time.
+    pub fn mark(&self) -> u64
+        ensures value { result ≡ mark self.now.history }
+        ensures legal { IsLegal self.now.history }
+    {
+        let _ = self.machine.may_record();
+        self.mark
+    }
+
+    /// Answers a call, and records it under its ticket, refused or not; only where 1,048,576 calls are recorded it
+    /// answers `HistoryFull` and records nothing. An error is for want of memory, and changes nothing.
+    pub fn call(&mut self, ticket: u64, call: Call) -> Result<Reply, AllocError>
+        requires least { mark self.old.history ≤ ticket }
+        requires most { ticket < 2 ^ 62 }
+        ensures answered { IfOk result (λ reply. reply ≡ answer self.old.state call) }
+        ensures called { OnOk result (self.new ≡ called self.old ticket call) }
+        ensures err { OnErr result (self.new ≡ self.old) }
+        ensures lawful { IsLawful self.new.state.log }
+        ensures placed { PlacesInsertion self.old.state call }
+    {
+        if !self.machine.may_record() {
+            return Ok(Reply::No(Refusal::HistoryFull));
+        }
+        self.history.reserve(1)?;
+        let reply = self.machine.answer(&call)?;
+        let _ = self.machine.may_record();
+        self.mark = ticket + 1;
+        push_reserved(&mut self.history, (ticket, call));
+        Ok(reply)
+    }
+
+    /// Answers calls one after another, under tickets from `mark()` on. After an error, which is for want of memory,
+    /// the replies are those of a beginning of the calls, and the room is where these leave it.
+    pub fn run(&mut self, calls: &[Call], replies: &mut Vec<Reply>) -> Result<(), AllocError>
+        requires { mark self.old.history ≤ 2 ^ 61 }
+        ensures { Runs self.old calls.now replies.old.items result replies.new.items self.new }
+    {
+        for call in calls {
+            replies.reserve(1)?;
+            let copy = call.clone()?;
+            let ticket = self.mark();
+            let reply = self.call(ticket, copy)?;
+            push_reserved(replies, reply);
+        }
+        Ok(())
+    }
+}
