@@ -1,7 +1,7 @@
 -- What holds of the list after a deletion: the links stay, and the element with the stamp is hidden.
-use Rattle.std.proofs.Common.{◌≡◌, ◌≢◌, ℕ, zero, suc, ◌<◌, ◌≤◌, ◌⊎◌, inl, inr, Bool, true, false, cond, ◌||◌, ◌&&◌, Option, Some, None, List, [], ◌∷◌, map, length, get_or, set, refl, ap, ◌∙◌, sym, subst, arith, length-set, get_or-set_other, get_or-set_same}
+use Rattle.std.proofs.Common.{◌≡◌, ℕ, zero, suc, ◌<◌, ◌⊎◌, inl, inr, Bool, true, false, ◌||◌, ◌&&◌, Option, Some, None, List, [], ◌∷◌, map, length, get_or, set, refl, ap, ◌∙◌, sym, subst, arith, length-set, get_or-set_other, get_or-set_same}
 use mathlib.Core.Path.{ap₂}
-use Rattle.std.specs.List.{AllByRecursion as Each, list_any}
+use Rattle.std.specs.List.{AllByRecursion as Each}
 use Rattle.std.proofs.lemmas.Bool.{cases_eq, cond-true, cond-false, false_from_ne_true, or_left, or_right}
 use Rattle.opid.specs.declared.stamp.Stamp.{Stamp}
 use Rattle.opid.specs.Stamps.{is_same}
@@ -9,7 +9,7 @@ use Rattle.opid.proofs.Order.{is_same-eq, is_same-refl}
 use Rattle.rga_list.specs.declared.links.Node.{Node}
 use Rattle.rga_list.specs.Entries.{Entry, elem_of, hide, hidden, is_shown}
 use Rattle.rga_list.specs.Rows.{Row}
-use Rattle.rga_list.specs.Links.{blank, node_at, chain, order_of, entry_at, entries_of, Leads, AreOnce, IsOneOf, IsLinked, AreApart, named, AreNamed, IsList}
+use Rattle.rga_list.specs.Links.{blank, node_at, chain, order_of, entry_at, entries_of, Leads, AreOnce, IsOneOf, IsLinked, named, AreNamed, IsList}
 use Rattle.rga_list.proofs.Linked.{Leads-kept}
 use Rattle.rga_list.proofs.Ordered.{order-within, elem_of-found, node_same}
 

@@ -1,5 +1,5 @@
 -- What holds of the list after an insertion.
-use Rattle.std.proofs.Common.{◌≡◌, ◌≢◌, ℕ, zero, suc, ◌+◌, ◌-◌, ◌<◌, ◌≤◌, ◌⊎◌, inl, inr, Bool, true, false, cond, eqb, eqb-true, eq-eqb, Option, Some, None, List, [], ◌∷◌, ◌++◌, map, length, get_or, set, refl, ap, ◌∙◌, sym, subst, arith, IfSome, length-append, length-set, get_or-set_other, get_or-set_same}
+use Rattle.std.proofs.Common.{◌≡◌, ◌≢◌, ℕ, ◌+◌, ◌<◌, ◌≤◌, ◌⊎◌, inl, inr, Bool, true, false, cond, eqb, eqb-true, eq-eqb, Option, Some, None, List, [], ◌∷◌, ◌++◌, map, length, get_or, set, refl, ap, ◌∙◌, sym, subst, arith, IfSome, length-append, length-set, get_or-set_other, get_or-set_same}
 use mathlib.Core.Path.{ap₂}
 use Rattle.std.specs.Prelude.{option_and_then}
 use Rattle.std.specs.List.{AllByRecursion as Each}
@@ -7,12 +7,12 @@ use Rattle.std.proofs.lemmas.Bool.{cases_eq, cases_lt, cond-true, cond-false, fa
 use Rattle.std.proofs.Math.Seq.{get_or-append_seam}
 use Rattle.std.proofs.lemmas.List.{get_or_append_left}
 use Rattle.opid.specs.declared.stamp.Stamp.{Stamp}
-use Rattle.opid.specs.Stamps.{is_before, is_same}
+use Rattle.opid.specs.Stamps.{is_same}
 use Rattle.opid.proofs.Order.{is_same-refl}
 use Rattle.rga_list.specs.declared.links.Node.{Node}
 use Rattle.rga_list.specs.Entries.{Entry, has_stamp, elem_of, placed, elem_before, IsAboveItsSite, parent_refusal}
 use Rattle.rga_list.specs.Rows.{Row, find_id}
-use Rattle.rga_list.specs.Links.{blank, node_at, order_of, entry_at, entries_of, Leads, IsLinked, AreApart, row_at, named, AreNamed, IsList, following, Ends, Walked, last_of, put_in, first_then}
+use Rattle.rga_list.specs.Links.{blank, node_at, order_of, entry_at, entries_of, IsLinked, AreApart, row_at, named, AreNamed, IsList, following, Ends, Walked, last_of, put_in, first_then}
 use Rattle.rga_list.proofs.Identifiers.{find_id-kept, find_id-push}
 use Rattle.rga_list.proofs.Linked.{Leads-within}
 use Rattle.rga_list.proofs.Ordered.{row_same, length-entries, elem_of-found, elem_of-lacks, has_stamp-above, has_stamp-none, named-elem_of}

@@ -1,15 +1,15 @@
 -- What is read along the linked order: elements by stamp and by number, and the one after each.
-use Rattle.std.proofs.Common.{◌≡◌, ◌≢◌, ℕ, zero, suc, ◌+◌, ◌<◌, ◌≤◌, ◌⊎◌, inl, inr, Bool, true, false, cond, ◌||◌, eqb, eqb-true, eq-eqb, Option, Some, None, List, [], ◌∷◌, ◌++◌, map, length, refl, ap, ◌∙◌, sym, subst, arith, get_or, IfSome}
+use Rattle.std.proofs.Common.{◌≡◌, ◌≢◌, ℕ, suc, ◌<◌, ◌≤◌, ◌⊎◌, inl, inr, Bool, true, false, cond, ◌||◌, eqb, eqb-true, eq-eqb, Option, Some, None, List, [], ◌∷◌, map, length, refl, ap, ◌∙◌, sym, subst, arith, get_or, IfSome}
 use Rattle.std.specs.List.{AllByRecursion as Each}
-use Rattle.std.proofs.lemmas.Bool.{cases_eq, cond-true, cond-false, false_from_ne_true, both_ways, or_left, or_right}
+use Rattle.std.proofs.lemmas.Bool.{cases_eq, cond-true, cond-false, false_from_ne_true, both_ways}
 use Rattle.std.proofs.lemmas.List.{get_or_default}
 use Rattle.opid.specs.declared.stamp.Stamp.{Stamp}
-use Rattle.opid.specs.Stamps.{is_before, is_same}
+use Rattle.opid.specs.Stamps.{is_same}
 use Rattle.opid.proofs.Order.{is_same-eq, is_same-refl}
 use Rattle.rga_list.specs.declared.links.Node.{Node}
 use Rattle.rga_list.specs.Entries.{Entry, has_stamp, elem_of, entry_of, first_of, elem_after, next_of, IsAboveItsSite, IsGreatestOf}
 use Rattle.rga_list.specs.Rows.{Row, find_id, IsGreatest}
-use Rattle.rga_list.specs.Links.{blank, node_at, order_of, entry_at, entries_of, Leads, AreOnce, IsOneOf, IsLinked, AreApart, row_at, named, AreNamed, IsList, following}
+use Rattle.rga_list.specs.Links.{blank, node_at, order_of, entry_at, entries_of, Leads, IsOneOf, IsLinked, row_at, named, AreNamed, IsList}
 use Rattle.rga_list.proofs.Identifiers.{Each-found, found-Each}
 use Rattle.rga_list.proofs.Linked.{Leads-within}
 

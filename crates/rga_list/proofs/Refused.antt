@@ -1,12 +1,10 @@
 -- Why an insertion is refused.
-use Rattle.std.proofs.Common.{◌≡◌, ℕ, Bool, true, false, cond, not, Option, Some, None, List, refl, ap, ◌∙◌, sym, length}
+use Rattle.std.proofs.Common.{◌≡◌, Bool, true, false, cond, not, Some, None, List, refl, ap, ◌∙◌}
 use Rattle.std.proofs.lemmas.Bool.{cond-true, cond-false}
-use Rattle.std.specs.Prelude.{nat_le, option_and_then}
 use Rattle.opid.specs.declared.stamp.Stamp.{Stamp}
-use Rattle.opid.specs.declared.refusal.Refusal.{Refusal}
-use Rattle.opid.specs.declared.refusal.Refusal.TheVariants.{Full, UnknownElement, NotOlder}
+use Rattle.opid.specs.declared.refusal.Refusal.TheVariants.{UnknownElement, NotOlder}
 use Rattle.opid.specs.Stamps.{is_before}
-use Rattle.rga_list.specs.Entries.{Entry, has_stamp, elem_of, parent_refusal, refusal_of}
+use Rattle.rga_list.specs.Entries.{Entry, has_stamp, parent_refusal}
 
 pub parent_refusal-unknown : (entries : List Entry) (p s : Stamp) → has_stamp entries p ≡ false → parent_refusal entries (Some p) s ≡ Some UnknownElement
 parent_refusal-unknown entries p s h = cond-true _ _ _ (ap not h)

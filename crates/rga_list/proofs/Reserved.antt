@@ -1,9 +1,9 @@
 -- What a reserve and a new list leave of the tables.
-use Rattle.std.proofs.Common.{◌≡◌, ℕ, zero, suc, ◌+◌, ◌-◌, ◌<◌, ◌≤◌, ◌⊎◌, inl, inr, Option, Some, None, List, [], ◌∷◌, length, get_or, set, refl, ap, ◌∙◌, sym, subst, arith, length-set, get_or-set_other, get_or-set_same, max}
+use Rattle.std.proofs.Common.{◌≡◌, ℕ, ◌-◌, ◌<◌, ◌≤◌, ◌⊎◌, inl, inr, Option, Some, None, List, [], length, set, refl, ap, ◌∙◌, sym, arith, get_or-set_other, get_or-set_same}
 use Rattle.std.proofs.lemmas.Bool.{cases_eq}
 use Rattle.rga_list.specs.declared.links.Node.{Node}
 use Rattle.rga_list.specs.Rows.{Row, find_id}
-use Rattle.rga_list.specs.Links.{row_at, named, AreNamed, IsLinked, IsList, AreReserved}
+use Rattle.rga_list.specs.Links.{row_at, AreNamed, IsList}
 
 pub set-keeps : {X : Type 0} (f : Row → X) (rows : List Row) (i k : ℕ) (r : Row) → i < length rows → f r ≡ f (row_at rows i) → f (row_at (set rows i r) k) ≡ f (row_at rows k)
 set-keeps {X} f rows i k r l e = go (cases_eq k i)

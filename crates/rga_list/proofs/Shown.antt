@@ -1,21 +1,20 @@
 -- What the list shows after one more operation.
-use Rattle.std.proofs.Common.{◌≡◌, ℕ, zero, suc, ◌+◌, Bool, true, false, cond, not, ◌||◌, Option, Some, None, List, [], ◌∷◌, ◌++◌, map, length, refl, ap, ◌∙◌, sym, subst, arith}
+use Rattle.std.proofs.Common.{◌≡◌, ℕ, suc, ◌+◌, Bool, true, false, cond, not, ◌||◌, Option, Some, None, List, [], ◌∷◌, ◌++◌, map, length, refl, ap, ◌∙◌, sym, subst, arith}
 use mathlib.Core.Path.{ap₂}
 use Rattle.std.specs.List.{AllByRecursion as Each, list_any}
 use Rattle.std.proofs.lemmas.Bool.{cond-true, cond-false, or_left, or_right, or_parts}
 use Rattle.std.proofs.lemmas.List.Sorted.{length_permutation}
 use Rattle.opid.specs.declared.stamp.Stamp.{Stamp}
-use Rattle.opid.specs.declared.kind.OpKind.{OpKind}
 use Rattle.opid.specs.declared.kind.OpKind.TheVariants.{Ins, Del}
 use Rattle.opid.specs.Stamps.{is_before, is_same}
 use Rattle.opid.specs.Operations.{Operation, Insertion, stamp_at, stamp_of, insertions, has_element, is_deleted}
 use Rattle.opid.specs.Tree.{all}
 use Rattle.opid.specs.Edits.{place_of}
 use Rattle.opid.specs.Lawful.{IsAllowed, IsSound, AreApart}
-use Rattle.opid.proofs.Order.{is_same-eq, is_same-refl, is_same-sym}
+use Rattle.opid.proofs.Order.{is_same-refl, is_same-sym}
 use Rattle.opid.proofs.Walk.{walk, Each-append, Each-weaker, append-nil, stand as stand_among, stand_after as stand_after_among}
 use Rattle.opid.proofs.Sound.{op_at, element_at, insertions-push, is_deleted-push, all-permutation, list_any-all, not_deleted-new, all-insertion, all-deletion, IsAllowed-push, IsSound-push}
-use Rattle.rga_list.specs.Entries.{Entry, stand, stand_after, placed, has_stamp, IsAboveItsSite, parent_refusal, hide, hidden}
+use Rattle.rga_list.specs.Entries.{Entry, stand, stand_after, placed, has_stamp, IsAboveItsSite, parent_refusal, hidden}
 use Rattle.rga_list.specs.Listed.{entry_for, listed}
 use Rattle.rga_list.proofs.Ordered.{has_stamp-above}
 use Rattle.rga_list.proofs.Refused.{accepted}

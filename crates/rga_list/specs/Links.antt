@@ -2,7 +2,7 @@
 use Rattle.std.specs.Prelude.{◌≡◌, ◌≢◌, ◌<◌, ◌≤◌, ◌⊎◌, ℕ, zero, suc, true, false, Option, Some, None, List, [], ◌∷◌, ◌++◌, map, length, slice_index_or, slice_set, ◌+◌}
 use Rattle.std.specs.List.{AllByRecursion}
 use Rattle.opid.specs.declared.stamp.Stamp.{Stamp}
-use Rattle.opid.specs.Stamps.{is_before, is_same}
+use Rattle.opid.specs.Stamps.{is_before}
 use Rattle.rga_list.specs.Entries.{Entry}
 use Rattle.rga_list.specs.Rows.{Row, find_id}
 use Rattle.rga_list.specs.declared.links.Node.{Node}

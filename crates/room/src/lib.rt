@@ -20,3 +20,6 @@ pub use desk::{Desk, DeskFault};
 pub use owned::RoomDesk;
 pub use reply::Reply;
 pub use room::Room;
+
+#[cfg(test)]
+mod tests;

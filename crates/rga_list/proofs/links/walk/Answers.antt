@@ -1,3 +1,4 @@
+-- The walk so far goes on past each greater stamp, and nears the end.
 use Rattle.std.proofs.Common.{◌≡◌, ◌<◌, ◌∙◌, subst, sym, rules, length, true, Some}
 use Rattle.std.proofs.lemmas.List.{get_or_default}
 use Rattle.opid.specs.Stamps.{is_before}

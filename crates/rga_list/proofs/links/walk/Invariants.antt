@@ -1,3 +1,4 @@
+-- What the walk keeps.
 use Rattle.std.proofs.Common.{◌<◌, length, IfSome}
 use Rattle.rga_list.specs.Links.{chain, Walking}
 use Rattle.rga_list.proofs.links.walk.Given as goal

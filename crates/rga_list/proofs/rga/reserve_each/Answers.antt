@@ -1,4 +1,5 @@
-use Rattle.std.proofs.Common.{◌≡◌, ◌∙◌, ℕ, ap, List, refl, ◌<◌, length, rules}
+-- A table whose reserve is refused stays.
+use Rattle.std.proofs.Common.{◌∙◌, ℕ, ap, List, refl, ◌<◌, length, rules}
 use Rattle.rga_list.specs.Rows.{Row}
 use Rattle.rga_list.proofs.Ordered.{row_same}
 use Rattle.rga_list.proofs.Reserved.{set-keeps}

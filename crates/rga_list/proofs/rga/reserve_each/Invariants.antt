@@ -1,3 +1,4 @@
+-- What the loop over the tables keeps.
 use Rattle.std.proofs.Common.{◌≡◌, ℕ, ◌≤◌, ◌<◌}
 use Rattle.rga_list.specs.Links.{row_at}
 use Rattle.rga_list.proofs.rga.reserve_each.Given as goal

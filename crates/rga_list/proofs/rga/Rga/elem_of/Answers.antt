@@ -1,3 +1,4 @@
+-- The table names what is found along the linked order.
 use Rattle.std.proofs.Common.{◌≡◌, ◌∙◌, ◌<◌, ap, arith, get_or, subst, sym, length, IfSome}
 use Rattle.rga_list.specs.Entries.{Contents, elem_of}
 use Rattle.rga_list.specs.Rows.{Row, find_id}

@@ -1,7 +1,7 @@
-use Rattle.std.proofs.Common.{◌≡◌, ◌∙◌, ◌<◌, ℕ, true, List, Some, refl, ap, subst, sym, set, length, arith}
+-- A deletion hides the element that the table names for its stamp.
+use Rattle.std.proofs.Common.{◌≡◌, ◌∙◌, ◌<◌, ℕ, true, List, refl, ap, subst, sym, set, length, arith}
 use mathlib.Core.Path.{ap₂}
-use Rattle.rga_list.specs.declared.links.Node.{Node}
-use Rattle.rga_list.specs.Entries.{Contents, Entry, elem_of, has_stamp, hidden, is_shown}
+use Rattle.rga_list.specs.Entries.{Contents, Entry, has_stamp, hidden, is_shown}
 use Rattle.rga_list.specs.Links.{entries_of, IsList}
 use Rattle.rga_list.proofs.Ordered.{has_stamp-some, has_stamp-none}
 use Rattle.rga_list.proofs.Deleted.{off, target-within, deleted}

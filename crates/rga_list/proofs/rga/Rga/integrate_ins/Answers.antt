@@ -1,4 +1,5 @@
-use Rattle.std.proofs.Common.{◌≡◌, ◌∙◌, ◌<◌, ◌≤◌, ◌-◌, ◌++◌, [], ◌∷◌, ℕ, true, Option, None, List, IfSome, refl, ap, subst, sym, rules, arith, length, vec_len, get_or, set}
+-- An insertion links the element in where the walk stopped.
+use Rattle.std.proofs.Common.{◌≡◌, ◌∙◌, ◌<◌, ◌≤◌, ◌-◌, ℕ, true, None, List, IfSome, refl, ap, subst, sym, rules, arith, length, vec_len, get_or, set}
 use mathlib.Core.Path.{ap₂}
 use Rattle.std.specs.Prelude.{option_and_then}
 use Rattle.std.specs.List.{AllByRecursion as Each}

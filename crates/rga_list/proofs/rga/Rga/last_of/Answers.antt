@@ -1,6 +1,7 @@
-use Rattle.std.proofs.Common.{◌≡◌, ◌≢◌, ◌∙◌, ap, arith, get_or, subst, sym, []}
+-- The greatest of a row is the greatest stamp of its site.
+use Rattle.std.proofs.Common.{◌≡◌, ◌≢◌, ◌∙◌, ap, arith, get_or, subst, sym}
 use Rattle.std.specs.List.{AllByRecursion}
-use Rattle.rga_list.specs.Entries.{Contents, Entry, IsGreatestOf}
+use Rattle.rga_list.specs.Entries.{Contents, IsGreatestOf}
 use Rattle.rga_list.specs.Rows.{Row, IsGreatest}
 use Rattle.rga_list.specs.Links.{row_at}
 use Rattle.rga_list.proofs.Ordered.{greatest, no_greatest, above_greatest, above_none, row_same}

@@ -1,4 +1,5 @@
-use Rattle.std.proofs.Common.{◌≡◌, ◌∙◌, ◌<◌, ◌≤◌, ℕ, [], Some, None, ap, refl, sym, subst, arith, rules, inl, inr, get_or}
+-- What holds of every list holds of the empty one.
+use Rattle.std.proofs.Common.{◌≡◌, ◌<◌, ℕ, [], None, ap, sym, subst, arith, rules, inl, inr}
 use Rattle.std.proofs.lemmas.Bool.{cases_lt}
 use Rattle.std.proofs.lemmas.List.{get_or_past}
 use Rattle.rga_list.specs.Rows.{Row}

@@ -1,4 +1,5 @@
-use Rattle.std.proofs.Common.{◌≡◌, ◌∙◌, ◌<◌, ◌≤◌, ap, arith, sym, Some, None, length, rules, subst, IfSome}
+-- The link of a node is the element after it.
+use Rattle.std.proofs.Common.{◌≡◌, ◌∙◌, ◌<◌, ◌≤◌, ap, sym, length, rules, subst, IfSome}
 use Rattle.rga_list.specs.declared.links.Node.{Node}
 use Rattle.rga_list.specs.Entries.{Contents, next_of, elem_after, first_of}
 use Rattle.rga_list.specs.Links.{order_of, node_at}

@@ -1,3 +1,4 @@
+-- The parent is refused exactly where the definition refuses it.
 use Rattle.std.proofs.Common.{◌≡◌, ◌∙◌, sym, true, false, rules}
 use Rattle.opid.specs.Stamps.{is_before}
 use Rattle.rga_list.proofs.Ordered.{has_stamp-some, has_stamp-none}

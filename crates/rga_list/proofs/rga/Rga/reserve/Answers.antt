@@ -1,4 +1,5 @@
-use Rattle.std.proofs.Common.{◌≡◌, ◌≤◌, ◌<◌, List, subst, sym, arith, length}
+-- A reserve leaves what holds of the list, and the room is there.
+use Rattle.std.proofs.Common.{◌<◌, List, subst, sym, arith, length}
 use Rattle.rga_list.specs.declared.links.Node.{Node}
 use Rattle.rga_list.specs.Links.{IsList}
 use Rattle.rga_list.proofs.Reserved.{IsList-same}

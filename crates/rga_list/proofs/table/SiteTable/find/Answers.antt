@@ -1,3 +1,4 @@
+-- The search by halves finds what is found along the row.
 use Rattle.std.proofs.Common.{◌≡◌, ◌∙◌, ℕ, Some, None, sym, subst, ap, get_or, rules}
 use Rattle.std.proofs.lemmas.List.Sorted.{answers_always}
 use Rattle.rga_list.specs.Rows.{Row, find_id, AreRising}

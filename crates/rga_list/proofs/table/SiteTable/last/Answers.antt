@@ -1,4 +1,5 @@
-use Rattle.std.proofs.Common.{◌≡◌, ◌∙◌, ◌<◌, ℕ, Some, None, sym, subst, ap, get_or, rules, arith, length, ◌-◌}
+-- The last of a row in rising order is the greatest.
+use Rattle.std.proofs.Common.{◌≡◌, ◌∙◌, ◌<◌, sym, subst, ap, get_or, rules, length, ◌-◌}
 use Rattle.rga_list.specs.Rows.{Row, AreRising, IsGreatest}
 use Rattle.rga_list.proofs.Identifiers.{IsGreatest-last}
 use Rattle.rga_list.proofs.table.SiteTable.last.Goals as goal

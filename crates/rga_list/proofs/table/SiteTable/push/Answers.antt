@@ -1,5 +1,6 @@
-use Rattle.std.proofs.Common.{◌≡◌, ◌∙◌, sym, subst, ap, rules, arith}
-use Rattle.std.specs.Prelude.{ℕ, ◌<◌}
+-- The sums of a row still rise with a greater one behind.
+use Rattle.std.proofs.Common.{sym, subst, ap, arith}
+use Rattle.std.specs.Prelude.{◌<◌}
 use Rattle.std.specs.List.{AllByRecursion as Each}
 use Rattle.rga_list.specs.Rows.{Row, AreRising}
 use Rattle.rga_list.proofs.Identifiers.{AreRising-push}

@@ -1,0 +1,83 @@
+//! The program: what its command line asks for, and the engine that serves requests a line at a time over any desk,
+//! reader and writer.
+#![tactic(auto)]
+
+mod command_line;
+mod counted;
+mod engine;
+mod fixed;
+mod plan;
+mod play;
+#[cfg(test)]
+mod tests;
+mod window;
+
+use command_line::plan;
+use counted::Counted;
+use engine::ServeFault;
+use plan::PlanFault;
+use play::{Stop, play};
+use std::env;
+use std::io;
+use std::process::ExitCode;
+
+/// The words are bad.
+const BAD_WORDS: u8 = 2;
+
+// The words of the command line, the program's name first.
+fn words_of(rt: &HostRuntime) -> io::Result<Vec<String>> {
+    let mut words = Vec::new(rt.alloc());
+    for word in env::args(rt)? {
+        words.push(word)?;
+    }
+    Ok(words)
+}
+
+// How a run that stopped is told.
+fn told(stop: Stop) -> &'static str {
+    match stop {
+        Stop::Fault(ServeFault::Read) => "rgatext: fault read",
+        Stop::Fault(ServeFault::Write) => "rgatext: fault write",
+        Stop::Fault(ServeFault::Memory) => "rgatext: fault memory",
+    }
+}
+
+fn main(rt: HostRuntime) -> ExitCode {
+    let alloc = rt.alloc();
+    let words = match words_of(&rt) {
+        Ok(words) => words,
+        Err(e) if e.kind() == io::ErrorKind::OutOfMemory => {
+            let _ = eprintln!(rt; "rgatext: fault memory");
+            return ExitCode::FAILURE;
+        }
+        Err(_) => {
+            let _ = eprintln!(rt; "error: a word of the command line is no UTF-8");
+            return ExitCode::from(BAD_WORDS);
+        }
+    };
+    match plan(alloc, &words) {
+        Ok(plan) => {
+            let mut input = Counted::new(rt.stdin());
+            let mut output = Counted::new(rt.stdout());
+            match play(alloc, &plan, &mut input, &mut output) {
+                Ok(()) => ExitCode::SUCCESS,
+                Err(stop) => {
+                    let _ = eprintln!(rt; "{}", told(stop));
+                    ExitCode::FAILURE
+                }
+            }
+        }
+        Err(PlanFault::Help(text)) => {
+            let _ = print!(rt; "{text}");
+            ExitCode::SUCCESS
+        }
+        Err(PlanFault::Words(text)) => {
+            let _ = eprint!(rt; "{text}");
+            ExitCode::from(BAD_WORDS)
+        }
+        Err(PlanFault::Memory) => {
+            let _ = eprintln!(rt; "rgatext: fault memory");
+            ExitCode::FAILURE
+        }
+    }
+}

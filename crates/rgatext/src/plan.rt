@@ -1,0 +1,51 @@
+//! What the program is to do, or why it can do nothing.
+
+use opid::Site;
+use std::alloc::AllocError;
+use thiserror::Error;
+
+/// What the program is to do.
+#[derive(Clone, Copy, Debug, PartialEq, Eq)]
+pub enum Plan {
+    /// Serve requests from standard input to standard output, with a room of this site.
+    Lines { site: Site },
+}
+
+impl Plan {
+    ghost use Rattle.std.specs.Prelude.{◌≡◌};
+    ghost use Rattle.rgatext.specs.Played.{site_of};
+
+    /// The site of the room that is served.
+    pub fn site(self) -> Site
+        ensures { result ≡ site_of self }
+    {
+        match self {
+            Plan::Lines { site } => site,
+        }
+    }
+}
+
+/// Why there is no plan.
+#[derive(Debug, Drop, Error)]
+pub enum PlanFault {
+    /// Help was asked for: its text, for standard output.
+    #[error("{0}")]
+    Help(String),
+    /// The words ask for nothing that the program does: what is wrong with them, for standard error.
+    #[error("{0}")]
+    Words(String),
+    /// Memory was refused.
+    #[error("memory was refused\n")]
+    Memory,
+}
+
+impl From<AllocError> for PlanFault {
+    ghost use Rattle.std.specs.Prelude.{◌≡◌};
+    ghost use Rattle.rgatext.specs.declared.plan.PlanFault.TheVariants.{Memory};
+
+    ghost from_gives = { λ _ e. e ≡ Memory };
+
+    fn from(_: AllocError) -> PlanFault {
+        PlanFault::Memory
+    }
+}

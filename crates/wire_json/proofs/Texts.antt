@@ -1,0 +1,171 @@
+-- The texts of replies, by serde_json's words.
+use Rattle.std.proofs.Common.{◌≡◌, ◌<◌, ◌≤◌, ◌^◌, ◌==◌, ℕ, List, ◌++◌, codes, cond, false, Some, decimal, refl, sym, ap, ◌∙◌, arith, append_assoc, lit<, lit≤}
+use Rattle.std.specs.Prelude.{IsTrue, encode_utf8_all}
+use Rattle.std.specs.Str.{all_scalars, chars}
+use Rattle.std.proofs.lemmas.Fmt.{decimal_injective}
+use Rattle.std.proofs.lemmas.Str.{chars-encodes}
+use Rattle.json.specs.Print.{escape_byte}
+use Rattle.json.specs.Json.{document, max_depth}
+use Rattle.json.specs.Tree.{depth, HasNumbers}
+use Rattle.json.proofs.Printed.Trees.{document-print}
+use Rattle.json.proofs.Printed.Decimals.{IsNumber-decimal}
+use Rattle.serde_json.specs.Written.{compact_text, outline, has_float}
+use Rattle.serde_json.proofs.Texts.{print-outline}
+use Rattle.opid.specs.declared.refusal.Refusal.{Refusal}
+use Rattle.opid.specs.declared.refusal.Refusal.TheVariants.{BadJson, BadField, UnknownKind, NoRoom, NoSession, TooManySessions, BadNumber, BadVersion, BadPlace, BadText, BadCount, Full, HistoryFull, BadSite, BadClock, OwnSite, Conflict, HoldFull, NotRising, UnknownElement, NotOlder, BadHave, BadRange, Busy, Worn, Memory, SiteUsed, BadSnapshot, TooLong}
+use Rattle.opid.specs.Refusals.{number_of}
+use Rattle.room.specs.declared.reply.Reply as reply
+use Rattle.room.specs.declared.reply.Reply.TheVariants.{Joined, Ok, Text, No}
+use Rattle.wire_json.specs.Text.{IsInRange, quote, text}
+use Rattle.wire_json.specs.Written.{data_of}
+
+regroup_3 : (a b c : List ℕ) → a ++ (b ++ c) ≡ a ++ b ++ c
+regroup_3 a b c = simp append_assoc
+
+regroup_5 : (a b c d e : List ℕ) → a ++ (b ++ (c ++ (d ++ e))) ≡ a ++ b ++ c ++ d ++ e
+regroup_5 a b c d e = simp append_assoc
+
+regroup_7 : (a b c d e f g : List ℕ) → a ++ (b ++ (c ++ (d ++ (e ++ (f ++ g))))) ≡ a ++ b ++ c ++ d ++ e ++ f ++ g
+regroup_7 a b c d e f g = simp append_assoc
+
+-- what serde_json writes for the value of a reply is the reply's text
+pub compact : (r : reply.Reply) → compact_text (data_of r) ≡ text r
+unfolding escape_byte
+compact (Joined s v x) = regroup_7 (codes "{\"r\":\"joined\",\"s\":") (decimal s) (codes ",\"v\":") (decimal v) (codes ",\"x\":") (quote x) (codes "}")
+compact (Ok «from» to) = regroup_5 (codes "{\"from\":") (decimal «from») (codes ",\"r\":\"ok\",\"to\":") (decimal to) (codes "}")
+compact (Text v x) = regroup_5 (codes "{\"r\":\"text\",\"v\":") (decimal v) (codes ",\"x\":") (quote x) (codes "}")
+compact (No why) = regroup_3 (codes "{\"n\":") (decimal (number_of why)) (codes ",\"r\":\"no\"}")
+
+pub no_float : (r : reply.Reply) → has_float (data_of r) ≡ false
+no_float (Joined s v x) = refl
+no_float (Ok «from» to) = refl
+no_float (Text v x) = refl
+no_float (No why) = refl
+
+number_small : (why : Refusal) → number_of why < 2 ^ 64
+number_small BadJson = lit< tt
+number_small BadField = lit< tt
+number_small UnknownKind = lit< tt
+number_small NoRoom = lit< tt
+number_small NoSession = lit< tt
+number_small TooManySessions = lit< tt
+number_small BadNumber = lit< tt
+number_small BadVersion = lit< tt
+number_small BadPlace = lit< tt
+number_small BadText = lit< tt
+number_small BadCount = lit< tt
+number_small Full = lit< tt
+number_small HistoryFull = lit< tt
+number_small BadSite = lit< tt
+number_small BadClock = lit< tt
+number_small OwnSite = lit< tt
+number_small Conflict = lit< tt
+number_small HoldFull = lit< tt
+number_small NotRising = lit< tt
+number_small UnknownElement = lit< tt
+number_small NotOlder = lit< tt
+number_small BadHave = lit< tt
+number_small BadRange = lit< tt
+number_small Busy = lit< tt
+number_small Worn = lit< tt
+number_small Memory = lit< tt
+number_small SiteUsed = lit< tt
+number_small BadSnapshot = lit< tt
+number_small TooLong = lit< tt
+
+small : (n : ℕ) → n < 2 ^ 32 → n < 2 ^ 64
+small n h = omega arith
+
+numbers : (r : reply.Reply) → IsInRange r → HasNumbers (outline (data_of r))
+numbers (Joined s v x) h = (tt, (IsNumber-decimal s (small s h.0), (IsNumber-decimal v (small v h.1), (tt, tt))))
+numbers (Ok «from» to) h = (IsNumber-decimal «from» (small «from» h.0), (tt, (IsNumber-decimal to (small to h.1), tt)))
+numbers (Text v x) h = (tt, (IsNumber-decimal v (small v h.0), (tt, tt)))
+numbers (No why) h = (IsNumber-decimal (number_of why) (number_small why), (tt, tt))
+
+shallow : (r : reply.Reply) → depth (outline (data_of r)) ≤ max_depth
+shallow (Joined s v x) = lit≤ tt
+shallow (Ok «from» to) = lit≤ tt
+shallow (Text v x) = lit≤ tt
+shallow (No why) = lit≤ tt
+
+-- the text reads as one JSON tree, which is the reply's
+back : (r : reply.Reply) → IsInRange r → document (text r) ≡ Some (outline (data_of r))
+back r h = ap document (sym (print-outline (data_of r) ∙ compact r)) ∙ document-print (outline (data_of r)) (numbers r h) (shallow r)
+
+one_tree : (a b : reply.Reply) → IsInRange a → IsInRange b → text a ≡ text b → outline (data_of a) ≡ outline (data_of b)
+one_tree a b h k e = let p = sym (back a h) ∙ ap document e ∙ back b k in cc
+
+-- the refusal with a number
+of_number : ℕ → Refusal
+of_number n = cond (n == 1) BadJson (cond (n == 2) BadField (cond (n == 3) UnknownKind (cond (n == 4) NoRoom (cond (n == 5) NoSession (cond (n == 6) TooManySessions (cond (n == 7) BadNumber (cond (n == 8) BadVersion (cond (n == 9) BadPlace (cond (n == 10) BadText (cond (n == 11) BadCount (cond (n == 12) Full (cond (n == 13) HistoryFull (cond (n == 14) BadSite (cond (n == 15) BadClock (cond (n == 16) OwnSite (cond (n == 17) Conflict (cond (n == 18) HoldFull (cond (n == 19) NotRising (cond (n == 20) UnknownElement (cond (n == 21) NotOlder (cond (n == 22) BadHave (cond (n == 23) BadRange (cond (n == 24) Busy (cond (n == 25) Worn (cond (n == 26) Memory (cond (n == 27) SiteUsed (cond (n == 28) BadSnapshot TooLong)))))))))))))))))))))))))))
+
+of_number_of : (why : Refusal) → of_number (number_of why) ≡ why
+unfolding of_number
+of_number_of BadJson = refl
+of_number_of BadField = refl
+of_number_of UnknownKind = refl
+of_number_of NoRoom = refl
+of_number_of NoSession = refl
+of_number_of TooManySessions = refl
+of_number_of BadNumber = refl
+of_number_of BadVersion = refl
+of_number_of BadPlace = refl
+of_number_of BadText = refl
+of_number_of BadCount = refl
+of_number_of Full = refl
+of_number_of HistoryFull = refl
+of_number_of BadSite = refl
+of_number_of BadClock = refl
+of_number_of OwnSite = refl
+of_number_of Conflict = refl
+of_number_of HoldFull = refl
+of_number_of NotRising = refl
+of_number_of UnknownElement = refl
+of_number_of NotOlder = refl
+of_number_of BadHave = refl
+of_number_of BadRange = refl
+of_number_of Busy = refl
+of_number_of Worn = refl
+of_number_of Memory = refl
+of_number_of SiteUsed = refl
+of_number_of BadSnapshot = refl
+of_number_of TooLong = refl
+
+same_refusal : (a b : Refusal) → number_of a ≡ number_of b → a ≡ b
+same_refusal a b h = sym (of_number_of a) ∙ ap of_number h ∙ of_number_of b
+
+-- characters have one spelling in UTF-8
+same_characters : (x y : List ℕ) → IsTrue (all_scalars x) → IsTrue (all_scalars y) → encode_utf8_all x ≡ encode_utf8_all y → x ≡ y
+same_characters x y h k e = sym (chars-encodes x h) ∙ ap chars e ∙ chars-encodes y k
+
+one_reply : (a b : reply.Reply) → IsInRange a → IsInRange b → outline (data_of a) ≡ outline (data_of b) → a ≡ b
+one_reply (Joined s v x) (Joined t w y) h k e =
+    let same_s = decimal_injective s t (small s h.0) (small t k.0) (cc) in
+    let same_v = decimal_injective v w (small v h.1) (small w k.1) (cc) in
+    let same_x = same_characters x y h.2 k.2 (cc) in
+    cc
+one_reply (Ok m n) (Ok i j) h k e =
+    let same_from = decimal_injective m i (small m h.0) (small i k.0) (cc) in
+    let same_to = decimal_injective n j (small n h.1) (small j k.1) (cc) in
+    cc
+one_reply (Text v x) (Text w y) h k e =
+    let same_v = decimal_injective v w (small v h.0) (small w k.0) (cc) in
+    let same_x = same_characters x y h.1 k.1 (cc) in
+    cc
+one_reply (No p) (No q) h k e =
+    ap No (same_refusal p q (decimal_injective (number_of p) (number_of q) (number_small p) (number_small q) (cc)))
+one_reply (Joined s v x) (Ok i j) h k e = cc
+one_reply (Joined s v x) (Text w y) h k e = cc
+one_reply (Joined s v x) (No q) h k e = cc
+one_reply (Ok m n) (Joined t w y) h k e = cc
+one_reply (Ok m n) (Text w y) h k e = cc
+one_reply (Ok m n) (No q) h k e = cc
+one_reply (Text v x) (Joined t w y) h k e = cc
+one_reply (Text v x) (Ok i j) h k e = cc
+one_reply (Text v x) (No q) h k e = cc
+one_reply (No p) (Joined t w y) h k e = cc
+one_reply (No p) (Ok i j) h k e = cc
+one_reply (No p) (Text w y) h k e = cc
+
+pub different : (a b : reply.Reply) → IsInRange a → IsInRange b → text a ≡ text b → a ≡ b
+different a b h k e = one_reply a b h k (one_tree a b h k e)

@@ -1,0 +1,12 @@
+-- What a function that may find no memory answers, beside what is right.
+use Rattle.std.specs.Prelude.{◌≡◌, ◌⊎◌, Result, Ok, Err}
+use Rattle.opid.specs.declared.refusal.Refusal.{Refusal}
+use Rattle.opid.specs.declared.refusal.Refusal.TheVariants.{Memory}
+
+abbrev pub same : {A : Type 0} → A → A
+same x = x
+
+-- a result, its value seen by `seen`, is the right one, or memory was refused
+abbrev pub Gives : {A B : Type 0} → (A → B) → Result A Refusal → Result B Refusal → Type 0
+Gives seen (Ok x) right = right ≡ Ok (seen x)
+Gives seen (Err e) right = (e ≡ Memory) ⊎ (right ≡ Err e)

@@ -1,0 +1,4 @@
+pub mod Request
+pub mod Given
+pub mod Text
+pub mod Written

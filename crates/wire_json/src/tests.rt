@@ -1,0 +1,147 @@
+//! Requests and replies as lines show them.
+use crate::{read_request, write_reply};
+use opid::Refusal;
+use room::{Call, Characters, Reply};
+use std::alloc::{AllocError, Global};
+use std::test::Fail;
+
+fn refusal(alloc: Global, bytes: &[u8]) -> Option<Refusal> {
+    read_request(alloc, bytes).err()
+}
+
+fn is_join(alloc: Global, bytes: &[u8]) -> bool {
+    matches!(&read_request(alloc, bytes), Ok(Call::Join))
+}
+
+fn is_read(alloc: Global, bytes: &[u8]) -> bool {
+    matches!(&read_request(alloc, bytes), Ok(Call::Read))
+}
+
+// A request after this many spaces.
+fn spaced(alloc: Global, spaces: usize, request: &[u8]) -> Result<Vec<u8>, AllocError> {
+    let mut bytes = vec![in alloc; b' '; spaces]?;
+    bytes.extend_from_slice(request)?;
+    Ok(bytes)
+}
+
+#[test]
+fn reads_each_kind(rt: HostRuntime) -> Result<(), Fail> {
+    let alloc = rt.alloc();
+    assert!(rt; is_join(alloc, b"{\"t\":\"join\"}"));
+    assert!(rt; is_read(alloc, b" { \"t\" : \"read\" }\r"));
+    let line =
+        "{\"x\":\"a\\\"\\u0001\u{e9}\\ud83d\\ude00\",\"t\":\"ins\",\"s\":1,\"n\":2,\"v\":3,\"k\":4294967295}";
+    match &read_request(alloc, line.as_bytes())? {
+        Call::Ins { s, n, v, k, x } => {
+            assert_eq!(rt; (*s, *n, *v, *k), (1, 2, 3, 4_294_967_295));
+            assert!(rt; x.as_str() == "a\"\u{1}\u{e9}\u{1f600}");
+        }
+        _ => assert!(rt; false),
+    }
+    Ok(())
+}
+
+#[test]
+fn the_last_value_of_a_repeated_key_stands(rt: HostRuntime) {
+    let alloc = rt.alloc();
+    assert!(rt; is_read(alloc, b"{\"t\":\"dance\",\"t\":\"read\"}"));
+}
+
+#[test]
+fn tells_the_first_fault(rt: HostRuntime) {
+    let alloc = rt.alloc();
+    for bytes in [
+        b"".as_slice(),
+        b"{\"t\":\"jo",
+        b"\xff",
+        b"{\"t\":\"\xff\"}",
+        b"{\"t\":\"join\"}x",
+        b"join",
+    ] {
+        assert_eq!(rt; refusal(alloc, bytes), Some(Refusal::BadJson));
+    }
+    for bytes in [
+        b"[]".as_slice(),
+        b"7",
+        b"null",
+        b"{}",
+        b"{\"t\":1}",
+        b"{\"z\":1}",
+        b"{\"t\":\"join\",\"z\":1}",
+        b"{\"t\":\"read\",\"s\":1}",
+        b"{\"t\":\"ins\"}",
+        b"{\"t\":\"ins\",\"s\":1,\"n\":1,\"v\":0,\"x\":\"a\"}",
+        b"{\"t\":\"ins\",\"s\":1,\"n\":1,\"v\":0,\"k\":0,\"x\":\"a\",\"c\":1}",
+        b"{\"t\":\"ins\",\"s\":1,\"n\":1,\"v\":0,\"k\":0,\"x\":1}",
+        b"{\"t\":\"ins\",\"s\":1,\"n\":1,\"v\":0,\"k\":0.0,\"x\":\"a\"}",
+        b"{\"t\":\"ins\",\"s\":1,\"n\":1,\"v\":0,\"k\":0e0,\"x\":\"a\"}",
+        b"{\"t\":\"ins\",\"s\":1,\"n\":1,\"v\":0,\"k\":-1,\"x\":\"a\"}",
+        b"{\"t\":\"ins\",\"s\":1,\"n\":1,\"v\":0,\"k\":4294967296,\"x\":\"a\"}",
+        b"{\"t\":\"ins\",\"s\":1,\"n\":1,\"v\":0,\"k\":\"0\",\"x\":\"a\"}",
+    ] {
+        assert_eq!(rt; refusal(alloc, bytes), Some(Refusal::BadField));
+    }
+    for bytes in [
+        b"{\"t\":\"dance\"}".as_slice(),
+        b"{\"t\":\"\",\"z\":1}",
+        b"{\"t\":\"Join\"}",
+    ] {
+        assert_eq!(rt; refusal(alloc, bytes), Some(Refusal::UnknownKind));
+    }
+}
+
+#[test]
+fn has_at_most_65536_bytes(rt: HostRuntime) -> Result<(), Fail> {
+    let alloc = rt.alloc();
+    let join = b"{\"t\":\"join\"}";
+    assert!(rt; is_join(alloc, &spaced(alloc, 65_524, join)?));
+    let long = spaced(alloc, 65_525, join)?;
+    assert_eq!(rt; refusal(alloc, &long), Some(Refusal::TooLong));
+    Ok(())
+}
+
+#[test]
+fn writes_each_reply(rt: HostRuntime) -> Result<(), Fail> {
+    let alloc = rt.alloc();
+    let empty = || Characters::new(String::new(alloc));
+    let x = empty();
+    let joined = write_reply(alloc, &Reply::Joined { s: 1, v: 0, x })?;
+    assert!(rt; joined.as_str() == "{\"r\":\"joined\",\"s\":1,\"v\":0,\"x\":\"\"}");
+    let accepted = write_reply(alloc, &Reply::Ok { from: 0, to: 1 })?;
+    assert!(rt; accepted.as_str() == "{\"from\":0,\"r\":\"ok\",\"to\":1}");
+    let x = empty();
+    let text = write_reply(alloc, &Reply::Text { v: 0, x })?;
+    assert!(rt; text.as_str() == "{\"r\":\"text\",\"v\":0,\"x\":\"\"}");
+    let refused = write_reply(alloc, &Reply::No(Refusal::BadPlace))?;
+    assert!(rt; refused.as_str() == "{\"n\":9,\"r\":\"no\"}");
+    Ok(())
+}
+
+#[test]
+fn writes_a_text_with_escapes(rt: HostRuntime) -> Result<(), Fail> {
+    let alloc = rt.alloc();
+    let x = Characters::new(String::from_str(
+        alloc,
+        "\"\\/\u{8}\t\n\u{c}\r\u{1}\u{7f}\u{e9}\u{1f600}",
+    )?);
+    let v = 4_294_967_295;
+    let text = write_reply(alloc, &Reply::Text { v, x })?;
+    let wanted =
+        "{\"r\":\"text\",\"v\":4294967295,\"x\":\"\\\"\\\\/\\b\\t\\n\\f\\r\\u0001\u{7f}\u{e9}\u{1f600}\"}";
+    assert!(rt; text.as_str() == wanted);
+    Ok(())
+}
+
+// Run with each allocation failing in turn, it shows that no other answer stands in the place of the right one.
+#[test]
+fn only_memory_stands_in_for_an_answer(rt: HostRuntime) {
+    let alloc = rt.alloc();
+    let line = b"{\"t\":\"ins\",\"s\":1,\"n\":1,\"v\":0,\"k\":0,\"x\":\"a\"}";
+    let why = refusal(alloc, line);
+    assert!(rt; why.is_none() || why == Some(Refusal::Memory));
+    let why = refusal(alloc, b"{\"t\":\"dance\",\"z\":[1,{}]}");
+    assert!(rt; why == Some(Refusal::UnknownKind) || why == Some(Refusal::Memory));
+    if let Ok(text) = write_reply(alloc, &Reply::Ok { from: 0, to: 1 }) {
+        assert!(rt; text.as_str() == "{\"from\":0,\"r\":\"ok\",\"to\":1}");
+    }
+}

@@ -1,0 +1,56 @@
+//! Writing a reply.
+ghost use Rattle.std.specs.Prelude.{◌≡◌, IfOk, string_bytes, encode_utf8_all};
+ghost use Rattle.serde_json.specs.View.{view};
+ghost use Rattle.room.specs.declared.reply.Reply.TheVariants as reply;
+ghost use Rattle.wire_json.specs.Text.{text};
+ghost use Rattle.wire_json.specs.Written.{joined_data, ok_data, text_data, no_data, data_of};
+
+use opid::Refusal;
+use room::Reply;
+use serde_json::{Value, json};
+use std::alloc::{AllocError, Global};
+
+/// The one text of a reply: a compact JSON object, its keys in the order of their bytes, with no line feed.
+///
+/// Takes time and memory in proportion to the text.
+pub fn write_reply(alloc: Global, reply: &Reply) -> Result<String, AllocError>
+    ensures { IfOk result (λ s. string_bytes s ≡ text reply.now) }
+{
+    let value = value_of(alloc, reply)?;
+    value.to_string(alloc)
+}
+
+fn value_of(alloc: Global, reply: &Reply) -> Result<Value, AllocError>
+    ensures { IfOk result (λ v. view v ≡ data_of reply.now) }
+{
+    match reply {
+        Reply::Joined { s, v, x } => joined(alloc, *s, *v, x.as_str()),
+        Reply::Ok { from, to } => accepted(alloc, *from, *to),
+        Reply::Text { v, x } => whole_text(alloc, *v, x.as_str()),
+        Reply::No(why) => refused(alloc, *why),
+    }
+}
+
+fn joined(alloc: Global, s: u32, v: u32, x: &str) -> Result<Value, AllocError>
+    ensures { IfOk result (λ out. view out ≡ joined_data s v x.now) }
+{
+    json!(in alloc; {"r": "joined", "s": s, "v": v, "x": x})
+}
+
+fn accepted(alloc: Global, from: u32, to: u32) -> Result<Value, AllocError>
+    ensures { IfOk result (λ out. view out ≡ ok_data from to) }
+{
+    json!(in alloc; {"from": from, "r": "ok", "to": to})
+}
+
+fn whole_text(alloc: Global, v: u32, x: &str) -> Result<Value, AllocError>
+    ensures { IfOk result (λ out. view out ≡ text_data v x.now) }
+{
+    json!(in alloc; {"r": "text", "v": v, "x": x})
+}
+
+fn refused(alloc: Global, why: Refusal) -> Result<Value, AllocError>
+    ensures { IfOk result (λ out. view out ≡ no_data why) }
+{
+    json!(in alloc; {"n": why.number(), "r": "no"})
+}
