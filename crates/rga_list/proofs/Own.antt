@@ -1,7 +1,7 @@
 -- Each entry is of an element of its own.
-use Rattle.std.proofs.Common.{◌≡◌, ◌≢◌, ℕ, List, [], ◌∷◌, map}
+use Rattle.std.proofs.Common.{◌≢◌, ℕ, List, [], ◌∷◌, map}
 use Rattle.std.specs.List.{AllByRecursion as Each}
-use Rattle.rga_list.specs.Entries.{Entry, AreOfOwn}
+use Rattle.rga_list.specs.Entries.{AreOfOwn}
 use Rattle.rga_list.specs.Links.{entry_at, AreOnce}
 use Rattle.rga_list.specs.declared.links.Node.{Node}
 

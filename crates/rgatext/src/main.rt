@@ -17,9 +17,8 @@ use counted::Counted;
 use engine::ServeFault;
 use plan::PlanFault;
 use play::{Stop, play};
-use std::env;
-use std::io;
 use std::process::ExitCode;
+use std::{env, io};
 
 /// The words are bad.
 const BAD_WORDS: u8 = 2;

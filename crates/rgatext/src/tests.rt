@@ -323,7 +323,9 @@ fn tells_a_write_fault(rt: HostRuntime) {
 
 // What `rgatext lines` answers to the input, in a room of site 0.
 fn answers(alloc: Global, requests: &[u8]) -> std::result::Result<Vec<u8>, Fail> {
-    let plan = Plan::Lines { site: Site::new(0)? };
+    let plan = Plan::Lines {
+        site: Site::new(0)?,
+    };
     let mut input = Counted::new(requests);
     let mut output = Counted::new(Vec::new(alloc));
     match play(alloc, &plan, &mut input, &mut output) {
@@ -395,8 +397,14 @@ fn bad_lines_are_refused_by_number(rt: HostRuntime) -> std::result::Result<(), F
 #[test]
 fn a_line_of_65536_bytes_is_the_longest(rt: HostRuntime) -> std::result::Result<(), Fail> {
     for (spaces, want) in [
-        (65_524, b"{\"r\":\"joined\",\"s\":1,\"v\":0,\"x\":\"\"}\n{\"r\":\"joined\",\"s\":2,\"v\":0,\"x\":\"\"}\n".as_slice()),
-        (65_525, b"{\"n\":29,\"r\":\"no\"}\n{\"r\":\"joined\",\"s\":1,\"v\":0,\"x\":\"\"}\n".as_slice()),
+        (
+            65_524,
+            b"{\"r\":\"joined\",\"s\":1,\"v\":0,\"x\":\"\"}\n{\"r\":\"joined\",\"s\":2,\"v\":0,\"x\":\"\"}\n".as_slice(),
+        ),
+        (
+            65_525,
+            b"{\"n\":29,\"r\":\"no\"}\n{\"r\":\"joined\",\"s\":1,\"v\":0,\"x\":\"\"}\n".as_slice(),
+        ),
     ] {
         let mut requests = b"{\"t\":\"join\"}".to_vec(rt.alloc())?;
         requests.resize(12 + spaces, b' ')?;

@@ -1,15 +1,13 @@
 //! Calls of a room with ample memory, and what is kept after a refusal.
+ghost use Rattle.std.specs.Prelude.{◌≡◌, [], IfOk};
+
 use crate::{Call, Characters, Desk, Reply, Room, RoomDesk};
 use opid::{Refusal, Site};
 use std::alloc::Global;
 use std::test::Fail;
 
-ghost use Rattle.std.specs.Prelude.{◌≡◌, [], IfOk};
-
 fn room(alloc: Global) -> Result<Room, Fail>
-ensures {
-    IfOk result (λ r. r.history ≡ [])
-}
+    ensures { IfOk result (λ r. r.history ≡ []) }
 {
     Ok(Room::new(alloc, Site::new(0)?))
 }
@@ -55,11 +53,31 @@ fn the_later_of_two_stands_first(rt: HostRuntime) -> Result<(), Fail> {
 #[test]
 fn a_refused_call_is_recorded(rt: HostRuntime) -> Result<(), Fail> {
     let mut desk = RoomDesk::new(room(rt.alloc())?);
-    assert!(rt; is_refused(&desk.call(insertion(rt.alloc(), 1, 1, 0, "A")?)?, Refusal::NoSession));
+    assert!(rt;
+        is_refused(
+            &desk.call(insertion(rt.alloc(), 1, 1, 0, "A")?)?,
+            Refusal::NoSession
+        )
+    );
     let _ = desk.call(Call::Join)?;
-    assert!(rt; is_refused(&desk.call(insertion(rt.alloc(), 1, 2, 0, "A")?)?, Refusal::BadNumber));
-    assert!(rt; is_refused(&desk.call(insertion(rt.alloc(), 1, 1, 0, "")?)?, Refusal::BadText));
-    assert!(rt; is_refused(&desk.call(insertion(rt.alloc(), 1, 1, 1, "A")?)?, Refusal::BadPlace));
+    assert!(rt;
+        is_refused(
+            &desk.call(insertion(rt.alloc(), 1, 2, 0, "A")?)?,
+            Refusal::BadNumber
+        )
+    );
+    assert!(rt;
+        is_refused(
+            &desk.call(insertion(rt.alloc(), 1, 1, 0, "")?)?,
+            Refusal::BadText
+        )
+    );
+    assert!(rt;
+        is_refused(
+            &desk.call(insertion(rt.alloc(), 1, 1, 1, "A")?)?,
+            Refusal::BadPlace
+        )
+    );
     assert!(rt; reads(&desk.call(Call::Read)?, 0, ""));
     assert_eq!(rt; desk.into_room().history().len(), 6);
     Ok(())

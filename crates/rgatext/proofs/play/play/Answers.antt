@@ -1,4 +1,4 @@
-use Rattle.std.proofs.Common.{◌≡◌, ◌∙◌, ap}
+use Rattle.std.proofs.Common.{◌∙◌, ap}
 use Rattle.rgatext.specs.Played.{opened}
 use Rattle.rgatext.proofs.play.play.Goals as goal
 
