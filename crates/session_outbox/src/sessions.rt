@@ -1,0 +1,180 @@
+//! The sessions of a server's document, each by the number that it got when it joined.
+ghost use Rattle.std.specs.Prelude.{◌≡◌, ◌≤◌, ◌<◌, ◌↔◌, false, is_some, length, None, Some, Ok, IsOk, IsSome, IfOk, IfErr, OnOk, OnErr};
+ghost use Rattle.std.specs.Option.{option_map};
+ghost use Rattle.opid.specs.declared.refusal.Refusal.TheVariants.{NoSession};
+ghost use Rattle.session_outbox.specs.declared.submission.Submission.TheVariants.{New};
+ghost use Rattle.session_outbox.specs.Sessions.{session_with, change_session, without_session, MayAccept, AreNumbered, empty_outbox, after_join, after_leave, after_accept, after_pull};
+ghost use Rattle.session_outbox.specs.Answers.{submission_of, pull_of, join_refusal};
+ghost use Rattle.session_outbox.specs.Kept.{sessions_of, session_of};
+
+use crate::facts::Facts;
+use crate::submission::Submission;
+use indexmap::IndexMap;
+use opid::Refusal;
+use std::alloc::Global;
+use std::marker::Model;
+
+/// At most so many sessions are there at one time.
+const MAX_SESSIONS: usize = 64;
+
+/// The facts of the session with this number.
+fn facts_with(facts: &IndexMap<u32, Facts>, s: u32) -> Option<Facts>
+    ensures { option_map (λ w. session_of (s, w)) result ≡ session_with s (sessions_of facts.now.entries) }
+{
+    facts.get(&s).copied()
+}
+
+/// Puts other facts in the place of those of the session with this number, which is there.
+#[tactic(auto, using(crate::proofs::Entries::replaced))]
+fn replace(facts: &mut IndexMap<u32, Facts>, s: u32, new: Facts)
+    requires { IsSome (session_with s (sessions_of facts.old.entries)) }
+    ensures { sessions_of facts.new.entries ≡ change_session s (λ _. session_of (s, new)) (sessions_of facts.old.entries) }
+{
+    if let Some(old) = facts.get_mut(&s) {
+        *old = new;
+    }
+}
+
+/// Takes out the session with this number, and says whether it was there.
+#[tactic(auto, using(crate::proofs::Entries::removed, crate::proofs::Entries::is_found))]
+fn take_out(facts: &mut IndexMap<u32, Facts>, s: u32) -> bool
+    ensures there { result ≡ is_some (session_with s (sessions_of facts.old.entries)) }
+    ensures others { sessions_of facts.new.entries ≡ without_session s (sessions_of facts.old.entries) }
+    ensures unchanged { result ≡ false → sessions_of facts.new.entries ≡ sessions_of facts.old.entries }
+{
+    facts.shift_remove(&s).is_some()
+}
+
+/// The sessions of a document, in order of joining.
+///
+/// A session is found by a hash of its number. A client may ask for any number, but the table holds only those that were
+/// given out here, one by one from 1, and at most 64 at a time. So a fast hasher with a fixed seed serves: no client can
+/// bring in keys that fall together. After a refusal nothing has changed.
+#[derive(Drop)]
+pub struct Sessions {
+    facts: IndexMap<u32, Facts>,
+    next_number: u32,
+}
+
+impl Model for Sessions {
+    ghost use Rattle.session_outbox.specs.Sessions.{Outbox, AreNumbered};
+    ghost use Rattle.session_outbox.specs.Kept.{sessions_of};
+
+    ghost Value = { Outbox };
+
+    ghost view = { λ m. record { sessions = sessions_of m.facts.entries; next_number = m.next_number } };
+
+    ghost invariant = { λ m. AreNumbered 0 m.next_number (sessions_of m.facts.entries) };
+}
+
+impl Sessions {
+    /// No sessions; the first that joins gets the number 1. Takes no memory.
+    pub fn new(alloc: Global) -> Sessions
+        ensures { result ≡ empty_outbox }
+    {
+        Sessions {
+            facts: IndexMap::new(alloc),
+            next_number: 1,
+        }
+    }
+
+    /// Takes in a session at this version of the document, and gives its number: they go up by one, and none is given
+    /// twice, so fewer than 4,294,967,295 may have been given before. A look-up, and memory where the table grows.
+    /// Refused with `TooManySessions` where 64 are there, and with `Memory` where memory was refused.
+    pub fn join(&mut self, version: u32) -> Result<u32, Refusal>
+        requires { self.old.next_number < u32.MAX }
+        ensures number { IfOk result (λ s. s ≡ self.old.next_number) }
+        ensures fresh { IfOk result (λ s. session_with s self.old.sessions ≡ None) }
+        ensures next { OnOk result (self.new ≡ after_join version self.old) }
+        ensures within { OnOk result (length self.old.sessions < 64) }
+        ensures cause { IfErr result (λ e. e ≡ join_refusal self.old.sessions) }
+        ensures err { OnErr result (self.new ≡ self.old) }
+    {
+        if self.len() >= MAX_SESSIONS {
+            return Err(Refusal::TooManySessions);
+        }
+        let number = self.next_number;
+        let facts = Facts {
+            first: version,
+            sent: version,
+            last: 0,
+            start: 0,
+            end: 0,
+        };
+        self.facts.insert(number, facts)?;
+        self.next_number += 1;
+        Ok(number)
+    }
+
+    /// Takes a session out. The others keep their order, so those behind it move up: a look-up, and a step for each of at
+    /// most 63. Refused with `NoSession` where it isn't there.
+    pub fn leave(&mut self, s: u32) -> Result<(), Refusal>
+        ensures there { IsOk result ↔ IsSome (session_with s self.old.sessions) }
+        ensures next { OnOk result (self.new ≡ after_leave s self.old) }
+        ensures cause { IfErr result (λ e. e ≡ NoSession) }
+        ensures err { OnErr result (self.new ≡ self.old) }
+    {
+        if take_out(&mut self.facts, s) {
+            Ok(())
+        } else {
+            Err(Refusal::NoSession)
+        }
+    }
+
+    /// Whether a session's submission with the number `n` in version `v` is its next one or its last one again.
+    /// Refused with `NoSession`; with `BadNumber` where `n` is neither; and, if it is the next one, with `BadVersion`
+    /// where `v` is below the session's first version or above its sent one. A look-up.
+    pub fn check_submit(&self, s: u32, n: u32, v: u32) -> Result<Submission, Refusal>
+        ensures value { result ≡ submission_of (session_with s self.now.sessions) n v }
+        ensures acceptable { result ≡ Ok New → MayAccept s self.now }
+    {
+        let Some(facts) = facts_with(&self.facts, s) else {
+            return Err(Refusal::NoSession);
+        };
+        facts.submission(n, v)
+    }
+
+    /// Notes that the session's next submission, `New` by `check_submit`, was accepted and led from a version to a
+    /// version: its last number goes up by one, and these versions are its kept reply. Two look-ups.
+    pub fn accept(&mut self, s: u32, from: u32, to: u32)
+        requires { MayAccept s self.old }
+        ensures { self.new ≡ after_accept s from to self.old }
+    {
+        if let Some(facts) = facts_with(&self.facts, s) {
+            let last = facts.last + 1;
+            let new = Facts {
+                last,
+                start: from,
+                end: to,
+                ..facts
+            };
+            replace(&mut self.facts, s, new);
+        }
+    }
+
+    /// The versions that the edits lead from and to which a session is sent that has the version `have`, where the
+    /// document is at `version`: from `have`, `max` further or to the newest one. That is then its sent version, if it
+    /// was older. Refused with `NoSession`; with `BadCount` where `max` is 0 or above 64; and with `BadHave` where
+    /// `have` is below the session's first version or above its sent one. Two look-ups.
+    pub fn pull(&mut self, s: u32, have: u32, max: u32, version: u32) -> Result<(u32, u32), Refusal>
+        ensures value { result ≡ pull_of (session_with s self.old.sessions) have max version }
+        ensures next { IfOk result (λ r. self.new ≡ after_pull s r.1 self.old) }
+        ensures err { OnErr result (self.new ≡ self.old) }
+    {
+        let Some(facts) = facts_with(&self.facts, s) else {
+            return Err(Refusal::NoSession);
+        };
+        let (from, to) = facts.edits(have, max, version)?;
+        let sent = facts.sent.max(to);
+        replace(&mut self.facts, s, Facts { sent, ..facts });
+        Ok((from, to))
+    }
+
+    /// How many sessions are there. Takes one step.
+    pub fn len(&self) -> usize
+        ensures value { result ≡ length self.now.sessions }
+        ensures numbered { AreNumbered 0 self.now.next_number self.now.sessions }
+    {
+        self.facts.len()
+    }
+}
