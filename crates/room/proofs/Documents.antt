@@ -1,5 +1,5 @@
 -- What a document's list shows: its text, and the places of its versions.
-use Rattle.std.proofs.Common.{◌≡◌, ℕ, zero, suc, ◌+◌, ◌-◌, ◌<◌, ◌≤◌, Bool, true, false, cond, not, ◌&&◌, ◌||◌, Option, Some, None, List, [], ◌∷◌, ◌++◌, map, length, take, drop, sum, refl, ap, ◌∙◌, sym, subst, arith, take-append-drop, inl, inr, ◌⊎◌}
+use Rattle.std.proofs.Common.{◌≡◌, ℕ, zero, suc, ◌+◌, ◌-◌, ◌<◌, ◌≤◌, Bool, true, false, cond, not, ◌&&◌, ◌||◌, Option, Some, None, List, [], ◌∷◌, ◌++◌, map, length, take, drop, sum, refl, ap, ◌∙◌, sym, subst, arith, take-append-drop, inl, inr, ◌⊎◌, Ok, Err}
 use mathlib.Core.Path.{ap₂}
 use Rattle.std.specs.Prelude.{filter, nat_lt, nat_le, slice_get, option_map, Contains, ◌==◌, if◌then◌else◌}
 use Rattle.std.specs.List.{AllByRecursion as Each, list_any}
@@ -11,7 +11,7 @@ use Rattle.std.proofs.lemmas.List.Sorted.{length_permutation}
 use Rattle.opid.specs.declared.stamp.Stamp.{Stamp}
 use Rattle.opid.specs.declared.refusal.Refusal.{Refusal}
 use Rattle.opid.specs.declared.refusal.Refusal.TheVariants.{Memory, BadPlace, Full}
-use Rattle.room.specs.declared.finding.Finding.TheVariants.{Refused, Accepted}
+use Rattle.session_outbox.specs.declared.submission.Submission.TheVariants.{New}
 use Rattle.room.specs.Machine.{check_place}
 use Rattle.opid.specs.declared.kind.OpKind.{OpKind}
 use Rattle.opid.specs.declared.kind.OpKind.TheVariants.{Ins, Del}
@@ -267,15 +267,15 @@ below m n h = grind (arith, nat_tests)
 not_below : (m n : ℕ) → n ≤ m → nat_lt m n ≡ false
 not_below m n h = grind (arith, nat_tests)
 
-pub place_beyond_version : (log : List Operation) (clock : List ℕ) (es : List Entry) (v k : ℕ) (x : List ℕ) → IsDocument log clock es → length (in_version v es) < k → Refused BadPlace ≡ check_place log v k x
+pub place_beyond_version : (log : List Operation) (clock : List ℕ) (es : List Entry) (v k : ℕ) (x : List ℕ) → IsDocument log clock es → length (in_version v es) < k → Err BadPlace ≡ check_place log v k x
 place_beyond_version log clock es v k x d h = sym (cond-true (nat_lt (length (visible_at log v)) k) _ _ (below _ _ (omega (arith, h, places log clock es v d))))
 
-pub log_too_long : (log : List Operation) (clock : List ℕ) (es : List Entry) (v k : ℕ) (x : List ℕ) → IsDocument log clock es → k ≤ length (in_version v es) → 131072 < length log + length x → Refused Full ≡ check_place log v k x
+pub log_too_long : (log : List Operation) (clock : List ℕ) (es : List Entry) (v k : ℕ) (x : List ℕ) → IsDocument log clock es → k ≤ length (in_version v es) → 131072 < length log + length x → Err Full ≡ check_place log v k x
 log_too_long log clock es v k x d h f =
     sym (cond-false (nat_lt (length (visible_at log v)) k) _ _ (not_below _ _ (omega (arith, h, places log clock es v d)))
     ∙ cond-true (nat_lt 131072 (length log + length x)) _ _ (below _ _ f))
 
-pub place_accepted : (log : List Operation) (clock : List ℕ) (es : List Entry) (v k : ℕ) (x : List ℕ) → IsDocument log clock es → k ≤ length (in_version v es) → length log + length x ≤ 131072 → Accepted ≡ check_place log v k x
+pub place_accepted : (log : List Operation) (clock : List ℕ) (es : List Entry) (v k : ℕ) (x : List ℕ) → IsDocument log clock es → k ≤ length (in_version v es) → length log + length x ≤ 131072 → (Ok New) ≡ check_place log v k x
 place_accepted log clock es v k x d h f =
     sym (cond-false (nat_lt (length (visible_at log v)) k) _ _ (not_below _ _ (omega (arith, h, places log clock es v d)))
     ∙ cond-false (nat_lt 131072 (length log + length x)) _ _ (not_below _ _ f))

@@ -1,13 +1,12 @@
 -- A history with one more call, and calls one after another.
-use Rattle.std.proofs.Common.{◌≡◌, ℕ, ◌+◌, ◌^◌, ◌<◌, ◌≤◌, Bool, true, false, List, [], ◌∷◌, ◌++◌, length, refl, ap, ◌∙◌, sym, arith}
+use Rattle.std.proofs.Common.{◌≡◌, ℕ, ◌+◌, ◌^◌, ◌<◌, ◌≤◌, Bool, true, false, List, [], ◌∷◌, ◌++◌, length, refl, ap, ◌∙◌, sym, arith, Ok, Err}
 use Rattle.std.specs.Prelude.{if◌then◌else◌}
 use Rattle.std.proofs.lemmas.Bool.{cond-true}
 use Rattle.std.proofs.lemmas.List.{length-append}
-use Rattle.room.specs.declared.finding.Finding.{Finding}
-use Rattle.room.specs.declared.finding.Finding.TheVariants.{Refused, Repeated, Accepted}
+use Rattle.session_outbox.specs.declared.submission.Submission.TheVariants.{New, Repeat}
 use Rattle.room.specs.declared.call.Call.{Call}
 use Rattle.room.specs.declared.call.Call.TheVariants.{Join, Ins, Read}
-use Rattle.room.specs.Machine.{State, empty_room, check, found_next, counted, may_record, answer, next}
+use Rattle.room.specs.Machine.{State, Finding, empty_room, check, found_next, counted, may_record, answer, next}
 use Rattle.room.specs.History.{state_of, mark_from, mark, AreRisingFrom, Account, called, ran, answers, after}
 use Rattle.room.specs.Kept.{IsRoom}
 
@@ -25,18 +24,18 @@ AreRisingFrom-push t (x ∷ h) e r m b = (r.0, r.1, AreRisingFrom-push (x.0 + 1)
 
 -- a call leaves the site as it is
 found_site : (S : State) (c : Call) (f : Finding) → (found_next S c f).site ≡ S.site
-found_site S c (Refused e) = refl
-found_site S c (Repeated a b) = refl
-found_site S Join Accepted = refl
-found_site S (Ins s n v k x) Accepted = refl
-found_site S Read Accepted = refl
+found_site S c (Err e) = refl
+found_site S c (Ok (Repeat a b)) = refl
+found_site S Join (Ok New) = refl
+found_site S (Ins s n v k x) (Ok New) = refl
+found_site S Read (Ok New) = refl
 
 found_count : (S : State) (c : Call) (f : Finding) → (found_next S c f).count ≡ S.count
-found_count S c (Refused e) = refl
-found_count S c (Repeated a b) = refl
-found_count S Join Accepted = refl
-found_count S (Ins s n v k x) Accepted = refl
-found_count S Read Accepted = refl
+found_count S c (Err e) = refl
+found_count S c (Ok (Repeat a b)) = refl
+found_count S Join (Ok New) = refl
+found_count S (Ins s n v k x) (Ok New) = refl
+found_count S Read (Ok New) = refl
 
 next-recorded : (S : State) (c : Call) → may_record S ≡ true → next S c ≡ counted (found_next S c (check S c))
 next-recorded S c h = cond-true (may_record S) _ _ h

@@ -1,4 +1,3 @@
-pub mod Found
 pub mod Inserting
 pub mod Histories
 pub mod Accepted

@@ -7,7 +7,7 @@ use Rattle.opid.specs.Asked.{asked_insertions, IsPlaced}
 use Rattle.room.specs.declared.call.Call.{Call}
 use Rattle.room.specs.declared.call.Call.TheVariants.{Ins}
 use Rattle.room.specs.declared.reply.Reply.{Reply}
-use Rattle.room.specs.declared.finding.Finding.TheVariants.{Accepted}
+use Rattle.session_outbox.specs.declared.submission.Submission.TheVariants.{New}
 use Rattle.room.specs.Machine.{State, check, may_record, answer, next}
 
 -- the replies to calls, one after another, and the state after them
@@ -54,7 +54,7 @@ called room ticket c = record { opening = room.opening; history = recorded room 
 
 -- an insertion that is accepted in this state stands at the place that it asked for, in the version that it named
 abbrev pub PlacesInsertion : State → Call → Type 0
-PlacesInsertion S c = (s n v k : ℕ) (x : List ℕ) → c ≡ Ins s n v k x → check S c ≡ Accepted → IsPlaced S.log v k (asked_insertions S.log S.site v k x)
+PlacesInsertion S c = (s n v k : ℕ) (x : List ℕ) → c ≡ Ins s n v k x → check S c ≡ Ok New → IsPlaced S.log v k (asked_insertions S.log S.site v k x)
 
 -- the room after calls, one after another, under the least tickets that may follow
 abbrev pub ran : Account → List Call → Account

@@ -1,4 +1,3 @@
-pub mod Sessions
 pub mod Machine
 pub mod History
 pub mod Parts

@@ -1,6 +1,6 @@
 -- What the parts of the machine do with its document and its sessions; no public clause cites these.
-use Rattle.std.specs.Prelude.{◌≤◌, [], ◌-◌, nat_lt, filter, if◌then◌else◌, option_map, slice_get, ◌≡◌, ℕ, ◌<◌, ◌+◌, ◌==◌, ◌++◌, true, false, All, Option, Some, None, List, length}
-use Rattle.std.specs.List.{AllWithin, HoldsAt, AllByRecursion}
+use Rattle.std.specs.Prelude.{◌≤◌, [], ◌-◌, nat_lt, filter, if◌then◌else◌, option_map, slice_get, ◌≡◌, ℕ, ◌+◌, ◌==◌, ◌++◌, true, Ok, Err, Option, Some, None, List, length}
+use Rattle.std.specs.List.{AllByRecursion}
 use Rattle.opid.specs.declared.stamp.Stamp.{Stamp}
 use Rattle.opid.specs.declared.kind.OpKind.TheVariants.{Ins}
 use Rattle.opid.specs.Clocks.{raised}
@@ -10,27 +10,16 @@ use Rattle.opid.specs.Lawful.{IsLawful}
 use Rattle.rga_list.specs.Entries.{Entry}
 use Rattle.rga_list.specs.Listed.{listed}
 use Rattle.opid.specs.declared.refusal.Refusal.{Refusal}
-use Rattle.room.specs.declared.finding.Finding.{Finding}
-use Rattle.room.specs.declared.finding.Finding.TheVariants.{Refused, Accepted}
-use Rattle.room.specs.declared.session.Session.{Session}
+use Rattle.session_outbox.specs.declared.submission.Submission.TheVariants.{New}
+use Rattle.session_outbox.specs.Sessions.{Outbox}
 use Rattle.room.specs.declared.call.Call.{Call}
 use Rattle.room.specs.declared.reply.Reply.{Reply}
-use Rattle.room.specs.Machine.{State, check, found_answer, found_next}
-
--- the first session of this number stands here
-pub record IsPlaceOf (s : ℕ) (sessions : List Session) (i : ℕ) : Type 0 where
-  pub within : i < length sessions
-  pub here : HoldsAt (λ w. (w.number == s) ≡ true) sessions i
-  pub first : AllWithin (λ w. (w.number == s) ≡ false) sessions 0 i
-
--- no session has this number
-abbrev pub IsNoPlaceOf : ℕ → List Session → Type 0
-IsNoPlaceOf s sessions = All (λ w. (w.number == s) ≡ false) sessions
+use Rattle.room.specs.Machine.{State, Finding, check, found_answer, found_next}
 
 -- what the checks found, told by a refusal if there is one
 abbrev pub finding_of : Option Refusal → Finding
-finding_of None = Accepted
-finding_of (Some e) = Refused e
+finding_of None = Ok New
+finding_of (Some e) = Err e
 
 -- the log goes on with so many operations, unless they were refused
 abbrev pub GrowsUnless : Option Refusal → List Operation → List Operation → ℕ → List Operation → Type 0
@@ -38,14 +27,14 @@ GrowsUnless None old more n new = (new ≡ old ++ more) × (length new ≡ lengt
 GrowsUnless (Some e) old more n new = new ≡ old
 
 -- the state of these parts
-abbrev pub state_with : ℕ → List Operation → List Session → State
-state_with site log sessions = record { site = site; log = log; sessions = sessions; next_number = 0; count = 0 }
+abbrev pub state_with : ℕ → List Operation → Outbox → State
+state_with site log outbox = record { site = site; log = log; outbox = outbox; count = 0 }
 
 -- what is answered to an insertion, and the document and the sessions then
-pub record Inserts (site : ℕ) (log : List Operation) (sessions : List Session) (c : Call) (reply : Reply) (log' : List Operation) (sessions' : List Session) : Type 0 where
-  pub answered : reply ≡ found_answer (state_with site log sessions) c (check (state_with site log sessions) c)
-  pub grown : log' ≡ (found_next (state_with site log sessions) c (check (state_with site log sessions) c)).log
-  pub changed : sessions' ≡ (found_next (state_with site log sessions) c (check (state_with site log sessions) c)).sessions
+pub record Inserts (site : ℕ) (log : List Operation) (outbox : Outbox) (c : Call) (reply : Reply) (log' : List Operation) (outbox' : Outbox) : Type 0 where
+  pub answered : reply ≡ found_answer (state_with site log outbox) c (check (state_with site log outbox) c)
+  pub grown : log' ≡ (found_next (state_with site log outbox) c (check (state_with site log outbox) c)).log
+  pub changed : outbox' ≡ (found_next (state_with site log outbox) c (check (state_with site log outbox) c)).outbox
 
 -- of entries in the linked order, those whose elements are among the first so many
 abbrev pub in_version : ℕ → List Entry → List Entry

@@ -5,14 +5,12 @@ mod call;
 mod characters;
 mod desk;
 mod document;
-mod finding;
 mod listing;
 mod machine;
 mod owned;
 mod reply;
 mod reserved;
 mod room;
-mod session;
 
 pub use call::Call;
 pub use characters::Characters;

@@ -2,21 +2,17 @@
 ghost use Rattle.std.specs.Prelude.{◌≡◌, ◌+◌, ◌<◌, ◌≤◌, ◌==◌, ◌++◌, [], ◌∷◌, MatchOption, Some, None, IfOk, OnOk, OnErr, length, List};
 ghost use Rattle.opid.specs.Lawful.{IsLawful};
 ghost use Rattle.room.specs.declared.call.Call.TheVariants.{Join, Ins, Read};
-ghost use Rattle.room.specs.Machine.{check_submission};
-ghost use Rattle.room.specs.Parts.{IsPlaceOf, IsNoPlaceOf, Inserts};
+ghost use Rattle.room.specs.Machine.{check_text};
+ghost use Rattle.room.specs.Parts.{finding_of, Inserts};
 
 use crate::call::Call;
 use crate::characters::Characters;
 use crate::document::Document;
-use crate::finding::Finding;
 use crate::reply::Reply;
-use crate::session::Session;
 use opid::{Refusal, Site};
+use session_outbox::{Sessions, Submission};
 use std::alloc::{AllocError, Global};
 use std::marker::Model;
-
-/// At most so many sessions are there at one time.
-const MAX_SESSIONS: usize = 64;
 
 /// At most so many calls are recorded.
 const MAX_CALLS: u32 = 1_048_576;
@@ -24,36 +20,15 @@ const MAX_CALLS: u32 = 1_048_576;
 /// At most so many characters are put in by one call.
 const MAX_TEXT: usize = 64;
 
-/// Where the session with this number stands.
-fn place_of(sessions: &[Session], number: u32) -> Option<usize>
-    ensures { MatchOption result (IsNoPlaceOf number sessions.now) (IsPlaceOf number sessions.now) }
+/// What is wrong with a text that is to be put in.
+fn check_text(x: &Characters) -> Option<Refusal>
+    ensures { finding_of result ≡ check_text x.now }
 {
-    for (i, session) in sessions.iter().enumerate() {
-        if session.number == number {
-            return Some(i);
-        }
-    }
-    None
-}
-
-/// The checks of a submission that need no document, in their order: its number, its version, its text.
-fn check_of(session: Session, n: u32, v: u32, x: &Characters) -> Finding
-    ensures { result ≡ check_submission session n v x.now }
-{
-    if n == session.last && n > 0 {
-        return Finding::Repeated(session.start, session.end);
-    }
-    if n == 0 || n - 1 != session.last {
-        return Finding::Refused(Refusal::BadNumber);
-    }
-    if v < session.first || v > session.sent {
-        return Finding::Refused(Refusal::BadVersion);
-    }
     let length = x.len();
     if length == 0 || length > MAX_TEXT {
-        return Finding::Refused(Refusal::BadText);
+        return Some(Refusal::BadText);
     }
-    Finding::Accepted
+    None
 }
 
 /// Puts `x` in at place `k` of version `v`, as submission `n` of session `s` of this site.
@@ -61,7 +36,7 @@ fn check_of(session: Session, n: u32, v: u32, x: &Characters) -> Finding
 fn insert_for(
     alloc: Global,
     document: &mut Document,
-    sessions: &mut [Session],
+    outbox: &mut Sessions,
     site: Site,
     s: u32,
     n: u32,
@@ -69,18 +44,19 @@ fn insert_for(
     k: u32,
     x: &Characters,
 ) -> Result<Reply, AllocError>
-    ensures answered { IfOk result (λ reply. Inserts site document.old sessions.old (Ins s n v k x.now) reply document.new sessions.new) }
+    ensures answered { IfOk result (λ reply. Inserts site document.old outbox.old (Ins s n v k x.now) reply document.new outbox.new) }
+    ensures numbers { outbox.new.next_number ≡ outbox.old.next_number }
     ensures err_document { OnErr result (document.new ≡ document.old) }
-    ensures err_sessions { OnErr result (sessions.new ≡ sessions.old) }
+    ensures err_outbox { OnErr result (outbox.new ≡ outbox.old) }
 {
-    let Some(place) = place_of(sessions, s) else {
-        return Ok(Reply::No(Refusal::NoSession));
-    };
-    let session = sessions[place];
-    match check_of(session, n, v, x) {
-        Finding::Refused(e) => return Ok(Reply::No(e)),
-        Finding::Repeated(from, to) => return Ok(Reply::Ok { from, to }),
-        Finding::Accepted => {}
+    match outbox.check_submit(s, n, v) {
+        Err(e) => return Ok(Reply::No(e)),
+        Ok(Submission::Repeat(from, to)) => return Ok(Reply::Ok { from, to }),
+        Ok(Submission::New) => {}
+    }
+    match check_text(x) {
+        Some(e) => return Ok(Reply::No(e)),
+        None => {}
     }
     let from = document.len();
     match document.insert_at(alloc, site, v, k, x)? {
@@ -88,23 +64,17 @@ fn insert_for(
         None => {}
     }
     let to = document.len();
-    sessions[place] = Session {
-        last: n,
-        start: from,
-        end: to,
-        ..session
-    };
+    outbox.accept(s, from, to);
     Ok(Reply::Ok { from, to })
 }
 
-/// A site's document, its sessions in order of joining, the number of the next one, and how many calls count.
+/// A site's document, its sessions, and how many calls count.
 #[derive(Drop)]
 pub(crate) struct Machine {
     alloc: Global,
     site: Site,
     document: Document,
-    sessions: Vec<Session>,
-    next_number: u32,
+    outbox: Sessions,
     count: u32,
 }
 
@@ -114,9 +84,9 @@ impl Model for Machine {
 
     ghost Value = { State };
 
-    ghost view = { λ m. record { site = m.site; log = m.document; sessions = m.sessions.items; next_number = m.next_number; count = m.count } };
+    ghost view = { λ m. record { site = m.site; log = m.document; outbox = m.outbox; count = m.count } };
 
-    ghost invariant = { λ m. (m.count ≤ 1048576) × (m.next_number ≤ m.count + 1) };
+    ghost invariant = { λ m. (m.count ≤ 1048576) × (m.outbox.next_number ≤ m.count + 1) };
 }
 
 impl Machine {
@@ -132,8 +102,7 @@ impl Machine {
             alloc,
             site,
             document: Document::new(alloc),
-            sessions: Vec::new(alloc),
-            next_number: 1,
+            outbox: Sessions::new(alloc),
             count: 0,
         }
     }
@@ -174,24 +143,19 @@ impl Machine {
         ensures next { OnOk result (self.new ≡ next self.old Join) }
         ensures err { OnErr result (self.new ≡ self.old) }
     {
-        if self.sessions.len() >= MAX_SESSIONS {
-            self.count += 1;
-            return Ok(Reply::No(Refusal::TooManySessions));
-        }
-        let s = self.next_number;
         let v = self.document.len();
         let x = self.document.reading(self.alloc)?;
-        self.sessions.push(Session {
-            number: s,
-            first: v,
-            sent: v,
-            last: 0,
-            start: 0,
-            end: 0,
-        })?;
-        self.next_number += 1;
-        self.count += 1;
-        Ok(Reply::Joined { s, v, x })
+        match self.outbox.join(v) {
+            Ok(s) => {
+                self.count += 1;
+                Ok(Reply::Joined { s, v, x })
+            }
+            Err(Refusal::TooManySessions) => {
+                self.count += 1;
+                Ok(Reply::No(Refusal::TooManySessions))
+            }
+            Err(_) => Err(AllocError),
+        }
     }
 
     fn insert(
@@ -210,7 +174,7 @@ impl Machine {
         let reply = insert_for(
             self.alloc,
             &mut self.document,
-            &mut self.sessions,
+            &mut self.outbox,
             self.site,
             s,
             n,
