@@ -1,0 +1,49 @@
+//! The text of a version.
+ghost use Rattle.std.specs.Prelude.{◌≡◌, encode_utf8_all, string_bytes, length};
+ghost use Rattle.std.specs.Str.{chars};
+
+use std::marker::Model;
+
+/// A text, seen by contracts as the list of its characters (Unicode scalar values).
+#[derive(Debug, Drop)]
+pub struct Characters {
+    text: String,
+}
+
+impl Model for Characters {
+    ghost use Rattle.std.specs.Prelude.{ℕ, List, string_bytes};
+    ghost use Rattle.std.specs.Str.{chars};
+
+    ghost Value = { List ℕ };
+
+    ghost view = { λ c. chars (string_bytes c.text) };
+}
+
+impl Characters {
+    /// The characters of a text. Takes no memory.
+    pub fn new(text: String) -> Self
+        ensures { result ≡ chars (string_bytes text) }
+    {
+        Characters { text }
+    }
+
+    /// How many characters there are. Linear in the length.
+    pub fn len(&self) -> usize
+        ensures { result ≡ length self.now }
+    {
+        count_of(self.text.as_str())
+    }
+
+    /// The characters in UTF-8.
+    pub fn as_str(&self) -> &str
+        ensures { result.now ≡ encode_utf8_all self.now }
+    {
+        self.text.as_str()
+    }
+}
+
+fn count_of(text: &str) -> usize
+    ensures { result ≡ length (chars text.now) }
+{
+    text.chars().count()
+}

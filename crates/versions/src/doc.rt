@@ -1,0 +1,206 @@
+//! A document and its versions.
+ghost use Rattle.std.specs.Prelude.{◌≡◌, ◌≤◌, ◌<◌, ◌+◌, ◌-◌, ◌⊎◌, ◌++◌, ◌==◌, ℕ, [], ◌∷◌, Some, None, true, List, length, max, slice_get, option_map, take, sum, IfOk, IfErr, OnOk, OnErr, IsErr, vec_len, vec_capacity};
+ghost use Rattle.opid.specs.declared.refusal.Refusal.TheVariants.{BadVersion, Memory};
+ghost use Rattle.opid.specs.Operations.{Operation};
+ghost use Rattle.opid.specs.Delivery.{clock_of, is_ready};
+ghost use Rattle.opid.specs.Reading.{visible_at, reading, reading_at};
+ghost use Rattle.opid.specs.Lawful.{IsLawful, IsRisingAt};
+ghost use Rattle.opid.specs.Splice.{apply};
+ghost use Rattle.opid.specs.Edits.{edit_after, edits};
+ghost use Rattle.causal_clock.specs.Kinds.{IsOperation};
+ghost use Rattle.versions.specs.Causes.{refusal_of};
+ghost use Rattle.versions.specs.Sums.{last_sum};
+
+use crate::characters::Characters;
+use crate::integrate::{MAX_OPERATIONS, SITES, integrate, refusal_of};
+use crate::life::Life;
+use crate::reserved::{make_room, reserve_each};
+use crate::scan::{count_in, stamp_in, text_in};
+use causal_clock::{Clock, Op};
+use opid::{Edit, Refusal, Site, Stamp};
+use rga_list::Rga;
+use std::alloc::Global;
+use std::marker::Model;
+
+/// A lawful log of at most 131,072 operations, every version of which can be read: version n is what its first n
+/// operations make. A place counts characters (Unicode scalar values) from 0.
+#[derive(Drop)]
+pub struct Doc {
+    ops: Vec<Op>,
+    edits: Vec<Edit>,
+    lives: Vec<Life>,
+    clock: Clock,
+    sums: [u32; SITES],
+    list: Rga,
+    room: usize,
+    alloc: Global,
+}
+
+impl Model for Doc {
+    ghost use Rattle.std.specs.Prelude.{vec_len, vec_capacity};
+    ghost use Rattle.versions.specs.Contents.{Contents};
+
+    ghost Value = { Contents };
+
+    ghost use Rattle.versions.specs.Kept.{IsDocument, AreReserved};
+
+    ghost view = { λ d. record { log = d.ops.items; room = d.room } };
+
+    ghost invariant = { λ d. IsDocument d.ops.items d.edits.items d.lives.items d.clock d.sums d.list.entries
+        × AreReserved (vec_len d.ops) (vec_capacity d.ops) (vec_len d.edits) (vec_capacity d.edits) (vec_len d.lives) (vec_capacity d.lives) d.list.room d.room };
+}
+
+impl Doc {
+    /// The document of no operations. Takes no memory.
+    pub fn new(alloc: Global) -> Doc
+        ensures { result ≡ record { log = []; room = 0 } }
+    {
+        Doc {
+            ops: Vec::new(alloc),
+            edits: Vec::new(alloc),
+            lives: Vec::new(alloc),
+            clock: Clock::zero(),
+            sums: [0; SITES],
+            list: Rga::new(alloc),
+            room: 0,
+            alloc,
+        }
+    }
+
+    /// The newest version: how many operations there are. Constant time.
+    pub fn version(&self) -> u32
+        ensures value { result ≡ length self.now.log }
+        ensures within { length self.now.log ≤ MAX_OPERATIONS }
+        ensures lawful { IsLawful self.now.log }
+    {
+        self.ops.len() as u32
+    }
+
+    /// How many operations of each site there are. Constant time.
+    pub fn clock(&self) -> Clock
+        ensures { result ≡ clock_of self.now.log }
+    {
+        self.clock
+    }
+
+    /// The operation that made version `i + 1` of version `i`. Constant time.
+    pub fn op(&self, i: u32) -> Op
+        requires { i < length self.now.log }
+        ensures value { slice_get self.now.log i ≡ Some result }
+    {
+        self.ops[i as usize]
+    }
+
+    /// The sum of the site's last operation, 0 where there is none. Constant time.
+    pub fn last_sum(&self, site: Site) -> u32
+        ensures value { result ≡ last_sum self.now.log site }
+
+        // An operation of the site with a greater sum is rising.
+        ensures rising { (x : Operation) → x.site ≡ site → result < sum x.clock → IsRisingAt self.now.log x }
+    {
+        self.sums[usize::from(site.number())]
+    }
+
+    /// Reserves memory for the next `n` operations, so that they aren't refused with `Memory`: for each some 200
+    /// bytes, and what the linked order keeps for an insertion by any of 32 sites. Refused with `Memory`.
+    pub fn reserve(&mut self, n: usize) -> Result<(), Refusal>
+        ensures ok { OnOk result (self.new ≡ record self.old { room = max self.old.room n }) }
+        ensures err { OnErr result (self.new ≡ self.old) }
+        ensures memory { IfErr result (λ e. e ≡ Memory) }
+    {
+        reserve_each(
+            &mut self.ops,
+            &mut self.edits,
+            &mut self.lives,
+            &mut self.list,
+            n,
+        )?;
+        self.room = self.room.max(n);
+        Ok(())
+    }
+
+    /// Adds an operation to the log, and gives its edit: what it does to the text. Takes the steps of one in the
+    /// linked order, and one for each element before it.
+    ///
+    /// Refused, in this order: `Full` with 131,072 operations, `UnknownElement` where the parent or target is no
+    /// element, `NotOlder` where the parent's stamp isn't smaller, `Memory` only where nothing is reserved.
+    pub fn integrate(&mut self, op: &Op) -> Result<Edit, Refusal>
+        requires ready { is_ready self.old.log op.now ≡ true }
+        requires rising { IsRisingAt self.old.log op.now }
+        ensures grown { OnOk result (self.new ≡ record { log = self.old.log ++ op.now ∷ []; room = self.old.room - 1 }) }
+        ensures edit { IfOk result (λ edit. edit ≡ edit_after self.old.log op.now) }
+
+        // The edit leads from what was read before to what is read then.
+        ensures leads { IfOk result (λ edit. apply (reading self.old.log) edit ≡ Some (reading self.new.log)) }
+
+        // Each cause, and only then; on a refusal the document is as before.
+        ensures ok { OnOk result (refusal_of self.old.log op.now ≡ None) }
+        ensures cause { IfErr result (λ e. (refusal_of self.old.log op.now ≡ Some e)
+            ⊎ ((refusal_of self.old.log op.now ≡ None) × (e ≡ Memory) × (self.old.room ≡ 0))) }
+        ensures err { OnErr result (self.new ≡ self.old) }
+    {
+        if let Some(refusal) = refusal_of(self.ops.as_slice(), &self.list, op) {
+            return Err(refusal);
+        }
+        make_room(
+            &mut self.ops,
+            &mut self.edits,
+            &mut self.lives,
+            &mut self.list,
+            self.room,
+        )?;
+        let edit = integrate(
+            &mut self.ops,
+            &mut self.edits,
+            &mut self.lives,
+            &mut self.clock,
+            &mut self.sums,
+            &mut self.list,
+            *op,
+        );
+        self.room = self.room.saturating_sub(1);
+        Ok(edit)
+    }
+
+    /// The edit of the operation that made version `n`: what it did to the text of version `n - 1`. Constant time.
+    pub fn edit(&self, n: u32) -> Edit
+        requires first { 1 ≤ n }
+        requires last { n ≤ length self.now.log }
+        ensures value { slice_get (edits self.now.log) (n - 1) ≡ Some result }
+        ensures after { (x : Operation) → slice_get self.now.log (n - 1) ≡ Some x → result ≡ edit_after (take (n - 1) self.now.log) x }
+    {
+        self.edits[n as usize - 1]
+    }
+
+    /// How many characters there are in the version. Takes a step for each element.
+    pub fn len_at(&self, version: u32) -> usize
+        requires { version ≤ length self.now.log }
+        ensures { result ≡ length (visible_at self.now.log version) }
+    {
+        count_in(&self.list, self.lives.as_slice(), version)
+    }
+
+    /// The stamp of the element at the place in the version, if that is so long. Takes a step for each element
+    /// before it.
+    pub fn element_at(&self, version: u32, place: usize) -> Option<Stamp>
+        requires { version ≤ length self.now.log }
+        ensures { result ≡ option_map (λ x. x.stamp) (slice_get (visible_at self.now.log version) place) }
+    {
+        stamp_in(&self.list, self.lives.as_slice(), version, place)
+    }
+
+    /// The text of the version. Takes a step for each element. Refused with `BadVersion` above the newest, and
+    /// with `Memory`.
+    pub fn reading(&self, version: u32) -> Result<Characters, Refusal>
+        ensures ok { IfOk result (λ text. text ≡ reading_at self.now.log version) }
+        ensures known { OnOk result (version ≤ length self.now.log) }
+        ensures cause { IfErr result (λ e. ((e ≡ BadVersion) × (length self.now.log < version)) ⊎ ((e ≡ Memory) × (version ≤ length self.now.log))) }
+    {
+        if version as usize > self.ops.len() {
+            return Err(Refusal::BadVersion);
+        }
+        let text = text_in(self.alloc, &self.list, self.lives.as_slice(), version)?;
+        let _ = text.as_str();
+        Ok(Characters::new(text))
+    }
+}
