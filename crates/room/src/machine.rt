@@ -1,5 +1,5 @@
 //! The room as a sequential machine: its document and its sessions, without its history.
-ghost use Rattle.std.specs.Prelude.{◌≡◌, ◌+◌, ◌<◌, ◌≤◌, ◌==◌, ◌++◌, [], ◌∷◌, MatchOption, Some, None, IfOk, OnOk, OnErr, length, List};
+ghost use Rattle.std.specs.Prelude.{◌≡◌, ◌+◌, ◌<◌, ◌≤◌, IfOk, OnOk, OnErr};
 ghost use Rattle.opid.specs.Lawful.{IsLawful};
 ghost use Rattle.room.specs.declared.call.Call.TheVariants.{Join, Ins, Read};
 ghost use Rattle.room.specs.Machine.{check_text};
