@@ -2,6 +2,7 @@
 ghost use Rattle.std.specs.Prelude.{◌≡◌, encode_utf8_all, string_bytes, length};
 ghost use Rattle.std.specs.Str.{chars};
 
+use std::alloc::AllocError;
 use std::marker::Model;
 
 /// A text, seen by contracts as the list of its characters (Unicode scalar values).
@@ -17,6 +18,16 @@ impl Model for Characters {
     ghost Value = { List ℕ };
 
     ghost view = { λ c. chars (string_bytes c.text) };
+}
+
+impl Clone for Characters {
+    ghost is_clone = { λ s t. t ≡ s };
+
+    fn clone(&self) -> Result<Characters, AllocError> {
+        Ok(Characters {
+            text: self.text.clone()?,
+        })
+    }
 }
 
 impl Characters {
@@ -36,7 +47,8 @@ impl Characters {
 
     /// The characters in UTF-8.
     pub fn as_str(&self) -> &str
-        ensures { result.now ≡ encode_utf8_all self.now }
+        ensures bytes { result.now ≡ encode_utf8_all self.now }
+        ensures value { chars result.now ≡ self.now }
     {
         self.text.as_str()
     }

@@ -12,3 +12,8 @@ mod scan;
 
 pub use characters::Characters;
 pub use doc::Doc;
+
+#[cfg(test)]
+mod plain;
+#[cfg(test)]
+mod tests;

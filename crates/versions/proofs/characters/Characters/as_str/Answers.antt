@@ -1,7 +1,11 @@
 -- Text is UTF-8, so the encoding of its characters is the text again.
 use Rattle.std.proofs.Common.{◌∙◌, ap, sym, encode_utf8_all}
+use Rattle.std.specs.Str.{chars}
 use Rattle.std.proofs.lemmas.Str.{encodes-chars}
 use Rattle.versions.proofs.characters.Characters.as_str.Goals as goal
 
-pub returns : goal.returns
-returns c = sym (ap encode_utf8_all (sym c.self.view_is) ∙ rw (← c.as_str.ensures.value) (encodes-chars _ c.as_str.utf8))
+pub returns-clause-bytes : goal.returns-clause-bytes
+returns-clause-bytes c = sym (ap encode_utf8_all (sym c.self.view_is) ∙ rw (← c.as_str.ensures.value) (encodes-chars _ c.as_str.utf8))
+
+pub returns-clause-value : goal.returns-clause-value
+returns-clause-value c = ap chars c.as_str.ensures.value ∙ c.self.view_is

@@ -1,0 +1,100 @@
+//! Insertions at a place of a version.
+ghost use Rattle.std.specs.Prelude.{◌≡◌, ◌≤◌, ◌<◌, ◌+◌, ◌++◌, ◌⊎◌, Some, None, length, sum, IfOk, IfErr, OnOk, MatchOption, vec_len};
+ghost use Rattle.std.specs.Str.{chars};
+ghost use Rattle.opid.specs.declared.refusal.Refusal.TheVariants.{Memory};
+ghost use Rattle.opid.specs.Reading.{visible_at};
+ghost use Rattle.opid.specs.Lawful.{IsLawful};
+ghost use Rattle.opid.specs.Asked.{parent_at, insertion_run, asked_insertions, IsPlaced};
+ghost use Rattle.position_translate.specs.Causes.{insertion_refusal};
+
+use crate::next::{MAX_COUNT, MAX_OPERATIONS, next_op};
+use causal_clock::{Clock, Op};
+use opid::{OpKind, Refusal, Site, Stamp};
+use std::alloc::{AllocError, Global};
+use versions::Doc;
+
+/// The operations by which the site puts the text in at the place of the version: one insertion for each character,
+/// the first behind the element before the place, each next one behind the one before it. They stand behind the
+/// newest version, however old the version is that was named. A place counts characters (Unicode scalar values).
+/// Takes the steps of `Doc::element_at` once, and one for each character.
+///
+/// Refused, in this order: `BadVersion` above the newest version, `BadText` where the text has no character or more
+/// than 64, `BadPlace` where the place is above the version's length, `Full` where the log would exceed 131,072
+/// operations, `Memory`. (Roh and others 2011.)
+pub fn insert_ops(
+    alloc: Global,
+    doc: &Doc,
+    site: Site,
+    version: u32,
+    place: u32,
+    text: &str,
+) -> Result<Vec<Op>, Refusal>
+    ensures ok { IfOk result (λ ops. ops.items ≡ asked_insertions doc.now.log site version place (chars text.now)) }
+    ensures accepted { OnOk result (insertion_refusal doc.now.log version place (chars text.now) ≡ None) }
+    ensures counted { IfOk result (λ ops. vec_len ops ≡ length (chars text.now)) }
+    ensures fits { IfOk result (λ ops. length doc.now.log + vec_len ops ≤ MAX_OPERATIONS) }
+    ensures lawful { IfOk result (λ ops. IsLawful (doc.now.log ++ ops.items)) }
+    ensures placed { IfOk result (λ ops. IsPlaced doc.now.log version place ops.items) }
+    ensures cause { IfErr result (λ e. (insertion_refusal doc.now.log version place (chars text.now) ≡ Some e)
+        ⊎ ((insertion_refusal doc.now.log version place (chars text.now) ≡ None) × (e ≡ Memory))) }
+{
+    // A site's number is below 32.
+    let _ = site.number();
+    if version > doc.version() {
+        return Err(Refusal::BadVersion);
+    }
+    let count = count_of(text);
+    if count == 0 || count > MAX_COUNT {
+        return Err(Refusal::BadText);
+    }
+    let Some(parent) = parent_in(doc, version, place) else {
+        return Err(Refusal::BadPlace);
+    };
+    if count > MAX_OPERATIONS - doc.version() as usize {
+        return Err(Refusal::Full);
+    }
+    Ok(run(alloc, site, doc.clock(), parent, text)?)
+}
+
+/// How many characters the text has.
+fn count_of(text: &str) -> usize
+    ensures { result ≡ length (chars text.now) }
+{
+    text.chars().count()
+}
+
+/// The parent of what is put in at the place of the version: none for the head. `None` where the version is shorter.
+fn parent_in(doc: &Doc, version: u32, place: u32) -> Option<Option<Stamp>>
+    requires { version ≤ length doc.now.log }
+    ensures { MatchOption result (length (visible_at doc.now.log version) < place)
+        (λ parent. (place ≤ length (visible_at doc.now.log version)) × (parent ≡ parent_at doc.now.log version place)) }
+{
+    if place == 0 {
+        return Some(None);
+    }
+    let before = doc.element_at(version, place as usize - 1)?;
+    Some(Some(before))
+}
+
+/// Insertions of a site, one for each character: the first behind the parent, each next one behind the one before.
+fn run(
+    alloc: Global,
+    site: Site,
+    clock: Clock,
+    parent: Option<Stamp>,
+    text: &str,
+) -> Result<Vec<Op>, AllocError>
+    requires { sum clock + length (chars text.now) ≤ MAX_OPERATIONS }
+    ensures { IfOk result (λ ops. ops.items ≡ insertion_run site clock parent (chars text.now)) }
+{
+    let mut ops = Vec::with_capacity(alloc, count_of(text))?;
+    let mut clock = clock;
+    let mut parent = parent;
+    for ch in text.chars() {
+        let op = next_op(&clock, site, OpKind::Ins { parent, ch });
+        clock = op.clock();
+        parent = Some(op.stamp());
+        ops.push(op)?;
+    }
+    Ok(ops)
+}

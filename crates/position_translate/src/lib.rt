@@ -1,0 +1,13 @@
+//! From places to operations: what a site asks for that puts characters in at a place of a version, or deletes
+//! them there, as operations behind the whole log (Roh and others 2011; Attiya and others 2016).
+#![tactic(auto)]
+
+mod deletions;
+mod insertions;
+mod next;
+
+pub use deletions::delete_ops;
+pub use insertions::insert_ops;
+
+#[cfg(test)]
+mod tests;
