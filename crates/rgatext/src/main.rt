@@ -3,6 +3,8 @@
 #![tactic(auto)]
 
 mod command_line;
+#[cfg(test)]
+mod conversations;
 mod counted;
 mod engine;
 mod fixed;

@@ -1,10 +1,7 @@
-//! The program over worked conversations; the engine over a small desk, and over readers and writers that give little
-//! at a time, or fail.
+//! The engine over a small desk, and over readers and writers that give little at a time, or fail.
 use crate::counted::Counted;
 use crate::engine::{ServeFault, serve_lines};
-use crate::plan::Plan;
-use crate::play::play;
-use opid::{Refusal, Site};
+use opid::Refusal;
 use room::{Call, Characters, Desk, DeskFault, Reply};
 use std::alloc::Global;
 use std::io::{Error, ErrorKind, Read, Result, Write};
@@ -51,13 +48,7 @@ impl Desk for Tally {
                     Err(_) => Ok(Reply::No(Refusal::Memory)),
                 }
             }
-            Call::Ins {
-                s: _,
-                n: _,
-                v: _,
-                k: _,
-                x: _,
-            } => Err(DeskFault::Memory),
+            _ => Err(DeskFault::Memory),
         }
     }
 }
@@ -319,99 +310,6 @@ fn tells_a_write_fault(rt: HostRuntime) {
         assert_eq!(rt; told.writer.taken.as_slice(), &JOINED[..37]);
         assert_eq!(rt; told.failed, (0, 1));
     }
-}
-
-// What `rgatext lines` answers to the input, in a room of site 0.
-fn answers(alloc: Global, requests: &[u8]) -> std::result::Result<Vec<u8>, Fail> {
-    let plan = Plan::Lines {
-        site: Site::new(0)?,
-    };
-    let mut input = Counted::new(requests);
-    let mut output = Counted::new(Vec::new(alloc));
-    match play(alloc, &plan, &mut input, &mut output) {
-        Ok(()) => Ok(output.into_inner()),
-        Err(stop) => Err(Fail::new(stop)),
-    }
-}
-
-#[test]
-fn a_repeat_is_not_done_twice(rt: HostRuntime) -> std::result::Result<(), Fail> {
-    let requests = b"{\"t\":\"join\"}
-{\"t\":\"ins\",\"s\":1,\"n\":1,\"v\":0,\"k\":0,\"x\":\"H\"}
-{\"t\":\"read\"}
-{\"t\":\"ins\",\"s\":1,\"n\":1,\"v\":0,\"k\":0,\"x\":\"H\"}
-{\"t\":\"ins\",\"s\":1,\"n\":2,\"v\":1,\"k\":0,\"x\":\"H\"}
-{\"t\":\"read\"}
-";
-    let want = b"{\"r\":\"joined\",\"s\":1,\"v\":0,\"x\":\"\"}
-{\"from\":0,\"r\":\"ok\",\"to\":1}
-{\"r\":\"text\",\"v\":1,\"x\":\"H\"}
-{\"from\":0,\"r\":\"ok\",\"to\":1}
-{\"n\":8,\"r\":\"no\"}
-{\"r\":\"text\",\"v\":1,\"x\":\"H\"}
-";
-    assert_eq!(rt; answers(rt.alloc(), requests)?.as_slice(), want.as_slice());
-    Ok(())
-}
-
-#[test]
-fn the_later_of_two_stands_first(rt: HostRuntime) -> std::result::Result<(), Fail> {
-    let requests = b"{\"t\":\"join\"}
-{\"t\":\"join\"}
-{\"t\":\"ins\",\"s\":1,\"n\":1,\"v\":0,\"k\":0,\"x\":\"A\"}
-{\"t\":\"ins\",\"s\":2,\"n\":1,\"v\":0,\"k\":0,\"x\":\"B\"}
-{\"t\":\"read\"}
-";
-    let want = b"{\"r\":\"joined\",\"s\":1,\"v\":0,\"x\":\"\"}
-{\"r\":\"joined\",\"s\":2,\"v\":0,\"x\":\"\"}
-{\"from\":0,\"r\":\"ok\",\"to\":1}
-{\"from\":1,\"r\":\"ok\",\"to\":2}
-{\"r\":\"text\",\"v\":2,\"x\":\"BA\"}
-";
-    assert_eq!(rt; answers(rt.alloc(), requests)?.as_slice(), want.as_slice());
-    Ok(())
-}
-
-#[test]
-fn bad_lines_are_refused_by_number(rt: HostRuntime) -> std::result::Result<(), Fail> {
-    let requests = b"
-{\"t\":\"jo
-[]
-{}
-{\"t\":\"join\",\"z\":1}
-{\"t\":\"dance\"}
-{\"t\":\"read\"}
-";
-    let want = b"{\"n\":1,\"r\":\"no\"}
-{\"n\":1,\"r\":\"no\"}
-{\"n\":2,\"r\":\"no\"}
-{\"n\":2,\"r\":\"no\"}
-{\"n\":2,\"r\":\"no\"}
-{\"n\":3,\"r\":\"no\"}
-{\"r\":\"text\",\"v\":0,\"x\":\"\"}
-";
-    assert_eq!(rt; answers(rt.alloc(), requests)?.as_slice(), want.as_slice());
-    Ok(())
-}
-
-#[test]
-fn a_line_of_65536_bytes_is_the_longest(rt: HostRuntime) -> std::result::Result<(), Fail> {
-    for (spaces, want) in [
-        (
-            65_524,
-            b"{\"r\":\"joined\",\"s\":1,\"v\":0,\"x\":\"\"}\n{\"r\":\"joined\",\"s\":2,\"v\":0,\"x\":\"\"}\n".as_slice(),
-        ),
-        (
-            65_525,
-            b"{\"n\":29,\"r\":\"no\"}\n{\"r\":\"joined\",\"s\":1,\"v\":0,\"x\":\"\"}\n".as_slice(),
-        ),
-    ] {
-        let mut requests = b"{\"t\":\"join\"}".to_vec(rt.alloc())?;
-        requests.resize(12 + spaces, b' ')?;
-        requests.extend_from_slice(b"\n{\"t\":\"join\"}\n")?;
-        assert_eq!(rt; answers(rt.alloc(), &requests)?.as_slice(), want);
-    }
-    Ok(())
 }
 
 // Run with each allocation failing in turn, it shows that each line is answered right or by 26, or the engine ends.

@@ -1,5 +1,9 @@
-pub mod Inserting
 pub mod Histories
 pub mod Accepted
-pub mod Ways
-pub mod Documents
+pub mod Submitted
+pub mod Replied
+pub mod Playing
+pub mod Running
+pub mod Converging
+pub mod KeepingUp
+pub mod Edited

@@ -2,8 +2,8 @@
 
 ghost use Rattle.std.specs.Prelude.{◌≡◌};
 
-use crate::characters::Characters;
 use std::alloc::AllocError;
+use versions::Characters;
 
 /// A call. A place counts characters (Unicode scalar values).
 #[derive(Debug, Drop)]
@@ -17,6 +17,24 @@ pub enum Call {
         v: u32,
         k: u32,
         x: Characters,
+    },
+    /// Session `s`, as its submission number `n`, deletes `c` characters from place `k` of version `v` on.
+    Del {
+        s: u32,
+        n: u32,
+        v: u32,
+        k: u32,
+        c: u32,
+    },
+    /// Session `s`, which has version `have`, asks for the edits since, at most `max` of them.
+    Pull {
+        s: u32,
+        have: u32,
+        max: u32,
+    },
+    /// Ends session `s`.
+    Leave {
+        s: u32,
     },
     /// Asks for the newest version and its text.
     Read,
@@ -35,6 +53,19 @@ impl Clone for Call {
                 k: *k,
                 x: x.clone()?,
             },
+            Call::Del { s, n, v, k, c } => Call::Del {
+                s: *s,
+                n: *n,
+                v: *v,
+                k: *k,
+                c: *c,
+            },
+            Call::Pull { s, have, max } => Call::Pull {
+                s: *s,
+                have: *have,
+                max: *max,
+            },
+            Call::Leave { s } => Call::Leave { s: *s },
             Call::Read => Call::Read,
         })
     }

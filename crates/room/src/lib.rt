@@ -2,22 +2,27 @@
 #![tactic(auto)]
 
 mod call;
-mod characters;
+mod calls;
 mod desk;
-mod document;
-mod listing;
+mod editor;
+mod edits;
 mod machine;
 mod owned;
 mod reply;
 mod reserved;
 mod room;
+mod submissions;
 
 pub use call::Call;
-pub use characters::Characters;
 pub use desk::{Desk, DeskFault};
+pub use editor::Editor;
+pub use edits::Edits;
 pub use owned::RoomDesk;
 pub use reply::Reply;
 pub use room::Room;
+pub use versions::Characters;
 
+#[cfg(test)]
+mod followed;
 #[cfg(test)]
 mod tests;

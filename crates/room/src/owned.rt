@@ -23,6 +23,13 @@ impl RoomDesk {
         RoomDesk { room }
     }
 
+    /// The room, lent. Constant time.
+    pub fn room(&self) -> &Room
+        ensures { result.now ≡ self.now.room }
+    {
+        &self.room
+    }
+
     /// The room again.
     pub fn into_room(self) -> Room
         ensures { result ≡ self.room }

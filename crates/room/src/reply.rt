@@ -1,7 +1,8 @@
 //! What a room answers.
 
-use crate::characters::Characters;
+use crate::edits::Edits;
 use opid::Refusal;
+use versions::Characters;
 
 /// The answer to a call.
 #[derive(Debug, Drop)]
@@ -10,6 +11,10 @@ pub enum Reply {
     Joined { s: u32, v: u32, x: Characters },
     /// The submission's operations lead from version `from` to version `to`.
     Ok { from: u32, to: u32 },
+    /// The edits that lead on from version `from`, one for each version.
+    Edits { from: u32, es: Edits },
+    /// The session was ended.
+    Left,
     /// The newest version is `v`, and reads `x`.
     Text { v: u32, x: Characters },
     /// The call was refused and changed nothing.

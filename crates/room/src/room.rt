@@ -9,6 +9,7 @@ use crate::reserved::push_reserved;
 use opid::{Refusal, Site};
 use std::alloc::{AllocError, Global};
 use std::marker::Model;
+use versions::Doc;
 
 /// One document with its sessions, seen as the state that it was opened with, the calls that it recorded, and its
 /// state now, which is that of these calls one after another.
@@ -35,6 +36,7 @@ impl Model for Room {
 impl Room {
     ghost use Rattle.room.specs.Machine.{State, empty_room, answer};
     ghost use Rattle.room.specs.History.{state_of, mark, IsLegal, called, ran, Runs, PlacesInsertion};
+    ghost use Rattle.room.specs.Convergence.{EditorsConverge, EditorsKeepUp};
 
     /// The room of a site with an empty document. Takes no memory.
     pub fn new(alloc: Global, site: Site) -> Room
@@ -53,9 +55,20 @@ impl Room {
         ensures legal { IsLegal self.now.history }
         ensures replays { state_of self.now.opening self.now.history ≡ self.now.state }
         ensures lawful { IsLawful self.now.state.log }
+
+        // What editors make of the replies of their sessions is what the room reads.
+        ensures editors_converge { EditorsConverge self.now }
+        ensures editors_keep_up { EditorsKeepUp self.now }
     {
         let _ = self.machine.may_record();
         &self.history
+    }
+
+    /// The document: its log, and each version's text. Constant time.
+    pub fn doc(&self) -> &Doc
+        ensures { result.now.log ≡ self.now.state.log }
+    {
+        self.machine.doc()
     }
 
     /// The least ticket that may follow: the last recorded one plus one, or 0. Constant time.
@@ -77,13 +90,30 @@ impl Room {
         ensures err { OnErr result (self.new ≡ self.old) }
         ensures lawful { IsLawful self.new.state.log }
         ensures placed { PlacesInsertion self.old.state call }
+
+        // What editors make of the replies of their sessions is what the room reads.
+        ensures editors_converge { EditorsConverge self.new }
+        ensures editors_keep_up { EditorsKeepUp self.new }
+    {
+        let result = self.record(ticket, call);
+        let _ = self.history();
+        result
+    }
+
+    /// Answers a call and records it, as `call` tells.
+    fn record(&mut self, ticket: u64, call: Call) -> Result<Reply, AllocError>
+        requires least { mark self.old.history ≤ ticket }
+        requires most { ticket < 2 ^ 62 }
+        ensures answered { IfOk result (λ reply. reply ≡ answer self.old.state call) }
+        ensures called { OnOk result (self.new ≡ called self.old ticket call) }
+        ensures err { OnErr result (self.new ≡ self.old) }
+        ensures placed { PlacesInsertion self.old.state call }
     {
         if !self.machine.may_record() {
             return Ok(Reply::No(Refusal::HistoryFull));
         }
         self.history.reserve(1)?;
         let reply = self.machine.answer(&call)?;
-        let _ = self.machine.may_record();
         self.mark = ticket + 1;
         push_reserved(&mut self.history, (ticket, call));
         Ok(reply)
@@ -92,6 +122,18 @@ impl Room {
     /// Answers calls one after another, under tickets from `mark()` on. After an error, which is for want of memory,
     /// the replies are those of a beginning of the calls, and the room is where these leave it.
     pub fn run(&mut self, calls: &[Call], replies: &mut Vec<Reply>) -> Result<(), AllocError>
+        requires { mark self.old.history ≤ 2 ^ 61 }
+        ensures runs { Runs self.old calls.now replies.old.items result replies.new.items self.new }
+        ensures editors_converge { EditorsConverge self.new }
+        ensures editors_keep_up { EditorsKeepUp self.new }
+    {
+        let result = self.answer_each(calls, replies);
+        let _ = self.history();
+        result
+    }
+
+    /// Answers calls one after another, as `run` tells.
+    fn answer_each(&mut self, calls: &[Call], replies: &mut Vec<Reply>) -> Result<(), AllocError>
         requires { mark self.old.history ≤ 2 ^ 61 }
         ensures { Runs self.old calls.now replies.old.items result replies.new.items self.new }
     {

@@ -2,7 +2,7 @@
 ghost use Rattle.std.specs.Prelude.{◌≡◌, [], IfOk};
 
 use crate::{Call, Characters, Desk, Reply, Room, RoomDesk};
-use opid::{Refusal, Site};
+use opid::{Edit, Refusal, Site};
 use std::alloc::Global;
 use std::test::Fail;
 
@@ -107,5 +107,45 @@ fn a_65th_session_is_refused(rt: HostRuntime) -> Result<(), Fail> {
         assert!(rt; !is_refused(&desk.call(Call::Join)?, Refusal::TooManySessions));
     }
     assert!(rt; is_refused(&desk.call(Call::Join)?, Refusal::TooManySessions));
+    Ok(())
+}
+
+fn pull(s: u32, have: u32) -> Call {
+    Call::Pull { s, have, max: 64 }
+}
+
+fn has_edits(reply: Reply, version: u32, edits: &[Edit]) -> bool {
+    match reply {
+        Reply::Edits { from, es } => from == version && es.into_vec().as_slice() == edits,
+        _ => false,
+    }
+}
+
+#[test]
+fn a_pull_tells_the_edits(rt: HostRuntime) -> Result<(), Fail> {
+    let mut desk = RoomDesk::new(room(rt.alloc())?);
+    let _ = desk.call(Call::Join)?;
+    let _ = desk.call(insertion(rt.alloc(), 1, 1, 0, "a")?)?;
+    assert!(rt; is_refused(&desk.call(pull(1, 1))?, Refusal::BadHave));
+    let _ = desk.call(pull(1, 0))?;
+    let _ = desk.call(Call::Del {
+        s: 1,
+        n: 2,
+        v: 1,
+        k: 0,
+        c: 1,
+    })?;
+    let reply = desk.call(pull(1, 0))?;
+    assert!(rt; has_edits(reply, 0, &[Edit::Ins(0, 'a'), Edit::Del(0)]));
+    Ok(())
+}
+
+#[test]
+fn a_session_leaves_once(rt: HostRuntime) -> Result<(), Fail> {
+    let mut desk = RoomDesk::new(room(rt.alloc())?);
+    let _ = desk.call(Call::Join)?;
+    let leave = Call::Leave { s: 1 };
+    assert!(rt; matches!(&desk.call(leave.clone()?)?, Reply::Left));
+    assert!(rt; is_refused(&desk.call(leave)?, Refusal::NoSession));
     Ok(())
 }

@@ -1,3 +1,3 @@
 -- The lemmas of this crate.
-mod Numbered
+pub mod Numbered
 mod Entries

@@ -1,23 +1,27 @@
 -- The texts of replies, by serde_json's words.
-use Rattle.std.proofs.Common.{◌≡◌, ◌<◌, ◌≤◌, ◌^◌, ◌==◌, ℕ, List, ◌++◌, codes, cond, false, Some, decimal, refl, sym, ap, ◌∙◌, arith, append_assoc, lit<, lit≤}
+use Rattle.std.proofs.Common.{◌≡◌, ◌<◌, ◌≤◌, ◌^◌, ◌==◌, ℕ, List, [], ◌∷◌, ◌++◌, map, codes, cond, true, false, Some, decimal, refl, sym, ap, ap₂, ◌∙◌, arith, append_assoc, lit<, lit≤}
 use Rattle.std.specs.Prelude.{IsTrue, encode_utf8_all}
 use Rattle.std.specs.Str.{all_scalars, chars}
+use Rattle.std.specs.List.{AllByRecursion}
 use Rattle.std.proofs.lemmas.Fmt.{decimal_injective}
 use Rattle.std.proofs.lemmas.Str.{chars-encodes}
 use Rattle.json.specs.Print.{escape_byte}
 use Rattle.json.specs.Json.{document, max_depth}
-use Rattle.json.specs.Tree.{depth, HasNumbers}
+use Rattle.json.specs.Tree.{depth, items_depth, HasNumbers, ItemsHaveNumbers}
 use Rattle.json.proofs.Printed.Trees.{document-print}
 use Rattle.json.proofs.Printed.Decimals.{IsNumber-decimal}
-use Rattle.serde_json.specs.Written.{compact_text, outline, has_float}
+use Rattle.serde_json.specs.Data.{Data, array}
+use Rattle.serde_json.specs.Written.{compact_text, items_text, outline, items_outline, has_float, items_have_float}
 use Rattle.serde_json.proofs.Texts.{print-outline}
 use Rattle.opid.specs.declared.refusal.Refusal.{Refusal}
 use Rattle.opid.specs.declared.refusal.Refusal.TheVariants.{BadJson, BadField, UnknownKind, NoRoom, NoSession, TooManySessions, BadNumber, BadVersion, BadPlace, BadText, BadCount, Full, HistoryFull, BadSite, BadClock, OwnSite, Conflict, HoldFull, NotRising, UnknownElement, NotOlder, BadHave, BadRange, Busy, Worn, Memory, SiteUsed, BadSnapshot, TooLong}
 use Rattle.opid.specs.Refusals.{number_of}
+use Rattle.opid.specs.declared.edit.Edit as edit
+use Rattle.opid.specs.declared.edit.Edit.TheVariants.{Ins, Del, Nop}
 use Rattle.room.specs.declared.reply.Reply as reply
-use Rattle.room.specs.declared.reply.Reply.TheVariants.{Joined, Ok, Text, No}
-use Rattle.wire_json.specs.Text.{IsInRange, quote, text}
-use Rattle.wire_json.specs.Written.{data_of}
+use Rattle.room.specs.declared.reply.Reply.TheVariants.{Joined, Ok, Edits, Left, Text, No}
+use Rattle.wire_json.specs.Text.{IsInRange, IsEditInRange, quote, text, more, listed, edit_text}
+use Rattle.wire_json.specs.Written.{data_of, edit_data, each_data}
 
 regroup_3 : (a b c : List ℕ) → a ++ (b ++ c) ≡ a ++ b ++ c
 regroup_3 a b c = simp append_assoc
@@ -28,17 +32,51 @@ regroup_5 a b c d e = simp append_assoc
 regroup_7 : (a b c d e f g : List ℕ) → a ++ (b ++ (c ++ (d ++ (e ++ (f ++ g))))) ≡ a ++ b ++ c ++ d ++ e ++ f ++ g
 regroup_7 a b c d e f g = simp append_assoc
 
+-- ---- lists: each value's compact text is its text, so the list's is too
+
+regroup_item : (c x m : List ℕ) → c ++ (x ++ (m ++ 93 ∷ [])) ≡ (c ++ x ++ m) ++ 93 ∷ []
+regroup_item c x m = simp append_assoc
+
+more_compact : {A : Type 0} (f : A → Data) (t : A → List ℕ) → ((x : A) → compact_text (f x) ≡ t x) → (xs : List A) → items_text true (each_data f xs) ≡ more (map t xs) ++ 93 ∷ []
+more_compact f t e [] = refl
+more_compact f t e (x ∷ xs) = ap₂ (λ y m. 44 ∷ (y ++ m)) (e x) (more_compact f t e xs) ∙ regroup_item (44 ∷ []) (t x) (more (map t xs))
+
+list_compact : {A : Type 0} (f : A → Data) (t : A → List ℕ) → ((x : A) → compact_text (f x) ≡ t x) → (xs : List A) → compact_text (array (each_data f xs)) ≡ listed (map t xs)
+list_compact f t e [] = refl
+list_compact f t e (x ∷ xs) = ap₂ (λ y m. 91 ∷ (y ++ m)) (e x) (more_compact f t e xs) ∙ regroup_first (t x) (more (map t xs))
+  where
+    regroup_first : (y m : List ℕ) → 91 ∷ (y ++ (m ++ 93 ∷ [])) ≡ 91 ∷ ((y ++ m) ++ 93 ∷ [])
+    regroup_first y m = simp append_assoc
+
+edit_compact : (e : edit.Edit) → compact_text (edit_data e) ≡ edit_text e
+unfolding escape_byte
+edit_compact (Ins k c) = regroup_5 (codes "[\"i\",") (decimal k) (codes ",") (quote (c ∷ [])) (codes "]")
+edit_compact (Del k) = regroup_3 (codes "[\"d\",") (decimal k) (codes "]")
+edit_compact Nop = refl
+
 -- what serde_json writes for the value of a reply is the reply's text
 pub compact : (r : reply.Reply) → compact_text (data_of r) ≡ text r
 unfolding escape_byte
 compact (Joined s v x) = regroup_7 (codes "{\"r\":\"joined\",\"s\":") (decimal s) (codes ",\"v\":") (decimal v) (codes ",\"x\":") (quote x) (codes "}")
 compact (Ok «from» to) = regroup_5 (codes "{\"from\":") (decimal «from») (codes ",\"r\":\"ok\",\"to\":") (decimal to) (codes "}")
+compact (Edits «from» es) =
+    ap (λ l. codes "{\"es\":" ++ (l ++ (codes ",\"from\":" ++ (decimal «from» ++ codes ",\"r\":\"edits\"}")))) (list_compact edit_data edit_text edit_compact es)
+    ∙ regroup_5 (codes "{\"es\":") (listed (map edit_text es)) (codes ",\"from\":") (decimal «from») (codes ",\"r\":\"edits\"}")
+compact Left = refl
 compact (Text v x) = regroup_5 (codes "{\"r\":\"text\",\"v\":") (decimal v) (codes ",\"x\":") (quote x) (codes "}")
 compact (No why) = regroup_3 (codes "{\"n\":") (decimal (number_of why)) (codes ",\"r\":\"no\"}")
+
+edits_no_float : (es : List edit.Edit) → items_have_float (each_data edit_data es) ≡ false
+edits_no_float [] = refl
+edits_no_float (Ins k c ∷ es) = edits_no_float es
+edits_no_float (Del k ∷ es) = edits_no_float es
+edits_no_float (Nop ∷ es) = edits_no_float es
 
 pub no_float : (r : reply.Reply) → has_float (data_of r) ≡ false
 no_float (Joined s v x) = refl
 no_float (Ok «from» to) = refl
+no_float (Edits «from» es) = rw (edits_no_float es) refl
+no_float Left = refl
 no_float (Text v x) = refl
 no_float (No why) = refl
 
@@ -76,15 +114,31 @@ number_small TooLong = lit< tt
 small : (n : ℕ) → n < 2 ^ 32 → n < 2 ^ 64
 small n h = omega arith
 
+edit_numbers : (es : List edit.Edit) → AllByRecursion IsEditInRange es → ItemsHaveNumbers (items_outline (each_data edit_data es))
+edit_numbers [] h = tt
+edit_numbers (Ins k c ∷ es) h = ((tt, (IsNumber-decimal k h.0.0, (tt, tt))), edit_numbers es h.1)
+edit_numbers (Del k ∷ es) h = ((tt, (IsNumber-decimal k h.0, tt)), edit_numbers es h.1)
+edit_numbers (Nop ∷ es) h = ((tt, tt), edit_numbers es h.1)
+
 numbers : (r : reply.Reply) → IsInRange r → HasNumbers (outline (data_of r))
 numbers (Joined s v x) h = (tt, (IsNumber-decimal s (small s h.0), (IsNumber-decimal v (small v h.1), (tt, tt))))
 numbers (Ok «from» to) h = (IsNumber-decimal «from» (small «from» h.0), (tt, (IsNumber-decimal to (small to h.1), tt)))
+numbers (Edits «from» es) h = (edit_numbers es h.1, (IsNumber-decimal «from» (small «from» h.0), (tt, tt)))
+numbers Left h = (tt, tt)
 numbers (Text v x) h = (tt, (IsNumber-decimal v (small v h.0), (tt, tt)))
 numbers (No why) h = (IsNumber-decimal (number_of why) (number_small why), (tt, tt))
+
+edits_shallow : (es : List edit.Edit) → items_depth (items_outline (each_data edit_data es)) ≤ 1
+edits_shallow [] = lit≤ tt
+edits_shallow (Ins k c ∷ es) = omega (arith, edits_shallow es)
+edits_shallow (Del k ∷ es) = omega (arith, edits_shallow es)
+edits_shallow (Nop ∷ es) = omega (arith, edits_shallow es)
 
 shallow : (r : reply.Reply) → depth (outline (data_of r)) ≤ max_depth
 shallow (Joined s v x) = lit≤ tt
 shallow (Ok «from» to) = lit≤ tt
+shallow (Edits «from» es) = omega (arith, edits_shallow es)
+shallow Left = lit≤ tt
 shallow (Text v x) = lit≤ tt
 shallow (No why) = lit≤ tt
 
@@ -138,6 +192,27 @@ same_refusal a b h = sym (of_number_of a) ∙ ap of_number h ∙ of_number_of b
 same_characters : (x y : List ℕ) → IsTrue (all_scalars x) → IsTrue (all_scalars y) → encode_utf8_all x ≡ encode_utf8_all y → x ≡ y
 same_characters x y h k e = sym (chars-encodes x h) ∙ ap chars e ∙ chars-encodes y k
 
+one_edit : (a b : edit.Edit) → IsEditInRange a → IsEditInRange b → outline (edit_data a) ≡ outline (edit_data b) → a ≡ b
+one_edit (Ins k c) (Ins l d) h g e =
+    let same_place = decimal_injective k l h.0 g.0 (cc) in
+    let same_character = same_characters (c ∷ []) (d ∷ []) h.1 g.1 (cc) in
+    cc
+one_edit (Del k) (Del l) h g e = let same_place = decimal_injective k l h g (cc) in cc
+one_edit Nop Nop h g e = refl
+one_edit (Ins k c) (Del l) h g e = cc
+one_edit (Ins k c) Nop h g e = cc
+one_edit (Del k) (Ins l d) h g e = cc
+one_edit (Del k) Nop h g e = cc
+one_edit Nop (Ins l d) h g e = cc
+one_edit Nop (Del l) h g e = cc
+
+one_list : {A : Type 0} (P : A → Type 0) (f : A → Data) → ((a b : A) → P a → P b → outline (f a) ≡ outline (f b) → a ≡ b)
+    → (xs ys : List A) → AllByRecursion P xs → AllByRecursion P ys → items_outline (each_data f xs) ≡ items_outline (each_data f ys) → xs ≡ ys
+one_list P f one [] [] h k e = refl
+one_list P f one [] (y ∷ ys) h k e = cc
+one_list P f one (x ∷ xs) [] h k e = cc
+one_list P f one (x ∷ xs) (y ∷ ys) h k e = ap₂ (λ z zs. z ∷ zs) (one x y h.0 k.0 (cc)) (one_list P f one xs ys h.1 k.1 (cc))
+
 one_reply : (a b : reply.Reply) → IsInRange a → IsInRange b → outline (data_of a) ≡ outline (data_of b) → a ≡ b
 one_reply (Joined s v x) (Joined t w y) h k e =
     let same_s = decimal_injective s t (small s h.0) (small t k.0) (cc) in
@@ -148,6 +223,11 @@ one_reply (Ok m n) (Ok i j) h k e =
     let same_from = decimal_injective m i (small m h.0) (small i k.0) (cc) in
     let same_to = decimal_injective n j (small n h.1) (small j k.1) (cc) in
     cc
+one_reply (Edits m es) (Edits i fs) h k e =
+    let same_from = decimal_injective m i (small m h.0) (small i k.0) (cc) in
+    let same_edits = one_list IsEditInRange edit_data one_edit es fs h.1 k.1 (cc) in
+    cc
+one_reply Left Left h k e = refl
 one_reply (Text v x) (Text w y) h k e =
     let same_v = decimal_injective v w (small v h.0) (small w k.0) (cc) in
     let same_x = same_characters x y h.1 k.1 (cc) in
@@ -155,16 +235,34 @@ one_reply (Text v x) (Text w y) h k e =
 one_reply (No p) (No q) h k e =
     ap No (same_refusal p q (decimal_injective (number_of p) (number_of q) (number_small p) (number_small q) (cc)))
 one_reply (Joined s v x) (Ok i j) h k e = cc
+one_reply (Joined s v x) (Edits i fs) h k e = cc
+one_reply (Joined s v x) Left h k e = cc
 one_reply (Joined s v x) (Text w y) h k e = cc
 one_reply (Joined s v x) (No q) h k e = cc
 one_reply (Ok m n) (Joined t w y) h k e = cc
+one_reply (Ok m n) (Edits i fs) h k e = cc
+one_reply (Ok m n) Left h k e = cc
 one_reply (Ok m n) (Text w y) h k e = cc
 one_reply (Ok m n) (No q) h k e = cc
+one_reply (Edits m es) (Joined t w y) h k e = cc
+one_reply (Edits m es) (Ok i j) h k e = cc
+one_reply (Edits m es) Left h k e = cc
+one_reply (Edits m es) (Text w y) h k e = cc
+one_reply (Edits m es) (No q) h k e = cc
+one_reply Left (Joined t w y) h k e = cc
+one_reply Left (Ok i j) h k e = cc
+one_reply Left (Edits i fs) h k e = cc
+one_reply Left (Text w y) h k e = cc
+one_reply Left (No q) h k e = cc
 one_reply (Text v x) (Joined t w y) h k e = cc
 one_reply (Text v x) (Ok i j) h k e = cc
+one_reply (Text v x) (Edits i fs) h k e = cc
+one_reply (Text v x) Left h k e = cc
 one_reply (Text v x) (No q) h k e = cc
 one_reply (No p) (Joined t w y) h k e = cc
 one_reply (No p) (Ok i j) h k e = cc
+one_reply (No p) (Edits i fs) h k e = cc
+one_reply (No p) Left h k e = cc
 one_reply (No p) (Text w y) h k e = cc
 
 pub different : (a b : reply.Reply) → IsInRange a → IsInRange b → text a ≡ text b → a ≡ b

@@ -8,7 +8,7 @@ use Rattle.serde_json.specs.Find.{get, as_number, as_u64, as_str, as_object}
 use Rattle.opid.specs.declared.refusal.Refusal.{Refusal}
 use Rattle.opid.specs.declared.refusal.Refusal.TheVariants.{BadJson, BadField, UnknownKind, TooLong}
 use Rattle.room.specs.declared.call.Call.{Call}
-use Rattle.room.specs.declared.call.Call.TheVariants.{Join, Ins, Read}
+use Rattle.room.specs.declared.call.Call.TheVariants.{Join, Ins, Del, Pull, Leave, Read}
 
 -- ---- a step that may be refused: the first refusal stands
 
@@ -64,6 +64,30 @@ ins_of d = do
   x ← text_at (codes "x") d
   Ok (Ins s n v k (chars x))
 
+abbrev pub del_of : Data → Result Call Refusal
+del_of d = do
+  keys ← only_keys (codes "t" ∷ codes "s" ∷ codes "n" ∷ codes "v" ∷ codes "k" ∷ codes "c" ∷ []) d
+  s ← number_at (codes "s") d
+  n ← number_at (codes "n") d
+  v ← number_at (codes "v") d
+  k ← number_at (codes "k") d
+  c ← number_at (codes "c") d
+  Ok (Del s n v k c)
+
+abbrev pub pull_of : Data → Result Call Refusal
+pull_of d = do
+  keys ← only_keys (codes "t" ∷ codes "s" ∷ codes "have" ∷ codes "max" ∷ []) d
+  s ← number_at (codes "s") d
+  have ← number_at (codes "have") d
+  max ← number_at (codes "max") d
+  Ok (Pull s have max)
+
+abbrev pub leave_of : Data → Result Call Refusal
+leave_of d = do
+  keys ← only_keys (codes "t" ∷ codes "s" ∷ []) d
+  s ← number_at (codes "s") d
+  Ok (Leave s)
+
 abbrev pub read_of : Data → Result Call Refusal
 read_of d = do
   keys ← only_keys (codes "t" ∷ []) d
@@ -73,7 +97,10 @@ abbrev pub call_named : List ℕ → Data → Result Call Refusal
 call_named t d =
     if bytes_eq t (codes "join") then join_of d else (
     if bytes_eq t (codes "ins") then ins_of d else (
-    if bytes_eq t (codes "read") then read_of d else Err UnknownKind))
+    if bytes_eq t (codes "del") then del_of d else (
+    if bytes_eq t (codes "pull") then pull_of d else (
+    if bytes_eq t (codes "leave") then leave_of d else (
+    if bytes_eq t (codes "read") then read_of d else Err UnknownKind)))))
 
 abbrev pub call_of : Data → Result Call Refusal
 call_of d = do

@@ -3,7 +3,7 @@ ghost use Rattle.std.specs.Prelude.{◌≡◌, ◌<◌, Err, length, map, bytes_
 ghost use Rattle.opid.specs.declared.refusal.Refusal.TheVariants.{TooLong};
 ghost use Rattle.std.specs.List.{list_any};
 ghost use Rattle.serde_json.specs.View.{view, members_view};
-ghost use Rattle.wire_json.specs.Request.{request, json_of, call_of, join_of, ins_of, read_of, only_keys, are_among, number_at, text_at};
+ghost use Rattle.wire_json.specs.Request.{request, json_of, call_of, join_of, ins_of, del_of, pull_of, leave_of, read_of, only_keys, are_among, number_at, text_at};
 ghost use Rattle.wire_json.specs.Given.{Gives, same};
 
 use opid::Refusal;
@@ -50,6 +50,9 @@ fn read_call(alloc: Global, value: &Value) -> Result<Call, Refusal>
     match kind {
         "join" => read_join(value),
         "ins" => read_ins(alloc, value),
+        "del" => read_del(value),
+        "pull" => read_pull(value),
+        "leave" => read_leave(value),
         "read" => read_read(value),
         _ => Err(Refusal::UnknownKind),
     }
@@ -73,6 +76,36 @@ fn read_ins(alloc: Global, value: &Value) -> Result<Call, Refusal>
     let x = read_text(value, "x")?;
     let x = Characters::new(String::from_str(alloc, x)?);
     Ok(Call::Ins { s, n, v, k, x })
+}
+
+fn read_del(value: &Value) -> Result<Call, Refusal>
+    ensures { Gives same result (del_of (view value.now)) }
+{
+    check_keys(value, &["t", "s", "n", "v", "k", "c"])?;
+    let s = read_number(value, "s")?;
+    let n = read_number(value, "n")?;
+    let v = read_number(value, "v")?;
+    let k = read_number(value, "k")?;
+    let c = read_number(value, "c")?;
+    Ok(Call::Del { s, n, v, k, c })
+}
+
+fn read_pull(value: &Value) -> Result<Call, Refusal>
+    ensures { Gives same result (pull_of (view value.now)) }
+{
+    check_keys(value, &["t", "s", "have", "max"])?;
+    let s = read_number(value, "s")?;
+    let have = read_number(value, "have")?;
+    let max = read_number(value, "max")?;
+    Ok(Call::Pull { s, have, max })
+}
+
+fn read_leave(value: &Value) -> Result<Call, Refusal>
+    ensures { Gives same result (leave_of (view value.now)) }
+{
+    check_keys(value, &["t", "s"])?;
+    let s = read_number(value, "s")?;
+    Ok(Call::Leave { s })
 }
 
 fn read_read(value: &Value) -> Result<Call, Refusal>

@@ -1,7 +1,7 @@
 //! Requests and replies as lines show them.
 use crate::{read_request, write_reply};
-use opid::Refusal;
-use room::{Call, Characters, Reply};
+use opid::{Edit, Refusal};
+use room::{Call, Characters, Edits, Reply};
 use std::alloc::{AllocError, Global};
 use std::test::Fail;
 
@@ -36,6 +36,25 @@ fn reads_each_kind(rt: HostRuntime) -> Result<(), Fail> {
             assert_eq!(rt; (*s, *n, *v, *k), (1, 2, 3, 4_294_967_295));
             assert!(rt; x.as_str() == "a\"\u{1}\u{e9}\u{1f600}");
         }
+        _ => assert!(rt; false),
+    }
+    Ok(())
+}
+
+#[test]
+fn reads_a_deletion_a_pull_and_a_leave(rt: HostRuntime) -> Result<(), Fail> {
+    let alloc = rt.alloc();
+    let deletion = b"{\"c\":64,\"k\":4,\"n\":2,\"s\":1,\"t\":\"del\",\"v\":3}";
+    match &read_request(alloc, deletion)? {
+        Call::Del { s, n, v, k, c } => assert_eq!(rt; (*s, *n, *v, *k, *c), (1, 2, 3, 4, 64)),
+        _ => assert!(rt; false),
+    }
+    match &read_request(alloc, b"{\"t\":\"pull\",\"s\":1,\"have\":2,\"max\":3}")? {
+        Call::Pull { s, have, max } => assert_eq!(rt; (*s, *have, *max), (1, 2, 3)),
+        _ => assert!(rt; false),
+    }
+    match &read_request(alloc, b"{\"t\":\"leave\",\"s\":4294967295}")? {
+        Call::Leave { s } => assert_eq!(rt; *s, 4_294_967_295),
         _ => assert!(rt; false),
     }
     Ok(())
@@ -78,6 +97,10 @@ fn tells_the_first_fault(rt: HostRuntime) {
         b"{\"t\":\"ins\",\"s\":1,\"n\":1,\"v\":0,\"k\":-1,\"x\":\"a\"}",
         b"{\"t\":\"ins\",\"s\":1,\"n\":1,\"v\":0,\"k\":4294967296,\"x\":\"a\"}",
         b"{\"t\":\"ins\",\"s\":1,\"n\":1,\"v\":0,\"k\":\"0\",\"x\":\"a\"}",
+        b"{\"t\":\"del\",\"s\":1,\"n\":1,\"v\":0,\"k\":0}",
+        b"{\"t\":\"pull\",\"s\":1,\"have\":0,\"max\":-1}",
+        b"{\"t\":\"leave\"}",
+        b"{\"t\":\"leave\",\"s\":1,\"n\":1}",
     ] {
         assert_eq!(rt; refusal(alloc, bytes), Some(Refusal::BadField));
     }
@@ -114,6 +137,29 @@ fn writes_each_reply(rt: HostRuntime) -> Result<(), Fail> {
     assert!(rt; text.as_str() == "{\"r\":\"text\",\"v\":0,\"x\":\"\"}");
     let refused = write_reply(alloc, &Reply::No(Refusal::BadPlace))?;
     assert!(rt; refused.as_str() == "{\"n\":9,\"r\":\"no\"}");
+    Ok(())
+}
+
+#[test]
+fn writes_edits_and_that_a_session_left(rt: HostRuntime) -> Result<(), Fail> {
+    let alloc = rt.alloc();
+    let es = [
+        Edit::Ins(0, 'H'),
+        Edit::Del(18_446_744_073_709_551_615),
+        Edit::Nop,
+        Edit::Ins(7, '\u{1F600}'),
+        Edit::Ins(1, '"'),
+    ];
+    let es = Edits::new(es.to_vec(alloc)?);
+    let edits = write_reply(alloc, &Reply::Edits { from: 3, es })?;
+    let wanted =
+        "{\"es\":[[\"i\",0,\"H\"],[\"d\",18446744073709551615],[\"n\"],[\"i\",7,\"\u{1F600}\"],[\"i\",1,\"\\\"\"]],\"from\":3,\"r\":\"edits\"}";
+    assert!(rt; edits.as_str() == wanted);
+    let es = Edits::new(Vec::new(alloc));
+    let none = write_reply(alloc, &Reply::Edits { from: 0, es })?;
+    assert!(rt; none.as_str() == "{\"es\":[],\"from\":0,\"r\":\"edits\"}");
+    let left = write_reply(alloc, &Reply::Left)?;
+    assert!(rt; left.as_str() == "{\"r\":\"left\"}");
     Ok(())
 }
 

@@ -1,13 +1,12 @@
 //! Writing a reply.
 ghost use Rattle.std.specs.Prelude.{◌≡◌, IfOk, string_bytes, encode_utf8_all};
-ghost use Rattle.serde_json.specs.View.{view};
-ghost use Rattle.room.specs.declared.reply.Reply.TheVariants as reply;
+ghost use Rattle.serde_json.specs.View.{view, items_view};
 ghost use Rattle.wire_json.specs.Text.{text};
-ghost use Rattle.wire_json.specs.Written.{joined_data, ok_data, text_data, no_data, data_of};
+ghost use Rattle.wire_json.specs.Written.{joined_data, ok_data, edit_data, each_data, edits_data, left_data, text_data, no_data, data_of};
 
-use opid::Refusal;
+use opid::{Edit, Refusal};
 use room::Reply;
-use serde_json::{Value, json};
+use serde_json::{Value, json, push};
 use std::alloc::{AllocError, Global};
 
 /// The one text of a reply: a compact JSON object, its keys in the order of their bytes, with no line feed.
@@ -26,6 +25,8 @@ fn value_of(alloc: Global, reply: &Reply) -> Result<Value, AllocError>
     match reply {
         Reply::Joined { s, v, x } => joined(alloc, *s, *v, x.as_str()),
         Reply::Ok { from, to } => accepted(alloc, *from, *to),
+        Reply::Edits { from, es } => edits(alloc, *from, es.as_slice()),
+        Reply::Left => left(alloc),
         Reply::Text { v, x } => whole_text(alloc, *v, x.as_str()),
         Reply::No(why) => refused(alloc, *why),
     }
@@ -41,6 +42,40 @@ fn accepted(alloc: Global, from: u32, to: u32) -> Result<Value, AllocError>
     ensures { IfOk result (λ out. view out ≡ ok_data from to) }
 {
     json!(in alloc; {"from": from, "r": "ok", "to": to})
+}
+
+fn edits(alloc: Global, from: u32, es: &[Edit]) -> Result<Value, AllocError>
+    ensures { IfOk result (λ out. view out ≡ edits_data from es.now) }
+{
+    let list = edit_values(alloc, es)?;
+    json!(in alloc; {"es": list, "from": from, "r": "edits"})
+}
+
+fn edit_values(alloc: Global, es: &[Edit]) -> Result<Vec<Value>, AllocError>
+    ensures { IfOk result (λ list. items_view list.items ≡ each_data edit_data es.now) }
+{
+    let mut list = Vec::with_capacity(alloc, es.len())?;
+    for edit in es {
+        let value = edit_value(alloc, *edit)?;
+        push(&mut list, value)?;
+    }
+    Ok(list)
+}
+
+fn edit_value(alloc: Global, edit: Edit) -> Result<Value, AllocError>
+    ensures { IfOk result (λ out. view out ≡ edit_data edit) }
+{
+    match edit {
+        Edit::Ins(place, ch) => json!(in alloc; ["i", place, ch.encode_utf8(&mut [0; 4])]),
+        Edit::Del(place) => json!(in alloc; ["d", place]),
+        Edit::Nop => json!(in alloc; ["n"]),
+    }
+}
+
+fn left(alloc: Global) -> Result<Value, AllocError>
+    ensures { IfOk result (λ out. view out ≡ left_data) }
+{
+    json!(in alloc; {"r": "left"})
 }
 
 fn whole_text(alloc: Global, v: u32, x: &str) -> Result<Value, AllocError>
