@@ -17,6 +17,7 @@ use Rattle.history_lock.specs.Lock.{Place, home, out, slot_at, Stands, Fits, Has
 use Rattle.history_lock.specs.Told.{draws_ticket, looks, leaves, peeks, tries, learns}
 use Rattle.history_lock.proofs.Prefixes.{prefix_self, prefix_nil, prefix_trans, prefix_length, longer_first, longer_second, longer_prefix, longer_whole, among_prefix, among_nil, among_append, among_drop}
 use Rattle.history_lock.proofs.Passes.{set_at, total_set, total_snoc, part_of_total}
+use Rattle.history_lock.proofs.Turns.{found_left, left_next}
 
 pick : {P : Type 0} → Dec P → ℕ → ℕ → ℕ
 pick (yes _) a b = a
@@ -96,7 +97,7 @@ abbrev carried_or : {T : Type 0} → T → List (ℕ × Option T) → T
 carried_or d [] = d
 carried_or d (x ∷ xs) = value_or d x.1
 
-module _ {T E : Type 0} (trail : T → List E) (mark : T → ℕ) where
+module _ {T E : Type 0} (trail : T → List E) (mark : T → ℕ) (begun : ℕ) where
   abbrev S : Type 0
   S = State (Option T) (Sight E)
 
@@ -115,13 +116,13 @@ module _ {T E : Type 0} (trail : T → List E) (mark : T → ℕ) where
   lies_longer served log views w (out j) k = (k.0, at_longer views (w ∷ []) j k.0 k.1, k.2)
 
   -- a step of a pass that isn't inside, with the value and its trail left as they are
-  steps_on : (s : S) (r : Lock trail mark s) (id : ℕ) (v w : Sight E) (ws : List ℕ) (next : ℕ) (holder : ℕ → ℕ)
+  steps_on : (s : S) (r : Lock trail mark begun s) (id : ℕ) (v w : Sight E) (ws : List ℕ) (next : ℕ) (holder : ℕ → ℕ)
       → get_elem? s.views id ≡ some v → v.stage ≢ Inside → ws ≡ next ∷ r.served ∷ []
       → r.next ≤ next → next + w.left ≤ r.next + v.left → ((t : ℕ) → t < r.next → holder t ≡ r.holder t)
       → Fits next r.served r.log r.ends r.place holder id w
       → ((t : ℕ) → t < r.next → HasTicket t v v.stage → HasTicket t w w.stage)
       → ((t : ℕ) → r.next ≤ t → t < next → (holder t ≡ id) × HasTicket t w w.stage)
-      → Lock trail mark record { words = ws; homes = s.homes; views = set s.views id w }
+      → Lock trail mark begun record { words = ws; homes = s.homes; views = set s.views id w }
   steps_on s r id v w ws next holder at not words more fewer same mine carried new =
       let sum = total_set left_of s.views id v w at in
       let part = part_of_total left_of s.views id v at in let d = r.draws in let u = r.turns in let o = r.order in
@@ -136,7 +137,6 @@ module _ {T E : Type 0} (trail : T → List E) (mark : T → ℕ) where
         slot = r.slot;
         order = omega arith;
         draws = omega arith;
-        opening = r.opening;
         ends = r.ends;
         turns = r.turns;
         last = r.last;
@@ -171,7 +171,7 @@ module _ {T E : Type 0} (trail : T → List E) (mark : T → ℕ) where
   peeked_not e = cc
 
   pub draws_kept : (n id : ℕ) (me : M) → me.0.stage ≡ Idle → 0 < me.0.left
-      → Allows (Lock trail mark) n id me 0 (λ k. (k + 1) % 2 ^ 64) (draws_ticket trail mark (step n 0 1 0 none) me)
+      → Allows (Lock trail mark begun) n id me 0 (λ k. (k + 1) % 2 ^ 64) (draws_ticket trail mark (step n 0 1 0 none) me)
   draws_kept n id me idle some_left s r wide at small =
       let v = me.0 in let x : ℕ = get_or s.words 0 0 in let here : x ≡ r.next = ap (λ ws. get_or ws 0 0) r.words in
       let w = drew v x in let part : v.left ≤ total left_of s.views = part_of_total left_of s.views id v at in
@@ -192,7 +192,7 @@ module _ {T E : Type 0} (trail : T → List E) (mark : T → ℕ) where
       )
 
   -- the pass whose turn it is finds the value at home
-  at_home : (s : S) (r : Lock trail mark s) (id : ℕ) (v : Sight E) → get_elem? s.views id ≡ some v → v.stage ≢ Inside → (r.served < r.next → r.holder r.served ≡ id)
+  at_home : (s : S) (r : Lock trail mark begun s) (id : ℕ) (v : Sight E) → get_elem? s.views id ≡ some v → v.stage ≢ Inside → (r.served < r.next → r.holder r.served ≡ id)
       → (p : Place T) → r.place ≡ p → Lies trail mark r.served r.log s.views p → (x : T) × (r.place ≡ home x) × (trail x ≡ r.log) × (mark x ≤ r.served)
   at_home s r id v at not whose (home x) e k = (x, e, k.0, k.1)
   at_home s r id v at not whose (out j) e k =
@@ -202,13 +202,13 @@ module _ {T E : Type 0} (trail : T → List E) (mark : T → ℕ) where
       absurd (not (ap (λ (u : Sight E). u.stage) same ∙ k.2))
 
   -- a pass takes the value
-  takes_on : (s : S) (r : Lock trail mark s) (id : ℕ) (v w : Sight E) (ws : List ℕ) (next : ℕ) (holder : ℕ → ℕ) (x : T)
+  takes_on : (s : S) (r : Lock trail mark begun s) (id : ℕ) (v w : Sight E) (ws : List ℕ) (next : ℕ) (holder : ℕ → ℕ) (x : T)
       → get_elem? s.views id ≡ some v → r.place ≡ home x → w.stage ≡ Inside → ws ≡ next ∷ r.served ∷ []
       → r.next ≤ next → next + w.left ≤ r.next + v.left → ((t : ℕ) → t < r.next → holder t ≡ r.holder t)
       → Fits {T = T} next r.served r.log r.ends (out id) holder id w
       → ((t : ℕ) → t < r.next → HasTicket t v v.stage → HasTicket t w w.stage)
       → ((t : ℕ) → r.next ≤ t → t < next → (holder t ≡ id) × HasTicket t w w.stage)
-      → Lock trail mark record { words = ws; homes = set s.homes 0 none; views = set s.views id w }
+      → Lock trail mark begun record { words = ws; homes = set s.homes 0 none; views = set s.views id w }
   takes_on s r id v w ws next holder x at lies in_now words more fewer same mine carried new =
       let sum = total_set left_of s.views id v w at in
       let part = part_of_total left_of s.views id v at in let d = r.draws in let u = r.turns in let o = r.order in
@@ -223,7 +223,6 @@ module _ {T E : Type 0} (trail : T → List E) (mark : T → ℕ) where
         slot = ap (λ hs. set hs 0 none) r.slot;
         order = omega arith;
         draws = omega arith;
-        opening = r.opening;
         ends = r.ends;
         turns = r.turns;
         last = r.last;
@@ -256,8 +255,8 @@ module _ {T E : Type 0} (trail : T → List E) (mark : T → ℕ) where
       let le = prefix_length told log short in let same : length whole ≡ length log = ap length is in
       subst (Among ms) (sym (longer_whole whole told (omega arith))) among
 
-  pub looks_kept : (n id : ℕ) (me : M) → me.0.stage ≡ Waiting → Allows (Lock trail mark) n id me 1 (λ k. k) (looks trail mark (step n 1 0 0 none) me)
-  looks_kept n id me waits s r wide at small =
+  pub looks_kept : (n id : ℕ) (me : M) → me.0.stage ≡ Waiting → me.0.opening ≡ begun → Allows (Lock trail mark begun) n id me 1 (λ k. k) (looks trail mark (step n 1 0 0 none) me)
+  looks_kept n id me waits opened s r wide at small =
       let v = me.0 in let x : ℕ = get_or s.words 1 0 in let here : x ≡ r.served = ap (λ ws. get_or ws 1 0) r.words in
       let f = r.each_pass id v at in let stood = subst (Stands r.next r.served r.log r.ends r.place r.holder id v) waits f.stands in
       let not : v.stage ≢ Inside = not_inside v.stage Waiting waits waiting_not in
@@ -288,7 +287,7 @@ module _ {T E : Type 0} (trail : T → List E) (mark : T → ℕ) where
             (λ t le lt. absurd (omega arith)),
         (
           (λ no. absurd (no mine)),
-          λ _. (h.0, refl, record { seen = subst (IsPrefix v.seen) (sym h.2) f.seen; mine = all_mine; marked = (let b = h.3 in omega arith); account = f.account; turns = r.turns ∙ sym here; last = λ some_turn. (let u = r.turns in ends_last r.opening r.ends (omega arith)) ∙ (r.last ∙ ap length (sym h.2)) }),
+          λ _. (h.0, refl, record { seen = subst (IsPrefix v.seen) (sym h.2) f.seen; mine = all_mine; marked = (let b = h.3 in omega arith); account = f.account; turns = r.turns ∙ sym here; last = λ some_turn. (let u = r.turns in ends_last begun r.ends (omega arith)) ∙ (r.last ∙ ap length (sym h.2)); left = found_left v begun x r.ends r.log (trail h.0) opened (r.turns ∙ sym here) r.last h.2; grows = record { opening = refl; account = f.account; seen = subst (IsPrefix v.seen) (sym h.2) f.seen } }),
           refl,
         ),
       ))
@@ -301,7 +300,7 @@ module _ {T E : Type 0} (trail : T → List E) (mark : T → ℕ) where
       ))
 
   pub leaves_kept : (n id : ℕ) (me : M) (x : T) → me.0.stage ≡ Inside → me.1 ≡ (0, Some x) ∷ [] → IsPrefix me.0.found (trail x) → mark x ≤ me.0.drawn + 1
-      → Allows (Lock trail mark) n id me 1 (λ k. (k + 1) % 2 ^ 64) (leaves trail mark (step n 1 1 0 none) me)
+      → Allows (Lock trail mark begun) n id me 1 (λ k. (k + 1) % 2 ^ 64) (leaves trail mark (step n 1 1 0 none) me)
   leaves_kept n id me x inside slot grown marked s r wide at small =
       let v = me.0 in let y : ℕ = get_or s.words 1 0 in let here : y ≡ r.served = ap (λ ws. get_or ws 1 0) r.words in
       let f = r.each_pass id v at in let stood = subst (Stands r.next r.served r.log r.ends r.place r.holder id v) inside f.stands in
@@ -319,7 +318,7 @@ module _ {T E : Type 0} (trail : T → List E) (mark : T → ℕ) where
       let all_mine : Among w.mine (trail x) = among_append v.mine (drop (length v.found) (trail x)) (trail x) old_mine (among_drop (length v.found) (trail x)) in
       let after : S = stepped s 1 ((y + 1) % 2 ^ 64) id me.1 w gives in
       let home_now : after.homes ≡ some (Some x) ∷ [] = ap (put_back s.homes) slot ∙ ap (λ hs. set hs 0 (some (Some x))) r.slot in
-      let rule : Lock trail mark after =
+      let rule : Lock trail mark begun after =
       record {
         next = r.next;
         served = r.served + 1;
@@ -330,10 +329,9 @@ module _ {T E : Type 0} (trail : T → List E) (mark : T → ℕ) where
         slot = home_now;
         order = omega arith;
         draws = omega arith;
-        opening = r.opening;
         ends = w.ends;
         turns = length-append v.ends (length (trail x) ∷ []) ∙ (let a : length v.ends ≡ r.served = ap length stood.5 ∙ r.turns in omega arith);
-        last = last_snoc r.opening v.ends (length (trail x));
+        last = last_snoc begun v.ends (length (trail x));
         lies = (refl, (let m = marked in omega arith));
         each_pass = each_set s.views id w (Fits {T = T} r.next (r.served + 1) (trail x) w.ends (home x) r.holder)
             record {
@@ -372,13 +370,15 @@ module _ {T E : Type 0} (trail : T → List E) (mark : T → ℕ) where
                 here ∙ sym turn,
                 (λ k. (finished v (trail (same k)), rest (slot k))),
                 subst (λ z. Among (finished v (trail z)).mine (trail z)) same all_mine,
+                left_next v y (trail x') (ap length stood.5 ∙ (r.turns ∙ sym here)),
+                record { opening = refl; account = (length (trail x') ∷ [], refl); seen = subst (λ z. IsPrefix v.seen (trail z)) same (onward v.seen f.seen) },
               )),
           refl,
           refl,
         ),
       )
 
-  pub peeks_kept : (n id : ℕ) (me : M) → me.0.stage ≡ Idle → Allows (Lock trail mark) n id me 1 (λ k. k) (peeks trail mark (step n 1 0 0 none) me)
+  pub peeks_kept : (n id : ℕ) (me : M) → me.0.stage ≡ Idle → Allows (Lock trail mark begun) n id me 1 (λ k. k) (peeks trail mark (step n 1 0 0 none) me)
   peeks_kept n id me idle s r wide at small =
       let v = me.0 in let x : ℕ = get_or s.words 1 0 in let here : x ≡ r.served = ap (λ ws. get_or ws 1 0) r.words in
       let f = r.each_pass id v at in let part : v.left ≤ total left_of s.views = part_of_total left_of s.views id v at in let d = r.draws in let o = r.order in
@@ -394,7 +394,7 @@ module _ {T E : Type 0} (trail : T → List E) (mark : T → ℕ) where
       )
 
   -- it has seen what it was told of
-  pub learns_kept : (n id : ℕ) (me : M) → me.0.stage ≡ Idle → Allows (Lock trail mark) n id me 1 (λ k. k) (learns trail mark (step n 1 0 0 none) me)
+  pub learns_kept : (n id : ℕ) (me : M) → me.0.stage ≡ Idle → Allows (Lock trail mark begun) n id me 1 (λ k. k) (learns trail mark (step n 1 0 0 none) me)
   learns_kept n id me idle s r wide at small =
       let v = me.0 in let x : ℕ = get_or s.words 1 0 in let here : x ≡ r.served = ap (λ ws. get_or ws 1 0) r.words in
       let f = r.each_pass id v at in let part : v.left ≤ total left_of s.views = part_of_total left_of s.views id v at in let d = r.draws in
@@ -420,11 +420,11 @@ module _ {T E : Type 0} (trail : T → List E) (mark : T → ℕ) where
       )
 
   abbrev Goes : S → ℕ → ℕ → M → (ℕ → M → Type 0) → ℕ → Type 0
-  Goes s i id me then y = (w : Sight E) × (a : Act (Option T)) × Valid s.homes me.1 a × Lock trail mark (stepped s i y id me.1 w a) × then (get_or s.words i 0) (w, carried_after me.1 a)
+  Goes s i id me then y = (w : Sight E) × (a : Act (Option T)) × Valid s.homes me.1 a × Lock trail mark begun (stepped s i y id me.1 w a) × then (get_or s.words i 0) (w, carried_after me.1 a)
 
-  pub tries_kept : (n id : ℕ) (me : M) (old new : ℕ) → me.0.stage ≡ Peeked → 0 < me.0.left → old ≡ me.0.peeked → new ≡ old + 1
-      → Allows (Lock trail mark) n id me 0 (λ k. either (eqb k old) new k) (tries trail mark (step n 0 old new none) me)
-  tries_kept n id me old new looked some_left is more s r wide at small =
+  pub tries_kept : (n id : ℕ) (me : M) (old new : ℕ) → me.0.stage ≡ Peeked → me.0.opening ≡ begun → 0 < me.0.left → old ≡ me.0.peeked → new ≡ old + 1
+      → Allows (Lock trail mark begun) n id me 0 (λ k. either (eqb k old) new k) (tries trail mark (step n 0 old new none) me)
+  tries_kept n id me old new looked opened some_left is more s r wide at small =
       let v = me.0 in let x : ℕ = get_or s.words 0 0 in let here : x ≡ r.next = ap (λ ws. get_or ws 0 0) r.words in
       let f = r.each_pass id v at in let p = f.peeked in let o = r.order in let some' : 0 < v.left = some_left in
       let not : v.stage ≢ Inside = not_inside v.stage Peeked looked peeked_not in let step_up : new ≡ v.peeked + 1 = omega arith in
@@ -456,7 +456,7 @@ module _ {T E : Type 0} (trail : T → List E) (mark : T → ℕ) where
             (λ t _ has. absurd (subst (HasTicket t v) looked has))
             (λ t le lt. let e : t ≡ r.next = omega arith in (ap holder e ∙ given_here r.holder r.next id, here ∙ sym e)),
         (
-          (λ _. (h.0, refl, record { seen = subst (IsPrefix v.seen) (sym h.2) f.seen; mine = all_mine; marked = (let b = h.3 in omega arith); account = f.account; turns = r.turns ∙ (turn ∙ sym here); last = λ some_turn. (let u = r.turns in ends_last r.opening r.ends (omega arith)) ∙ (r.last ∙ ap length (sym h.2)) })),
+          (λ _. (h.0, refl, record { seen = subst (IsPrefix v.seen) (sym h.2) f.seen; mine = all_mine; marked = (let b = h.3 in omega arith); account = f.account; turns = r.turns ∙ (turn ∙ sym here); last = λ some_turn. (let u = r.turns in ends_last begun r.ends (omega arith)) ∙ (r.last ∙ ap length (sym h.2)); left = found_left (drew v x) begun x r.ends r.log (trail h.0) opened (r.turns ∙ (turn ∙ sym here)) r.last h.2; grows = record { opening = refl; account = f.account; seen = subst (IsPrefix v.seen) (sym h.2) f.seen } })),
           (λ no. absurd (no hit)),
           refl,
           is,
@@ -475,7 +475,7 @@ module _ {T E : Type 0} (trail : T → List E) (mark : T → ℕ) where
         ((λ hit. absurd (miss hit)), (λ _. refl), refl, is, step_up),
       ))
 
-  pub splits_kept : (id n : ℕ) (v : Sight E) → v.stage ≡ Idle → n ≤ v.left → Splits (Lock trail mark) id v (kept_draws n v) (given_draws n v)
+  pub splits_kept : (id n : ℕ) (v : Sight E) → v.stage ≡ Idle → n ≤ v.left → Splits (Lock trail mark begun) id v (kept_draws n v) (given_draws n v)
   splits_kept id n v idle enough s r at =
       let left = kept_draws n v in let right = given_draws n v in let views : List (Sight E) = set s.views id left in
       let sum = total_set left_of s.views id v left in
@@ -494,7 +494,6 @@ module _ {T E : Type 0} (trail : T → List E) (mark : T → ℕ) where
         slot = r.slot;
         order = r.order;
         draws = omega arith;
-        opening = r.opening;
         ends = r.ends;
         turns = r.turns;
         last = r.last;
@@ -512,7 +511,7 @@ module _ {T E : Type 0} (trail : T → List E) (mark : T → ℕ) where
       }
 
   pub joins_kept : (id : ℕ) (v : Sight E) (other : ℕ) (w : Sight E) → v.stage ≡ Idle → w.stage ≡ Idle → length v.told ≡ 0 → length w.told ≡ 0
-      → Joins (Lock trail mark) id v other w (joined v w) spent
+      → Joins (Lock trail mark begun) id v other w (joined v w) spent
   joins_kept id v other w idle idle' untold untold' s r at apart at' =
       let both = joined v w in let views : List (Sight E) = set s.views id both in
       let sum = total_set left_of s.views id v both at in
@@ -535,7 +534,6 @@ module _ {T E : Type 0} (trail : T → List E) (mark : T → ℕ) where
         slot = r.slot;
         order = r.order;
         draws = omega arith;
-        opening = r.opening;
         ends = r.ends;
         turns = r.turns;
         last = r.last;
@@ -550,8 +548,8 @@ module _ {T E : Type 0} (trail : T → List E) (mark : T → ℕ) where
             (held_on s.views id v both t (r.holder t) at (λ has. absurd (subst (HasTicket t v) idle has)) (r.each_ticket t le lt));
       }
 
-  pub opens : (x : T) → mark x ≡ 0 → Lock trail mark (opening (0 ∷ 0 ∷ []) (Some x ∷ []) (opened (2 ^ 62) (trail x)))
-  opens x fresh = record {
+  pub opens : (x : T) → mark x ≡ 0 → length (trail x) ≡ begun → Lock trail mark begun (opening (0 ∷ 0 ∷ []) (Some x ∷ []) (opened (2 ^ 62) (trail x)))
+  opens x fresh begins = record {
     next = 0;
     served = 0;
     log = trail x;
@@ -561,10 +559,9 @@ module _ {T E : Type 0} (trail : T → List E) (mark : T → ℕ) where
     slot = refl;
     order = omega arith;
     draws = omega arith;
-    opening = length (trail x);
     ends = [];
     turns = refl;
-    last = refl;
+    last = sym begins;
     lies = (refl, omega arith);
     each_pass = λ j v e. ⊎_elim (λ (none_there : get_elem? [] j ≡ some v). absurd (some-ne-none v (sym none_there)))
         (λ (is : opened (2 ^ 62) (trail x) ≡ v). subst (Fits 0 0 (trail x) [] (home x) (λ t. t) j) is

@@ -59,8 +59,8 @@ module _ {T E : Type 0} (trail : T → List E) (mark : T → ℕ) where
   Lies served log views (home x) = (trail x ≡ log) × (mark x ≤ served)
   Lies served log views (out j) = (v : Sight E) × (get_elem? views j ≡ maybe.some v) × (v.stage ≡ Inside)
 
-  -- the rule
-  pub record Lock (s : State (Option T) (Sight E)) : Type 0 where
+  -- the rule of a lock whose trail was so long when it was opened
+  pub record Lock (opening : ℕ) (s : State (Option T) (Sight E)) : Type 0 where
     -- the ticket that is drawn next
     pub next : ℕ
     -- the ticket whose turn it is, which is the number of finished turns
@@ -79,8 +79,6 @@ module _ {T E : Type 0} (trail : T → List E) (mark : T → ℕ) where
     pub order : served ≤ next
     -- all draws, those that were made and those that are left, are at most 2^62
     pub draws : next + total left_of s.views ≤ 2 ^ 62
-    -- how long the trail was at the start
-    pub opening : ℕ
     -- the account of the finished turns: how long the trail was at the end of each
     pub ends : List ℕ
     -- as many turns are finished as were served

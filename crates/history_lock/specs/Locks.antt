@@ -6,6 +6,7 @@ use Rattle.history_lock.specs.declared.pass.Stage.{Stage}
 use Rattle.history_lock.specs.declared.pass.Stage.TheVariants.{Idle, Waiting, Inside, Peeked}
 use Rattle.history_lock.specs.declared.pass.Sight.{Sight}
 use Rattle.history_lock.specs.Sights.{Among}
+use Rattle.history_lock.specs.Turns.{LeftFor}
 use Rattle.history_lock.specs.declared.pass.Pass.{Pass}
 use Rattle.history_lock.specs.declared.lock.TicketLock.{TicketLock}
 use Rattle.history_lock.specs.declared.lock.Ticket.{Ticket}
@@ -26,6 +27,10 @@ number_of t = t.number
 abbrev pub ticket_of : {T : Type 0} → Hold T → ℕ
 ticket_of h = h.turn.number
 
+-- the trail that the lock was opened with
+abbrev pub opening_of : {T E : Type 0} → (T → List E) → TicketLock T E → List E
+opening_of trail lock = trail lock.table.shared.key.value
+
 module _ {T E : Type 0} {g : bound.Ghosts T E} where
   -- what the pass knows
   abbrev pub sight : Pass T E g → Sight E
@@ -44,6 +49,8 @@ module _ {T E : Type 0} {g : bound.Ghosts T E} where
     pub mine : Among p.seat.me.0.mine p.seat.me.0.seen
     -- what it has seen is the trail of a value, so what holds of every value of the type holds of it
     pub whole : (x : T) × (g.trail x ≡ p.seat.me.0.seen)
+    -- it knows what the lock was opened with
+    pub opening : LeftFor p.seat.me.0 0 (opening_of g.trail lock)
 
   -- it has no ticket, no hold and no peeked number
   abbrev pub IsIdle : Pass T E g → Type 0

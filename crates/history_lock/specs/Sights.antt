@@ -35,7 +35,7 @@ Among {A} xs ys = (k : ℕ) (x : A) → slice_get xs k ≡ Some x → (i : ℕ) 
 module _ {E : Type 0} where
   -- the first pass of a lock round a value with this trail
   abbrev pub opened : ℕ → List E → Sight E
-  opened n trail = record { stage = Idle; left = n; drawn = 0; peeked = 0; lost = 0; ends = []; seen = trail; told = []; told_ends = []; found = []; mine = [] }
+  opened n trail = record { stage = Idle; left = n; drawn = 0; peeked = 0; lost = 0; opening = length trail; ends = []; seen = trail; told = []; told_ends = []; found = []; mine = [] }
 
   -- what is left of a pass that was joined into another
   abbrev pub spent : Sight E
@@ -70,7 +70,7 @@ module _ {E : Type 0} where
   kept_draws n v = record v { left = v.left - n }
 
   abbrev pub given_draws : ℕ → Sight E → Sight E
-  given_draws n v = record { stage = Idle; left = n; drawn = 0; peeked = 0; lost = 0; ends = v.ends; seen = v.seen; told = []; told_ends = []; found = []; mine = [] }
+  given_draws n v = record { stage = Idle; left = n; drawn = 0; peeked = 0; lost = 0; opening = v.opening; ends = v.ends; seen = v.seen; told = []; told_ends = []; found = []; mine = [] }
 
   -- it takes in another pass, whose trail it has only been told of
   abbrev pub joined : Sight E → Sight E → Sight E

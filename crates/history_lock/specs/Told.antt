@@ -3,6 +3,7 @@ use Rattle.std.specs.Prelude.{◌≡◌, ◌≢◌, ℕ, ◌+◌, ◌^◌, ◌<�
 use mathlib.Core.List.{IsPrefix}
 use Rattle.atomic_table.specs.Table.{Me, Step}
 use Rattle.history_lock.specs.declared.pass.Sight.{Sight}
+use Rattle.history_lock.specs.Turns.{LeftFor, Grows}
 use Rattle.history_lock.specs.Sights.{last_or, Among, drew, took, finished, peeked_at, won, gave_up, learned}
 
 module _ {T E : Type 0} (trail : T → List E) (mark : T → ℕ) where
@@ -24,6 +25,10 @@ module _ {T E : Type 0} (trail : T → List E) (mark : T → ℕ) where
     pub turns : length w.ends ≡ n
     -- its trail is as long as the last of them left it
     pub last : 0 < n → last_or 0 w.ends ≡ length (trail x)
+    -- its trail is just the one that was left for this turn
+    pub left : LeftFor w n (trail x)
+    -- what it knew of the turns it knows now
+    pub grows : Grows v w
 
   -- step 1, a fetch_add of 1 on the first word: the number found is the ticket
   abbrev pub draws_ticket : Step (Option T) → M → ℕ → M → Type 0
@@ -35,7 +40,7 @@ module _ {T E : Type 0} (trail : T → List E) (mark : T → ℕ) where
 
   -- step 4, a fetch_add of 1 on the second word: the value goes home
   abbrev pub leaves : Step (Option T) → M → ℕ → M → Type 0
-  leaves st m r m' = ((x : T) → m.1 ≡ (0, Some x) ∷ [] → (r ≡ m.0.drawn) × (m' ≡ (finished m.0 (trail x), [])) × Among (finished m.0 (trail x)).mine (trail x)) × (st.word ≡ 1) × (st.first ≡ 1)
+  leaves st m r m' = ((x : T) → m.1 ≡ (0, Some x) ∷ [] → (r ≡ m.0.drawn) × (m' ≡ (finished m.0 (trail x), [])) × Among (finished m.0 (trail x)).mine (trail x) × LeftFor (finished m.0 (trail x)) (r + 1) (trail x) × Grows m.0 (finished m.0 (trail x))) × (st.word ≡ 1) × (st.first ≡ 1)
 
   -- step 5, a load of the second word: the pass keeps the number
   abbrev pub peeks : Step (Option T) → M → ℕ → M → Type 0

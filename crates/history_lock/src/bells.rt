@@ -1,10 +1,38 @@
-//! Where threads sleep until their turn. A turn wakes the sleepers of its own bell and no others, so that a turn costs no more with many sleepers than with few.
+//! Where threads sleep that are further back in the line. A bell is rung for one place in the line alone, so that a turn costs no more with many sleepers than
+//! with few.
 
 use std::sync::Wait;
 use std::sync::atomic::AtomicU64;
 use std::sync::atomic::Ordering::SeqCst;
 
 const COUNT: usize = 64;
+
+/// How many threads have come to sleep at one place.
+#[derive(Drop)]
+pub(crate) struct Sleepers {
+    count: AtomicU64,
+}
+
+impl Sleepers {
+    pub fn new() -> Sleepers {
+        Sleepers {
+            count: AtomicU64::new(0),
+        }
+    }
+
+    // A thread comes before its last look at the lock, so who changes the lock after that look counts it.
+    pub fn come(&self) {
+        self.count.fetch_add(1, SeqCst);
+    }
+
+    pub fn go(&self) {
+        self.count.fetch_sub(1, SeqCst);
+    }
+
+    pub fn are_there(&self) -> bool {
+        self.count.load(SeqCst) > 0
+    }
+}
 
 /// The bells of a lock. Tickets that are 64 apart share one.
 #[derive(Drop)]
@@ -17,7 +45,7 @@ impl Bells {
         Bells {
             bells: std::array::from_fn(|_| Bell {
                 rings: AtomicU64::new(0),
-                sleepers: AtomicU64::new(0),
+                sleepers: Sleepers::new(),
             }),
         }
     }
@@ -27,17 +55,16 @@ impl Bells {
     }
 }
 
-/// How often it rang, and how many threads have come to sleep beside it.
+/// How often it rang, and who sleeps beside it.
 #[derive(Drop)]
 pub(crate) struct Bell {
     rings: AtomicU64,
-    sleepers: AtomicU64,
+    sleepers: Sleepers,
 }
 
 impl Bell {
-    // A thread comes before its last look at the lock, so a ring that it does not hear was rung after a change that it sees.
     pub fn come(&self) -> u32 {
-        self.sleepers.fetch_add(1, SeqCst);
+        self.sleepers.come();
         (self.rings.load(SeqCst) & 0xffff_ffff) as u32
     }
 
@@ -47,12 +74,12 @@ impl Bell {
     }
 
     pub fn go(&self) {
-        self.sleepers.fetch_sub(1, SeqCst);
+        self.sleepers.go();
     }
 
     pub fn ring(&self) {
         self.rings.fetch_add(1, SeqCst);
-        if self.sleepers.load(SeqCst) > 0 {
+        if self.sleepers.are_there() {
             self.rings.wake_all();
         }
     }

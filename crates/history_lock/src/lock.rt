@@ -1,7 +1,7 @@
 //! The lock and what it hands out.
 ghost use Rattle.std.specs.Prelude.{◌≡◌};
 
-use crate::bells::Bells;
+use crate::bells::{Bells, Sleepers};
 use crate::pass::Sight;
 use crate::plays::Served;
 use crate::trailed::Trailed;
@@ -17,10 +17,11 @@ pub(crate) const SERVED: usize = 1;
 
 /// A value that passes take in the order of their tickets. Threads share the lock by reference, and each brings its pass.
 ///
-/// The two words and the slot with the value stand under one rule. The bells are no part of it: they say only who is to be woken.
+/// The two words and the slot with the value stand under one rule. Sleepers and bells are no part of it: they say only who is to be woken.
 #[derive(Drop)]
 pub struct TicketLock<T: Trailed> {
     pub(crate) table: Table<Option<T>, Sight<T::Entry>, Snapshot<T>, Served, Global>,
+    pub(crate) first: Sleepers,
     pub(crate) bells: Bells,
     pub ghost two_words: { table.shared.table_id.words ≡ 2 },
     pub ghost one_slot: { table.shared.table_id.slots ≡ 1 },

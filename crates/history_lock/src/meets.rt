@@ -1,6 +1,7 @@
 //! Passes that tell each other what they have seen.
-ghost use Rattle.std.specs.Prelude.{◌≡◌, ◌+◌, ◌≤◌, ◌<◌, ◌⊎◌, ◌↔◌, IsErr, OnErr, OnOk};
+ghost use Rattle.std.specs.Prelude.{◌≡◌, ◌+◌, length, ◌≤◌, ◌<◌, ◌⊎◌, ◌↔◌, IsErr, OnErr, OnOk};
 ghost use Rattle.history_lock.specs.Locks.{sight, IsPassOf, IsIdle, Visits, Learns, Meets};
+ghost use Rattle.history_lock.specs.Turns.{Grows, TookTurn, TookTurns};
 
 use crate::lock::{TicketLock, Worn};
 use crate::pass::Pass;
@@ -16,6 +17,7 @@ impl<T: Trailed> TicketLock<T> {
         requires left { 0 < (sight pass.old).left }
         ensures pass { IsPassOf self.now pass.new × IsIdle pass.new }
         ensures visits { Visits (sight pass.old) (sight pass.new) }
+        ensures turn { TookTurn (sight pass.new) × Grows (sight pass.old) (sight pass.new) × (length (sight pass.old).ends ≤ (sight pass.new).drawn) }
     {
         match self.draw(pass) {
             Ok(ticket) => {
@@ -34,6 +36,7 @@ impl<T: Trailed> TicketLock<T> {
         ensures idle { IsIdle from.new × IsIdle to.new }
         ensures from { sight from.new ≡ sight from.old }
         ensures to { Learns (sight from.old) (sight to.old) (sight to.new) }
+        ensures grows { Grows (sight to.old) (sight to.new) × Grows (sight from.old) (sight to.new) }
     {
         let note = self.hand::<Brand>(from, 0);
         self.join(to, note);
@@ -48,6 +51,7 @@ impl<T: Trailed> TicketLock<T> {
         ensures pass { IsPassOf self.now a.new × IsPassOf self.now b.new }
         ensures idle { IsIdle a.new × IsIdle b.new }
         ensures met { OnOk result (Meets (sight a.old) (sight b.old) (sight a.new) (sight b.new)) }
+        ensures turns { OnOk result (TookTurns (sight a.old) (sight b.old) (sight a.new) (sight b.new)) }
         ensures worn { IsErr result ↔ (((sight a.old).left ≡ 0) ⊎ ((sight b.old).left ≡ 0)) }
         ensures worn_same { OnErr result ((sight a.new ≡ sight a.old) × (sight b.new ≡ sight b.old)) }
     {

@@ -2,6 +2,7 @@
 ghost use Rattle.std.specs.Prelude.{◌≡◌, ◌≤◌, ◌<◌, ◌↔◌, IfOk, IsErr, OnErr, OnOk};
 ghost use mathlib.Core.List.{IsPrefix};
 ghost use Rattle.history_lock.specs.Sights.{kept_draws, given_draws, joined, learned};
+ghost use Rattle.history_lock.specs.Turns.{Grows};
 ghost use Rattle.history_lock.specs.Locks.{sight, IsPassOf, IsIdle};
 
 use crate::lock::{SERVED, TicketLock, Worn};
@@ -38,6 +39,7 @@ impl<T: Trailed> TicketLock<T> {
         ensures pass { IsPassOf self.now pass.new × IfOk result (λ p. IsPassOf self.now p) }
         ensures kept { OnOk result (sight pass.new ≡ kept_draws count (sight pass.old)) }
         ensures given { IfOk result (λ p. sight p ≡ given_draws count (sight pass.old)) }
+        ensures grows { Grows (sight pass.old) (sight pass.new) × IfOk result (λ p. Grows (sight pass.old) (sight p)) }
         ensures worn { IsErr result ↔ ((sight pass.old).left < count) }
         ensures worn_same { OnErr result (sight pass.new ≡ sight pass.old) }
     {
@@ -55,6 +57,7 @@ impl<T: Trailed> TicketLock<T> {
         ensures joined { sight pass.new ≡ learned (joined (sight pass.old) (sight other)) }
         ensures seen { IsPrefix (sight pass.old).seen (sight pass.new).seen × IsPrefix (sight other).seen (sight pass.new).seen }
         ensures account { IsPrefix (sight pass.old).ends (sight pass.new).ends × IsPrefix (sight other).ends (sight pass.new).ends }
+        ensures grows { Grows (sight pass.old) (sight pass.new) × Grows (sight other) (sight pass.new) }
     {
         let (seat, left) = other.into_parts();
         self.table.shared.join_seat::<Takes>(&mut pass.seat, seat);

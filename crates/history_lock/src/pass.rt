@@ -30,6 +30,8 @@ pub struct Sight<E> {
     pub peeked: u64,
     /// How many tries were lost through it, or through passes joined into it.
     pub lost: u64,
+    /// How long the trail was when the lock was opened.
+    pub opening: u64,
     /// The account of the finished turns, as far as it knows it: how long the trail was at the end of each.
     pub ends: LinkedList<u64>,
     /// The trail that it has seen.

@@ -2,7 +2,7 @@
 ghost use Rattle.history_lock.specs.Sights.{opened, spent, kept_draws, given_draws, joined};
 ghost use Rattle.history_lock.specs.Lock.{Lock};
 ghost use Rattle.history_lock.specs.Told.{draws_ticket, looks, leaves, peeks, tries, learns};
-ghost use Rattle.std.specs.Prelude.{ℕ, ◌^◌};
+ghost use Rattle.std.specs.Prelude.{ℕ, ◌^◌, length};
 
 use crate::pass::Sight;
 use crate::trailed::Trailed;
@@ -14,7 +14,7 @@ use std::snapshot::Snapshot;
 pub struct Served;
 
 impl<T: Trailed> TableRule<Option<T>, Sight<T::Entry>, Snapshot<T>> for Served {
-    ghost holds = { λ _. Lock T.trail T.mark };
+    ghost holds = { λ about. Lock T.trail T.mark (length (T.trail about.value)) };
 
     ghost first = { λ about. opened (2 ^ 62) (T.trail about.value) };
 }

@@ -3,9 +3,10 @@ ghost use Rattle.std.specs.Prelude.{◌≡◌, ◌+◌, ◌^◌, ◌≤◌, ◌�
 ghost use mathlib.Core.List.{IsPrefix};
 ghost use Rattle.history_lock.specs.Sights.{opened, drew, took, finished};
 ghost use Rattle.history_lock.specs.Told.{Finds};
-ghost use Rattle.history_lock.specs.Locks.{sight, number_of, ticket_of, IsPassOf, HasDrawn, HasHold, IsIdle};
+ghost use Rattle.history_lock.specs.Turns.{LeftFor, Grows};
+ghost use Rattle.history_lock.specs.Locks.{sight, number_of, ticket_of, opening_of, IsPassOf, HasDrawn, HasHold, IsIdle};
 
-use crate::bells::Bells;
+use crate::bells::{Bells, Sleepers};
 use crate::lock::{Hold, NEXT, SERVED, Ticket, TicketLock, Worn};
 use crate::pass::Pass;
 use crate::plays::{Draws, Leaves, Looks};
@@ -28,6 +29,7 @@ impl<T: Trailed> TicketLock<T> {
         T: Drop,
         requires { T.mark value ≡ 0 }
         ensures pass { IfOk result (λ r. IsPassOf r.0 r.1) }
+        ensures opening { IfOk result (λ r. opening_of T.trail r.0 ≡ T.trail value) }
         ensures opened { IfOk result (λ r. sight r.1 ≡ opened (2 ^ 62) (T.trail value)) }
     {
         let about = Snapshot::of(&value);
@@ -37,6 +39,7 @@ impl<T: Trailed> TicketLock<T> {
             Ok((table, seat)) => Ok((
                 TicketLock {
                     table,
+                    first: Sleepers::new(),
                     bells: Bells::new(),
                 },
                 Pass {
@@ -57,6 +60,7 @@ impl<T: Trailed> TicketLock<T> {
         requires idle { IsIdle pass.old }
         ensures pass { IsPassOf self.now pass.new }
         ensures ok { IfOk result (λ t. sight pass.new ≡ drew (sight pass.old) (number_of t)) }
+        ensures grows { Grows (sight pass.old) (sight pass.new) }
         ensures below { IfOk result (λ t. number_of t + (sight pass.old).left ≤ 2 ^ 62) }
         ensures worn { IsErr result ↔ ((sight pass.old).left ≡ 0) }
         ensures worn_same { OnErr result (sight pass.new ≡ sight pass.old) }
@@ -92,13 +96,16 @@ impl<T: Trailed> TicketLock<T> {
 
     /// Waits for the ticket's turn and takes the value.
     ///
-    /// As the next in line it looks 64 times. After that, or further back, it sleeps until a `leave` rings the bell of its ticket.
+    /// As the next in line it looks 64 times, and then sleeps on the number of the ticket that is served until a `leave` wakes it. Further back it sleeps beside
+    /// the bell of its ticket until it is the next in line.
+    #[tactic(auto, using(crate::proofs::Turns::first_finds_opening))]
     pub fn enter<R: Wait>(&self, rt: &R, ticket: Ticket, pass: &mut Pass<T>) -> Hold<T>
         requires pass { IsPassOf self.now pass.old }
         requires ticket { HasDrawn pass.old ticket }
         ensures pass { IsPassOf self.now pass.new × HasHold pass.new result }
         ensures found { sight pass.new ≡ took (sight pass.old) (sight pass.new).ends (T.trail result.value) }
         ensures turn { Finds T.trail T.mark (sight pass.old) (sight pass.new) (number_of ticket) result.value }
+        ensures first { number_of ticket ≡ 0 → T.trail result.value ≡ opening_of T.trail self.now }
     {
         let mut looks = 0;
         for _ in rt.forever() {
@@ -110,7 +117,9 @@ impl<T: Trailed> TicketLock<T> {
                     };
                 }
                 Err(served) => {
-                    if looks < LOOKS && ticket.number.wrapping_sub(served) == 1 {
+                    if ticket.number.wrapping_sub(served) > 1 {
+                        self.sleep_behind(rt, &ticket);
+                    } else if looks < LOOKS {
                         looks += 1;
                         spin_loop();
                     } else {
@@ -122,11 +131,24 @@ impl<T: Trailed> TicketLock<T> {
         unreachable!()
     }
 
-    // Sleeps, unless it is the ticket's turn. It may return early.
+    // Sleeps until the number of the ticket that is served changes, unless it is this ticket's turn. It may return early.
     fn sleep<R: Wait>(&self, rt: &R, ticket: &Ticket) {
+        self.first.come();
+        let served = self.table.shared.peek(SERVED);
+        if ticket.number != served {
+            self.table
+                .shared
+                .park(rt, SERVED, (served & 0xffff_ffff) as u32);
+        }
+        self.first.go();
+    }
+
+    // Sleeps until the ticket is the next in line, unless it is that or has its turn. It may return early.
+    fn sleep_behind<R: Wait>(&self, rt: &R, ticket: &Ticket) {
         let bell = self.bells.of(ticket.number);
         let heard = bell.come();
-        if self.table.shared.peek(SERVED) != ticket.number {
+        let served = self.table.shared.peek(SERVED);
+        if ticket.number.wrapping_sub(served) > 1 {
             bell.sleep(rt, heard);
         }
         bell.go();
@@ -134,7 +156,7 @@ impl<T: Trailed> TicketLock<T> {
 
     /// Gives the value back, for the next ticket's turn. It neither waits nor takes memory.
     ///
-    /// The trail that the hold has then is the one that the next turn finds, and what it has beyond the one found is the pass's own.
+    /// The trail that the hold has then is the one that the next turn finds, whoever takes it; what it has beyond the one found is the pass's own.
     pub fn leave(&self, hold: Hold<T>, pass: &mut Pass<T>)
         requires pass { IsPassOf self.now pass.old }
         requires hold { HasHold pass.old hold }
@@ -142,6 +164,8 @@ impl<T: Trailed> TicketLock<T> {
         requires marked { T.mark hold.value ≤ ticket_of hold + 1 }
         ensures pass { IsPassOf self.now pass.new }
         ensures left { sight pass.new ≡ finished (sight pass.old) (T.trail hold.value) }
+        ensures next { LeftFor (sight pass.new) (ticket_of hold + 1) (T.trail hold.value) }
+        ensures grows { Grows (sight pass.old) (sight pass.new) }
     {
         let Hold { value, turn } = hold;
         let Ticket { number } = turn;
@@ -153,10 +177,19 @@ impl<T: Trailed> TicketLock<T> {
         }
         shared.fetch_add::<Leaves>(&mut pass.seat, SERVED, 1);
         pass.idle = true;
-        // Who draws the next ticket after this look at the word finds it served.
-        let next = number.wrapping_add(1);
-        if shared.peek(NEXT) != next {
-            self.bells.of(next).ring();
+        self.wake(number.wrapping_add(1));
+    }
+
+    // Wakes who waits for this ticket's turn, which has come, and who is the next in line behind it.
+    fn wake(&self, ticket: u64) {
+        let shared = &self.table.shared;
+        // Who draws the ticket after this look at the word finds it served.
+        if shared.peek(NEXT) == ticket {
+            return;
         }
+        if self.first.are_there() {
+            shared.wake_all(SERVED);
+        }
+        self.bells.of(ticket.wrapping_add(1)).ring();
     }
 }

@@ -1,8 +1,9 @@
 //! Turns, tries, splits, joins, meetings and the end of a lock, by one thread and by several.
-ghost use Rattle.std.specs.Prelude.{◌≡◌, ◌+◌, ◌-◌, ◌^◌, ◌≤◌, ◌<◌, ◌++◌, ◌∷◌, [], IfOk, OnOk, OnErr};
+ghost use Rattle.std.specs.Prelude.{◌≡◌, ◌+◌, ◌-◌, ◌^◌, ◌≤◌, ◌<◌, ◌++◌, ◌∷◌, [], IfOk, IfSome, OnOk, OnErr, List, ℕ, length};
 ghost use Rattle.std.specs.Thread.{IsSync};
 ghost use mathlib.Core.List.{IsPrefix};
 ghost use Rattle.history_lock.specs.Locks.{sight, IsPassOf, IsIdle};
+ghost use Rattle.history_lock.specs.Turns.{LeftFor};
 
 use crate::{Pass, TicketLock, Trailed, TryFault};
 use std::alloc::{AllocError, Global};
@@ -132,6 +133,76 @@ fn is_busy(lock: &TicketLock<Journal>, pass: &mut Pass<Journal>) -> bool
         Err(TryFault::Busy) => true,
         Err(TryFault::Worn) => false,
     }
+}
+
+// Adds x in one turn: the turn's number, and how many entries it left for the next.
+fn leave_entries<R: Wait>(
+    rt: &R,
+    lock: &TicketLock<Journal>,
+    pass: &mut Pass<Journal>,
+    x: u64,
+) -> Option<(u64, usize)>
+    requires { IsPassOf lock.now pass.old × IsIdle pass.old }
+    ensures pass { IsPassOf lock.now pass.new × IsIdle pass.new }
+    ensures left { IfSome result (λ r. (trail : List ℕ) × (r.1 ≡ length trail) × LeftFor (sight pass.new) (r.0 + 1) trail) }
+{
+    let ticket = lock.draw(pass).ok()?;
+    let mut hold = lock.enter(rt, ticket, pass);
+    let number = hold.ticket();
+    let _ = hold.value.add(number, x);
+    let left = hold.value.entries.len();
+    lock.leave(hold, pass);
+    Some((number, left))
+}
+
+// Takes one turn and adds nothing: the turn's number, and how many entries it found.
+fn find_entries<R: Wait>(
+    rt: &R,
+    lock: &TicketLock<Journal>,
+    pass: &mut Pass<Journal>,
+) -> Option<(u64, usize)>
+    requires { IsPassOf lock.now pass.old × IsIdle pass.old }
+    ensures pass { IsPassOf lock.now pass.new × IsIdle pass.new }
+    ensures found { IfSome result (λ r. (trail : List ℕ) × (r.1 ≡ length trail) × LeftFor (sight pass.new) r.0 trail) }
+{
+    let ticket = lock.draw(pass).ok()?;
+    let hold = lock.enter(rt, ticket, pass);
+    let number = hold.ticket();
+    let found = hold.value.entries.len();
+    lock.leave(hold, pass);
+    Some((number, found))
+}
+
+// A turn by each of two passes that know nothing of each other: how many entries the first left, and how many the second found, if its turn was the next.
+#[tactic(auto, using(crate::proofs::Turns::left_once))]
+fn hand_over<R: Wait>(
+    rt: &R,
+    lock: &TicketLock<Journal>,
+    first: &mut Pass<Journal>,
+    mut second: Pass<Journal>,
+) -> Option<(usize, usize)>
+    requires { IsPassOf lock.now first.old × IsIdle first.old × IsPassOf lock.now second × IsIdle second }
+    ensures pass { IsPassOf lock.now first.new × IsIdle first.new }
+    ensures same { IfSome result (λ r. r.0 ≡ r.1) }
+{
+    let (turn, left) = leave_entries(rt, lock, first, 5)?;
+    let (next, found) = find_entries(rt, lock, &mut second)?;
+    lock.join(first, second);
+    if next > 0 && next - 1 == turn {
+        Some((left, found))
+    } else {
+        None
+    }
+}
+
+#[test]
+fn the_next_turn_finds_what_was_left(rt: HostRuntime) -> Result<(), Fail> {
+    let (lock, mut first) = opened(rt.alloc(), 1)?;
+    let Ok(second) = lock.split(&mut first, 1) else {
+        return Err(Fail::from("draws"));
+    };
+    assert!(rt; hand_over(&rt, &lock, &mut first, second) == Some((1, 1)));
+    Ok(())
 }
 
 #[test]

@@ -1,10 +1,11 @@
 //! Trying for the value, and the end of a lock.
-ghost use Rattle.std.specs.Prelude.{◌≡◌, ℕ, ◌+◌, ◌^◌, ◌≤◌, ◌<◌, ◌↔◌, IfOk, OnErr, IfErr};
+ghost use Rattle.std.specs.Prelude.{◌≡◌, ℕ, List, ◌+◌, ◌^◌, ◌≤◌, ◌<◌, ◌↔◌, IfOk, OnErr, IfErr};
 ghost use mathlib.Core.List.{IsPrefix};
 ghost use Rattle.history_lock.specs.declared.lock.TryFault.TheVariants.{Busy, Worn};
 ghost use Rattle.history_lock.specs.Sights.{won, gave_up, peeked_at};
 ghost use Rattle.history_lock.specs.Told.{Finds};
-ghost use Rattle.history_lock.specs.Locks.{sight, ticket_of, IsPassOf, IsIdle, HasHold};
+ghost use Rattle.history_lock.specs.Turns.{LeftFor, Grows};
+ghost use Rattle.history_lock.specs.Locks.{sight, ticket_of, opening_of, IsPassOf, IsIdle, HasHold};
 
 use crate::lock::{Hold, NEXT, SERVED, Ticket, TicketLock, TryFault};
 use crate::pass::Pass;
@@ -22,6 +23,8 @@ impl<T: Trailed> TicketLock<T> {
         ensures hold { IfOk result (λ h. HasHold pass.new h) }
         ensures found { IfOk result (λ h. sight pass.new ≡ won (peeked_at (sight pass.old) (ticket_of h)) (ticket_of h) (sight pass.new).ends (T.trail h.value)) }
         ensures turn { IfOk result (λ h. Finds T.trail T.mark (sight pass.old) (sight pass.new) (ticket_of h) h.value) }
+        ensures first { IfOk result (λ h. ticket_of h ≡ 0 → T.trail h.value ≡ opening_of T.trail self.now) }
+        ensures grows { Grows (sight pass.old) (sight pass.new) }
         ensures below { IfOk result (λ h. ticket_of h + (sight pass.old).left ≤ 2 ^ 62) }
         ensures idle { OnErr result (IsIdle pass.new) }
         ensures busy { (result ≡ Err TryFault.Busy) → ((n : ℕ) × (sight pass.new ≡ gave_up (peeked_at (sight pass.old) n))) }
@@ -54,6 +57,8 @@ impl<T: Trailed> TicketLock<T> {
 
     /// Ends the lock by one try: the value, whose trail begins with all that the pass has seen. It neither waits nor takes memory.
     ///
+    /// A pass that has all draws but those of the finished turns that it knows of gets just what the last of these left.
+    ///
     /// Where a ticket is open the try is lost, and the lock and the pass come back, the pass with one lost try more.
     pub fn close(self, mut pass: Pass<T>) -> Result<T, (TicketLock<T>, Pass<T>)>
     where
@@ -62,6 +67,7 @@ impl<T: Trailed> TicketLock<T> {
         requires idle { IsIdle pass }
         requires left { 0 < (sight pass).left }
         ensures closed { IfOk result (λ x. IsPrefix (sight pass).seen (T.trail x)) }
+        ensures exact { IfOk result (λ x. (n : ℕ) (trail : List T.Entry) → n + (sight pass).left ≡ 2 ^ 62 → LeftFor (sight pass) n trail → T.trail x ≡ trail) }
         ensures lock { IfErr result (λ r. (r.0 ≡ self) × IsPassOf self r.1) }
         ensures lost { IfErr result (λ r. (n : ℕ) × (sight r.1 ≡ gave_up (peeked_at (sight pass) n))) }
     {

@@ -1,0 +1,5 @@
+-- The lemmas of this crate.
+pub mod Places
+pub mod Sameness
+pub mod Firsts
+pub mod Stated

@@ -1,0 +1,5 @@
+-- The definitions that the contracts of this crate cite.
+pub mod Same
+pub mod Offered
+pub mod Ready
+pub mod First

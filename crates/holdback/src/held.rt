@@ -1,0 +1,161 @@
+//! The operations that are held back, in order of arrival.
+ghost use Rattle.std.specs.Prelude.{◌≡◌, ◌≤◌, ◌+◌, ◌⊎◌, [], true, Ok, Err, length, max, position, IfOk, IfErr, OnOk, OnErr, IfSome, OnSome, IfNone};
+ghost use Rattle.opid.specs.declared.refusal.Refusal.TheVariants.{Memory};
+ghost use Rattle.opid.specs.Clocks.{is_next};
+ghost use Rattle.opid.specs.Operations.{number_of};
+ghost use Rattle.holdback.specs.declared.held.Arrival.TheVariants as arrivals;
+ghost use Rattle.holdback.specs.Same.{is_same_operation};
+ghost use Rattle.holdback.specs.Offered.{look_for, offered, with_number, is_same_number, after_arrival};
+ghost use Rattle.holdback.specs.Ready.{first_ready, without_first_ready};
+
+use causal_clock::{Clock, Op};
+use opid::{Refusal, Site};
+use std::alloc::Global;
+use std::marker::Model;
+
+/// At most so many operations are held back.
+pub const MAX_HELD: usize = 1024;
+
+/// How an operation arrived.
+#[derive(Clone, Copy, Debug, PartialEq, Eq)]
+pub enum Arrival {
+    /// It is new, and held back from now on.
+    Kept,
+    /// It is held back already: it came again.
+    Again,
+}
+
+/// Operations whose causal past isn't there yet, in order of arrival: at most 1,024 of some 200 bytes each.
+#[derive(Drop)]
+pub struct Held {
+    ops: Vec<Op>,
+    room: usize,
+}
+
+impl Model for Held {
+    ghost use Rattle.std.specs.Prelude.{◌≤◌, vec_len, vec_capacity};
+    ghost use Rattle.holdback.specs.Offered.{Contents};
+
+    ghost Value = { Contents };
+
+    ghost view = { λ h. record { ops = h.ops.items; room = h.room } };
+
+    ghost invariant = { λ h. (vec_len h.ops ≤ 1024) × (h.room ≤ vec_capacity h.ops) };
+}
+
+impl Held {
+    /// Nothing is held back. Takes no memory.
+    pub fn new(alloc: Global) -> Held
+        ensures { result ≡ record { ops = []; room = 0 } }
+    {
+        Held {
+            ops: Vec::new(alloc),
+            room: 0,
+        }
+    }
+
+    /// How many operations are held back. Constant time.
+    pub fn len(&self) -> usize
+        ensures value { result ≡ length self.now.ops }
+        ensures within { result ≤ MAX_HELD }
+    {
+        self.ops.len()
+    }
+
+    /// Whether the operation is held back. Refused with `Conflict` where another one with its number is. Takes a step
+    /// for each operation that is held, and no memory.
+    pub fn look(&self, op: &Op) -> Result<bool, Refusal>
+        ensures { result ≡ look_for op.now self.now.ops }
+    {
+        match with_number(self.ops.as_slice(), op) {
+            None => Ok(false),
+            Some(held) => {
+                if is_same(op, &held) {
+                    Ok(true)
+                } else {
+                    Err(Refusal::Conflict)
+                }
+            }
+        }
+    }
+
+    /// Holds an operation back, behind those that are. Takes a step for each of these.
+    ///
+    /// Refused, in this order: `Conflict` where another one with its number is held, `HoldFull` where 1,024 are held,
+    /// `Memory` only where nothing is reserved.
+    pub fn offer(&mut self, op: Op) -> Result<Arrival, Refusal>
+        ensures value { IfOk result (λ arrival. offered op self.old.ops ≡ Ok arrival) }
+        ensures held { IfOk result (λ arrival. self.new ≡ record self.old { ops = after_arrival arrival op self.old.ops }) }
+
+        // Each cause, and only then; on a refusal all is as before.
+        ensures cause { IfErr result (λ e. (offered op self.old.ops ≡ Err e)
+            ⊎ ((offered op self.old.ops ≡ Ok arrivals.Kept) × (e ≡ Memory) × (self.old.room ≤ length self.old.ops))) }
+        ensures err { OnErr result (self.new ≡ self.old) }
+    {
+        if self.look(&op)? {
+            return Ok(Arrival::Again);
+        }
+        if self.len() >= MAX_HELD {
+            return Err(Refusal::HoldFull);
+        }
+        self.ops.push(op)?;
+        Ok(Arrival::Kept)
+    }
+
+    /// Takes out the first operation, in order of arrival, that is ready where just the operations are that the clock
+    /// counts. The others keep their order. Takes no memory, and a step for each operation that is held.
+    #[tactic(auto, using(crate::proofs::Places::taken, crate::proofs::Places::none_taken, crate::proofs::Places::left, crate::proofs::Places::all_left))]
+    pub fn take_first_ready(&mut self, clock: &Clock) -> Option<Op>
+        ensures taken { result ≡ first_ready clock.now self.old.ops }
+        ensures others { self.new ≡ record self.old { ops = without_first_ready clock.now self.old.ops } }
+        ensures ready { IfSome result (λ x. is_next x.site x.clock clock.now ≡ true) }
+        ensures fewer { OnSome result (length self.new.ops + 1 ≡ length self.old.ops) }
+        ensures none { IfNone result (self.new ≡ self.old) }
+    {
+        match first_ready(self.ops.as_slice(), clock) {
+            None => None,
+            Some(place) => Some(self.ops.remove(place)),
+        }
+    }
+
+    /// Reserves memory, so that the next `n` operations that are kept aren't refused with `Memory`. Refused with
+    /// `Memory`.
+    pub fn reserve(&mut self, n: usize) -> Result<(), Refusal>
+        ensures ok { OnOk result (self.new ≡ record self.old { room = max self.old.room (length self.old.ops + n) }) }
+        ensures err { OnErr result (self.new ≡ self.old) }
+        ensures memory { IfErr result (λ e. e ≡ Memory) }
+    {
+        self.ops.reserve(n)?;
+        self.room = self.room.max(self.len() + n);
+        Ok(())
+    }
+}
+
+/// Whether the two are one and the same operation.
+fn is_same(a: &Op, b: &Op) -> bool
+    ensures { result ≡ is_same_operation a.now b.now }
+{
+    a == b
+}
+
+/// The first operation that has the number of this one.
+fn with_number(ops: &[Op], op: &Op) -> Option<Op>
+    ensures { result ≡ with_number (number_of op.now) ops.now }
+{
+    let number = op.number();
+    ops.iter().find(|held| has_number(number, held)).copied()
+}
+
+/// Whether the operation has the number.
+fn has_number(number: (Site, u32), op: &Op) -> bool
+    ensures { result ≡ is_same_number number (number_of op.now) }
+{
+    number == op.number()
+}
+
+/// The place of the first operation that is ready where just the operations are that the clock counts.
+fn first_ready(ops: &[Op], clock: &Clock) -> Option<usize>
+    ensures { result ≡ position (λ x. is_next x.site x.clock clock.now) ops.now }
+{
+    ops.iter().position(|op| clock.ready(op))
+}

@@ -1,0 +1,10 @@
+//! What is held back: operations that came before their causal past, in order of arrival, until they are ready
+//! (Roh and others 2011; causal delivery).
+#![tactic(auto)]
+
+mod held;
+pub mod laws;
+#[cfg(test)]
+mod tests;
+
+pub use held::{Arrival, Held, MAX_HELD};

@@ -1,0 +1,9 @@
+-- The lemmas of this crate.
+pub mod Rows
+pub mod Numbers
+pub mod Rounds
+pub mod Checks
+pub mod Parts
+pub mod Lawfully
+pub mod Stated
+pub mod Submitted

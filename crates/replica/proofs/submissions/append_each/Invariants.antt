@@ -1,0 +1,9 @@
+use Rattle.std.proofs.Common.{◌≡◌, ◌≤◌, ◌+◌, ◌++◌, length, drop}
+use Rattle.replica.proofs.submissions.append_each.Given as goal
+
+-- the log with the operations that are left is the log with all of them
+abbrev pub invariant-loop-op : goal.invariant-loop-op
+invariant-loop-op l = record {
+  log : l.log.log ++ drop l.op-index l.ops ≡ l.initial.log.log ++ l.ops;
+  room : l.log.room + l.op-index ≡ l.initial.log.room;
+}

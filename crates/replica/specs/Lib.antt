@@ -1,0 +1,8 @@
+-- The definitions that the contracts of this crate cite.
+pub mod Refused
+pub mod Settle
+pub mod Deliver
+pub mod Part
+pub mod Numbered
+pub mod Kept
+pub mod Settled

@@ -1,0 +1,18 @@
+//! A replica of a document: its log, and the operations from elsewhere that are held back until their causal past is
+//! there (Roh and others 2011; causal delivery).
+#![tactic(auto)]
+
+mod deliver;
+mod delivery;
+pub mod laws;
+mod log;
+mod part;
+mod places;
+mod replica;
+mod settle;
+mod submissions;
+#[cfg(test)]
+mod tests;
+
+pub use delivery::Delivery;
+pub use replica::Replica;

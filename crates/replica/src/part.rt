@@ -1,0 +1,29 @@
+//! A part of a log, as another replica asks for it.
+ghost use Rattle.std.specs.Prelude.{◌≡◌, ◌⊎◌, Ok, Err, IsOk, IfOk, IfErr};
+ghost use Rattle.opid.specs.declared.refusal.Refusal.TheVariants.{Memory};
+ghost use Rattle.replica.specs.Part.{part_of};
+
+use causal_clock::Op;
+use opid::Refusal;
+use std::alloc::Global;
+use versions::Doc;
+
+/// At most so many operations are told at once.
+const MAX_TOLD: u32 = 64;
+
+/// The operations of the log from a place on, at most `max`.
+#[tactic(auto, using(crate::proofs::Parts::part_of_end, crate::proofs::Parts::part_next))]
+pub(crate) fn copy_part(alloc: Global, doc: &Doc, after: u32, max: u32) -> Result<Vec<Op>, Refusal>
+    ensures ok { IfOk result (λ ops. part_of doc.now.log after max ≡ Ok ops.items) }
+    ensures cause { IfErr result (λ e. (part_of doc.now.log after max ≡ Err e) ⊎ (IsOk (part_of doc.now.log after max) × (e ≡ Memory))) }
+{
+    if after > doc.version() || max == 0 || max > MAX_TOLD {
+        return Err(Refusal::BadRange);
+    }
+    let end = doc.version().min(after + max);
+    let mut ops = Vec::with_capacity(alloc, (end - after) as usize)?;
+    for place in after..end {
+        ops.push(doc.op(place))?;
+    }
+    Ok(ops)
+}

@@ -1,0 +1,144 @@
+//! Where a log has the operations of each site.
+ghost use Rattle.std.specs.Prelude.{◌≡◌, ◌<◌, ◌≤◌, ◌-◌, ℕ, map, ◌++◌, [], ◌∷◌, max, replicate, slice_get, slice_set, OnOk, OnErr, IfErr};
+ghost use Rattle.std.specs.List.{AllByRecursion};
+ghost use Rattle.opid.specs.declared.refusal.Refusal.TheVariants.{Memory};
+ghost use Rattle.replica.specs.Numbered.{row_at};
+
+use opid::{Refusal, Site};
+use std::alloc::Global;
+use std::array;
+use std::marker::Model;
+
+/// How many sites there are.
+const SITES: usize = 32;
+
+/// The places of one site's operations, in rising order.
+#[derive(Drop)]
+struct Row {
+    places: Vec<u32>,
+    room: usize,
+}
+
+impl Model for Row {
+    ghost use Rattle.std.specs.Prelude.{◌+◌, ◌≤◌, vec_len, vec_capacity};
+    ghost use Rattle.replica.specs.Numbered.{PlacesOfOne};
+
+    ghost Value = { PlacesOfOne };
+
+    ghost view = { λ r. record { places = r.places.items; room = r.room } };
+
+    ghost invariant = { λ r. vec_len r.places + r.room ≤ vec_capacity r.places };
+}
+
+impl Row {
+    fn new(alloc: Global) -> Row
+        ensures { result ≡ record { places = []; room = 0 } }
+    {
+        Row {
+            places: Vec::new(alloc),
+            room: 0,
+        }
+    }
+
+    fn get(&self, index: u32) -> Option<u32>
+        ensures { result ≡ slice_get self.now.places index }
+    {
+        self.places.get(index as usize).copied()
+    }
+
+    /// Adds a place, for which memory is reserved.
+    fn push(&mut self, place: u32)
+        requires { 0 < self.old.room }
+        ensures { self.new ≡ record { places = self.old.places ++ place ∷ []; room = self.old.room - 1 } }
+    {
+        let _ = self.places.push(place);
+        self.room -= 1;
+    }
+
+    fn reserve(&mut self, n: usize) -> Result<(), Refusal>
+        ensures ok { OnOk result (self.new ≡ record self.old { room = max self.old.room n }) }
+        ensures err { OnErr result (self.new ≡ self.old) }
+        ensures memory { IfErr result (λ e. e ≡ Memory) }
+    {
+        self.places.reserve(n)?;
+        self.room = self.room.max(n);
+        Ok(())
+    }
+}
+
+/// For each site the places of its operations in a log, in rising order: the first operation of a site has the number 1,
+/// the next 2, and so on, so that an operation is found by its number in one step.
+#[derive(Drop)]
+pub(crate) struct Places {
+    rows: [Row; SITES],
+    room: usize,
+}
+
+impl Model for Places {
+    ghost use Rattle.std.specs.Prelude.{◌≤◌, map};
+    ghost use Rattle.std.specs.List.{AllByRecursion};
+    ghost use Rattle.replica.specs.Numbered.{Rows};
+
+    ghost Value = { Rows };
+
+    ghost view = { λ p. record { rows = map (λ r. r.places) p.rows; room = p.room } };
+
+    ghost invariant = { λ p. AllByRecursion (λ r. p.room ≤ r.room) p.rows };
+}
+
+impl Places {
+    /// No places. Takes no memory.
+    pub(crate) fn new(alloc: Global) -> Places
+        ensures { result ≡ record { rows = replicate 32 []; room = 0 } }
+    {
+        Places {
+            rows: array::from_fn(|_| Row::new(alloc)),
+            room: 0,
+        }
+    }
+
+    /// The place of the site's operation with this index, counted from 0. Constant time.
+    pub(crate) fn get(&self, site: Site, index: u32) -> Option<u32>
+        ensures value { result ≡ slice_get (row_at self.now.rows site) index }
+        ensures sited { site < 32 }
+    {
+        self.rows[usize::from(site.number())].get(index)
+    }
+
+    /// Adds the place of the site's next operation, for which memory is reserved.
+    pub(crate) fn push(&mut self, site: Site, place: u32)
+        requires { 0 < self.old.room }
+        ensures rows { self.new.rows ≡ slice_set self.old.rows site (row_at self.old.rows site ++ place ∷ []) }
+        ensures room { self.new.room ≡ self.old.room - 1 }
+    {
+        self.rows[usize::from(site.number())].push(place);
+        self.room -= 1;
+    }
+
+    /// Reserves memory for `n` more places of any site. Constant time where it is there. Refused with `Memory`.
+    pub(crate) fn reserve(&mut self, n: usize) -> Result<(), Refusal>
+        ensures ok { OnOk result (self.new ≡ record self.old { room = max self.old.room n }) }
+        ensures err { OnErr result (self.new ≡ self.old) }
+        ensures memory { IfErr result (λ e. (e ≡ Memory) × (self.old.room < n)) }
+    {
+        if n <= self.room {
+            return Ok(());
+        }
+        reserve_each(&mut self.rows, n)?;
+        self.room = self.room.max(n);
+        Ok(())
+    }
+}
+
+/// Reserves memory for `n` more places in each row.
+fn reserve_each(rows: &mut [Row], n: usize) -> Result<(), Refusal>
+    ensures same { map (λ r. r.places) rows.new ≡ map (λ r. r.places) rows.old }
+    ensures kept { (room : ℕ) → AllByRecursion (λ r. room ≤ r.room) rows.old → AllByRecursion (λ r. room ≤ r.room) rows.new }
+    ensures ok { OnOk result (AllByRecursion (λ r. n ≤ r.room) rows.new) }
+    ensures memory { IfErr result (λ e. e ≡ Memory) }
+{
+    for row in rows.iter_mut() {
+        row.reserve(n)?;
+    }
+    Ok(())
+}

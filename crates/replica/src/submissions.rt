@@ -1,0 +1,41 @@
+//! Submissions: what the replica's own site asks for by a place in a version goes behind the whole log.
+ghost use Rattle.std.specs.Prelude.{◌≡◌, ◌≤◌, ◌+◌, ◌-◌, ◌++◌, max, length, IfOk, IfErr, OnOk, OnErr};
+ghost use Rattle.opid.specs.declared.refusal.Refusal.TheVariants.{Memory};
+ghost use Rattle.opid.specs.Lawful.{IsLawful};
+
+use crate::log::{Log, MAX_OPERATIONS};
+use causal_clock::Op;
+use opid::Refusal;
+
+/// Appends operations that may follow the log, and tells the versions that they lead from and to. Refused with
+/// `Memory`. Takes the steps of an append for each.
+pub(crate) fn append_all(log: &mut Log, ops: &[Op]) -> Result<(u32, u32), Refusal>
+    requires lawful { IsLawful (log.old.log ++ ops.now) }
+    requires few { length log.old.log + length ops.now ≤ 131072 }
+    ensures reply { IfOk result (λ r. r ≡ (length log.old.log, length log.old.log + length ops.now)) }
+    ensures grown { OnOk result (log.new ≡ record { log = log.old.log ++ ops.now; room = max log.old.room (length ops.now) - length ops.now }) }
+    ensures cause { IfErr result (λ e. e ≡ Memory) }
+    ensures err { OnErr result (log.new ≡ log.old) }
+{
+    let from = log.doc().version();
+    log.reserve(ops.len())?;
+    append_each(log, ops);
+    Ok((from, log.doc().version()))
+}
+
+/// Appends operations that may follow the log, for which there is room.
+fn append_each(log: &mut Log, ops: &[Op])
+    requires lawful { IsLawful (log.old.log ++ ops.now) }
+    requires few { length log.old.log + length ops.now ≤ 131072 }
+    requires room { length ops.now ≤ log.old.room }
+    ensures { log.new ≡ record { log = log.old.log ++ ops.now; room = log.old.room - length ops.now } }
+{
+    for op in ops {
+        // Its clock counts it.
+        let _ = op.site();
+        match log.append(op) {
+            Ok(()) => {}
+            Err(_) => unreachable!(),
+        }
+    }
+}
