@@ -1,12 +1,13 @@
 -- An editor that is given replies of its session, in any order, reads what the room reads at the editor's version.
-use Rattle.std.proofs.Common.{◌≡◌, ℕ, ◌+◌, ◌-◌, ◌<◌, ◌≤◌, Bool, true, false, cond, Option, Some, None, Ok, Err, List, [], ◌∷◌, ◌++◌, length, take, drop, refl, ap, ◌∙◌, sym, subst, arith, append_assoc, nat_eq, inl, inr}
+use Rattle.std.proofs.Common.{◌≡◌, ℕ, zero, suc, ◌+◌, ◌-◌, ◌<◌, ◌≤◌, Bool, true, false, cond, Option, Some, None, Ok, Err, List, [], ◌∷◌, ◌++◌, length, take, drop, refl, ap, ◌∙◌, sym, subst, arith, append_assoc, nat_eq, inl, inr, ◌⊎◌}
 use mathlib.Core.Path.{ap₂}
-use Rattle.std.specs.Prelude.{min, max, nat_lt, MatchOption, if◌then◌else◌, option_map, option_and_then, ◌==◌, ◌||◌}
+use Rattle.std.specs.Prelude.{min, max, nat_lt, MatchOption, if◌then◌else◌, option_map, option_and_then, ◌==◌, ◌||◌, Result}
 use Rattle.std.specs.List.{AllByRecursion as Each}
 use Rattle.std.proofs.lemmas.Bool.{eqb-true, cond-true, cond-false}
 use Rattle.std.proofs.lemmas.Bool.Decides.{nat_tests}
 use Rattle.std.proofs.lemmas.List.{append-nil, length-append, take_all}
 use Rattle.opid.specs.declared.edit.Edit.{Edit}
+use Rattle.opid.specs.declared.refusal.Refusal.{Refusal}
 use Rattle.opid.specs.declared.refusal.Refusal.TheVariants.{BadCount, BadHave, HistoryFull}
 use Rattle.opid.specs.Operations.{Operation}
 use Rattle.opid.specs.Reading.{reading, reading_at}
@@ -15,18 +16,19 @@ use Rattle.opid.specs.Edits.{edits}
 use Rattle.opid.specs.Lawful.{IsLawful}
 use Rattle.opid.specs.Asked.{asked_insertions, asked_deletions}
 use Rattle.session_outbox.specs.declared.submission.Submission.TheVariants.{New, Repeat}
-use Rattle.session_outbox.specs.Sessions.{Session, AreNumbered, session_with, change_session, submitted as after_submission, sent_to, joined}
+use Rattle.session_outbox.specs.Sessions.{Session, AreNumbered, session_with, change_session, without_session, submitted as after_submission, sent_to, joined}
 use Rattle.session_outbox.specs.Answers.{pull_of}
 use Rattle.session_outbox.proofs.Numbered.{next_is_new, low_below}
 use Rattle.room.specs.declared.call.Call.{Call}
-use Rattle.room.specs.declared.call.Call.TheVariants.{Join, Ins, Del, Pull, Leave, Read}
+use Rattle.room.specs.declared.call.Call.TheVariants.{Join, Ins, Del, Pull, Leave, Ops, Put, Read}
 use Rattle.room.specs.declared.reply.Reply.{Reply}
 use Rattle.room.specs.declared.reply.Reply.TheVariants as replies
 use Rattle.room.specs.Machine.{State, Finding, empty_room, check, found_in_pull, accepted_answer, accepted_next, found_answer, found_next, may_record, counted, recorded_answer, recorded_next, answer, next, edits_between}
 use Rattle.room.specs.History.{state_of}
 use Rattle.room.specs.Kept.{IsRoom}
-use Rattle.room.specs.Editor.{Editor, with_edits, with_reply, editor_from, editor, IsInStep}
-use Rattle.room.specs.Convergence.{given_to, WasGiven, or_before, last_known, EditorsConverge}
+use Rattle.room.specs.Editor.{Editor, empty_editor, with_edits, with_reply, editor_from, editor, IsInStep}
+use Rattle.room.specs.Convergence.{opened_by, given_to, WasGiven, or_before, last_known, EditorsConverge}
+use Rattle.room.proofs.Handing.{Extends, Extends-refl, hand_over-extends}
 use Rattle.room.proofs.Playing.{plays, edits-stay, reading-stays, length-between}
 use Rattle.room.proofs.Running.{IsWithin, IsRunning, IsRunning-empty, IfThere, IfThere-changed, IfThere-without, IfThere-joined, next-running}
 
@@ -38,6 +40,8 @@ Fits log w (replies.Joined s v x) = (v ≡ w.first) × (w.first ≤ w.sent) × (
 Fits log w (replies.Edits start es) = (w.first ≤ start) × (start + length es ≤ w.sent) × (start + length es ≤ length log) × (es ≡ take (length es) (drop start (edits log)))
 Fits log w (replies.Ok start end) = Unit {0}
 Fits log w replies.Left = Unit {0}
+Fits log w (replies.Ops start ops) = Unit {0}
+Fits log w (replies.Put os) = Unit {0}
 Fits log w (replies.Text v x) = Unit {0}
 Fits log w (replies.No e) = Unit {0}
 
@@ -52,16 +56,12 @@ Fits-later log more w u (replies.Edits start es) d f =
     (omega (arith, d.0, f.0), omega (arith, d.1, f.1), omega (arith, f.2, length-append log more), f.3 ∙ sym (edits-stay log more start (length es) f.2))
 Fits-later log more w u (replies.Ok start end) d f = tt
 Fits-later log more w u replies.Left d f = tt
+Fits-later log more w u (replies.Ops start ops) d f = tt
+Fits-later log more w u (replies.Put os) d f = tt
 Fits-later log more w u (replies.Text v x) d f = tt
 Fits-later log more w u (replies.No e) d f = tt
 
 -- ---- a log only grows
-
-abbrev pub Extends : List Operation → List Operation → Type 0
-Extends log longer = (more : List Operation) × (longer ≡ log ++ more)
-
-Extends-refl : (log : List Operation) → Extends log log
-Extends-refl log = ([], sym (append-nil log))
 
 accepted-extends : (S : State) (c : Call) → Extends S.log (accepted_next S c).log
 accepted-extends S Join = Extends-refl S.log
@@ -69,6 +69,8 @@ accepted-extends S (Ins s n v k x) = (asked_insertions S.log S.site v k x, refl)
 accepted-extends S (Del s n v k c) = (asked_deletions S.log S.site v k c, refl)
 accepted-extends S (Pull s have most) = Extends-refl S.log
 accepted-extends S (Leave s) = Extends-refl S.log
+accepted-extends S (Ops after most) = Extends-refl S.log
+accepted-extends S (Put ops) = hand_over-extends S.site S.log S.held ops
 accepted-extends S Read = Extends-refl S.log
 
 found-extends : (S : State) (c : Call) (f : Finding) → Extends S.log (found_next S c f).log
@@ -108,6 +110,8 @@ accepted-since S (Pull t have most) s w r h =
     below_max : (a b c : ℕ) → a ≤ b → a ≤ max b c
     below_max a b c h = grind (arith, nat_tests)
 accepted-since S (Leave t) s w r h = (h.0, IfThere-without (Descends w) s t 0 S.outbox.next_number S.outbox.sessions r.numbered h.1)
+accepted-since S (Ops after most) s w r h = h
+accepted-since S (Put ops) s w r h = h
 accepted-since S Read s w r h = h
 
 found-since : (S : State) (c : Call) (f : Finding) (s : ℕ) (w : Session) → IsRunning S → Since s w S → Since s w (found_next S c f)
@@ -159,6 +163,8 @@ IsTelling (replies.Joined s v x) = Unit {0}
 IsTelling (replies.Edits start es) = Unit {0}
 IsTelling (replies.Ok start end) = ⊥
 IsTelling replies.Left = ⊥
+IsTelling (replies.Ops start ops) = ⊥
+IsTelling (replies.Put os) = ⊥
 IsTelling (replies.Text v x) = ⊥
 IsTelling (replies.No e) = ⊥
 
@@ -262,6 +268,8 @@ accepted-told S (Pull n have most) s r a g t = go (pulled (session_with n S.outb
           fits = (f, omega (arith, size, above, max-right w.sent to), omega (arith, size, above, below), ap (λ m. take m (drop have (edits S.log))) (sym size));
         }
 accepted-told S (Leave n) s r a g t = absurd t
+accepted-told S (Ops after most) s r a g t = absurd t
+accepted-told S (Put ops) s r a g t = absurd t
 accepted-told S Read s r a g t = absurd t
 
 -- what is told of a room does not depend on the count of calls
@@ -302,6 +310,8 @@ each-fits s S h w run k (replies.Joined t v x) g = subst (λ o. MatchOption o �
 each-fits s S h w run k (replies.Edits start es) g = subst (λ o. MatchOption o ⊥ (λ u. Fits (state_of S h).log u (replies.Edits start es))) k (given-fits s S h (replies.Edits start es) None run g tt)
 each-fits s S h w run k (replies.Ok start end) g = tt
 each-fits s S h w run k replies.Left g = tt
+each-fits s S h w run k (replies.Ops start ops) g = tt
+each-fits s S h w run k (replies.Put os) g = tt
 each-fits s S h w run k (replies.Text v x) g = tt
 each-fits s S h w run k (replies.No e) g = tt
 
@@ -327,6 +337,8 @@ reply-step log w (replies.Joined s v x) E l i f = record { reads = f.3; first = 
 reply-step log w (replies.Edits start es) E l i f = edits-step log w start es E l i f
 reply-step log w (replies.Ok start end) E l i f = i
 reply-step log w replies.Left E l i f = i
+reply-step log w (replies.Ops start ops) E l i f = i
+reply-step log w (replies.Put os) E l i f = i
 reply-step log w (replies.Text v x) E l i f = i
 reply-step log w (replies.No e) E l i f = i
 
@@ -346,23 +358,22 @@ Each-fits : (P Q : Reply → Type 0) → ((r : Reply) → P r → Q r) → (rs :
 Each-fits P Q f [] h = tt
 Each-fits P Q f (r ∷ rs) h = (f r h.0, Each-fits P Q f rs h.1)
 
-state_of-running : (S : State) (h : List (ℕ × Call)) → IsRunning S → IsRunning (state_of S h)
-state_of-running S [] r = r
-state_of-running S (e ∷ h) r = state_of-running (next S e.1) h (next-running S e.1 r)
-
--- editors converge with a room from its opening on
-pub converge : (S : State) (h : List (ℕ × Call)) → IsRunning S → EditorsConverge (record { opening = S; history = h; state = state_of S h })
-converge S h run s (replies.Joined t v x) rs o g gs = go (last_known s S h None) refl (given-fits s S h (replies.Joined t v x) None run g tt)
+-- editors converge with a room from its opening on, as long as its log is lawful
+pub converge : (S : State) (h : List (ℕ × Call)) → IsRunning S → IsLawful (state_of S h).log → EditorsConverge (record { opening = S; history = h; state = state_of S h })
+converge S h run l s (replies.Joined t v x) rs o g gs = go (last_known s S h None) refl (given-fits s S h (replies.Joined t v x) None run g tt)
   where
     go : (o : Option Session) → last_known s S h None ≡ o → MatchOption o ⊥ (λ w. Fits (state_of S h).log w (replies.Joined t v x)) → MatchOption o ⊥ (λ w. Steps (state_of S h).log w (editor (replies.Joined t v x ∷ rs)))
     go None e f = f
-    go (Some w) e f = joined-steps (state_of S h).log w t v x rs (state_of-running S h run).lawful f (Each-fits (WasGiven s S h) (Fits (state_of S h).log w) (each-fits s S h w run e) rs gs)
-converge S h run s (replies.Edits start es) rs o g gs = cc
-converge S h run s (replies.Ok start end) rs o g gs = cc
-converge S h run s replies.Left rs o g gs = cc
-converge S h run s (replies.Text v x) rs o g gs = cc
-converge S h run s (replies.No e) rs o g gs = cc
+    go (Some w) e f = joined-steps (state_of S h).log w t v x rs l f (Each-fits (WasGiven s S h) (Fits (state_of S h).log w) (each-fits s S h w run e) rs gs)
+converge S h run l s (replies.Edits start es) rs o g gs = cc
+converge S h run l s (replies.Ok start end) rs o g gs = cc
+converge S h run l s replies.Left rs o g gs = cc
+converge S h run l s (replies.Ops start ops) rs o g gs = cc
+converge S h run l s (replies.Put os) rs o g gs = cc
+converge S h run l s (replies.Text v x) rs o g gs = cc
+converge S h run l s (replies.No e) rs o g gs = cc
 
 -- a room's editors
-pub room_converges : (S : State) (h : List (ℕ × Call)) (m : ℕ) → S.site < 32 → IsRoom S h m → EditorsConverge (record { opening = empty_room S.site; history = h; state = S })
-room_converges S h m b r = subst (λ T. EditorsConverge (record { opening = empty_room S.site; history = h; state = T })) r.replays (converge (empty_room S.site) h (IsRunning-empty S.site b))
+pub room_converges : (S : State) (h : List (ℕ × Call)) (m : ℕ) → IsLawful S.log → IsRoom S h m → EditorsConverge (record { opening = empty_room S.site; history = h; state = S })
+room_converges S h m l r = subst (λ T. EditorsConverge (record { opening = empty_room S.site; history = h; state = T })) r.replays
+    (converge (empty_room S.site) h (IsRunning-empty S.site) (subst (λ T. IsLawful T.log) (sym r.replays) l))

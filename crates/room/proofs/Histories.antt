@@ -5,7 +5,7 @@ use Rattle.std.proofs.lemmas.Bool.{cond-true}
 use Rattle.std.proofs.lemmas.List.{length-append}
 use Rattle.session_outbox.specs.declared.submission.Submission.TheVariants.{New, Repeat}
 use Rattle.room.specs.declared.call.Call.{Call}
-use Rattle.room.specs.declared.call.Call.TheVariants.{Join, Ins, Del, Pull, Leave, Read}
+use Rattle.room.specs.declared.call.Call.TheVariants.{Join, Ins, Del, Pull, Leave, Ops, Put, Read}
 use Rattle.room.specs.Machine.{State, Finding, empty_room, check, found_next, counted, may_record, answer, next}
 use Rattle.room.specs.History.{state_of, mark_from, mark, AreRisingFrom, Account, called, ran, answers, after}
 use Rattle.room.specs.Kept.{IsRoom}
@@ -31,6 +31,8 @@ found_site S (Ins s n v k x) (Ok New) = refl
 found_site S (Del s n v k c) (Ok New) = refl
 found_site S (Pull s have max) (Ok New) = refl
 found_site S (Leave s) (Ok New) = refl
+found_site S (Ops after most) (Ok New) = refl
+found_site S (Put ops) (Ok New) = refl
 found_site S Read (Ok New) = refl
 
 found_count : (S : State) (c : Call) (f : Finding) → (found_next S c f).count ≡ S.count
@@ -41,6 +43,8 @@ found_count S (Ins s n v k x) (Ok New) = refl
 found_count S (Del s n v k c) (Ok New) = refl
 found_count S (Pull s have max) (Ok New) = refl
 found_count S (Leave s) (Ok New) = refl
+found_count S (Ops after most) (Ok New) = refl
+found_count S (Put ops) (Ok New) = refl
 found_count S Read (Ok New) = refl
 
 next-recorded : (S : State) (c : Call) → may_record S ≡ true → next S c ≡ counted (found_next S c (check S c))

@@ -1,30 +1,38 @@
 -- An editor that is given each reply of its session once, in order, has the version that the session was sent.
-use Rattle.std.proofs.Common.{◌≡◌, ℕ, ◌+◌, ◌-◌, ◌<◌, ◌≤◌, Bool, true, false, cond, Option, Some, None, Ok, Err, List, [], ◌∷◌, ◌++◌, length, refl, ap, ◌∙◌, sym, subst, arith, nat_eq}
-use Rattle.std.specs.Prelude.{min, max, MatchOption, if◌then◌else◌, option_map, option_and_then}
+use Rattle.std.proofs.Common.{◌≡◌, ℕ, zero, suc, ◌+◌, ◌-◌, ◌<◌, ◌≤◌, Bool, true, false, cond, Option, Some, None, Ok, Err, List, [], ◌∷◌, ◌++◌, length, take, drop, refl, ap, ◌∙◌, sym, subst, arith, nat_eq}
+use mathlib.Core.Path.{ap₂}
+use Rattle.std.specs.Prelude.{min, max, MatchOption, if◌then◌else◌, option_map, option_and_then, is_some, ◌==◌}
+use Rattle.std.specs.List.{AllByRecursion as Each}
 use Rattle.std.proofs.lemmas.Bool.{eqb-true, cond-true, cond-false}
 use Rattle.std.proofs.lemmas.Bool.Decides.{nat_tests}
 use Rattle.std.proofs.lemmas.List.{take_all}
+use Rattle.std.proofs.Math.Seq.{take-append_seam}
+use Rattle.opid.proofs.Logs.{IsLawful-take}
 use Rattle.opid.specs.declared.edit.Edit.{Edit}
 use Rattle.opid.specs.declared.refusal.Refusal.TheVariants.{HistoryFull}
 use Rattle.opid.specs.Operations.{Operation}
 use Rattle.opid.specs.Reading.{reading, reading_at}
 use Rattle.opid.specs.Splice.{play}
+use Rattle.opid.specs.Edits.{edits}
+use Rattle.opid.specs.Lawful.{IsLawful}
 use Rattle.opid.specs.Asked.{asked_insertions, asked_deletions}
 use Rattle.session_outbox.specs.declared.submission.Submission.TheVariants.{New, Repeat}
-use Rattle.session_outbox.specs.Sessions.{Session, session_with, change_session, without_session, submitted as after_submission, sent_to, joined}
+use Rattle.session_outbox.specs.Sessions.{Session, AreNumbered, session_with, change_session, without_session, submitted as after_submission, sent_to, joined}
+use Rattle.session_outbox.specs.Answers.{pull_of}
 use Rattle.session_outbox.proofs.Numbered.{next_is_new}
 use Rattle.room.specs.declared.call.Call.{Call}
-use Rattle.room.specs.declared.call.Call.TheVariants.{Join, Ins, Del, Pull, Leave, Read}
+use Rattle.room.specs.declared.call.Call.TheVariants.{Join, Ins, Del, Pull, Leave, Ops, Put, Read}
 use Rattle.room.specs.declared.reply.Reply.{Reply}
 use Rattle.room.specs.declared.reply.Reply.TheVariants as replies
-use Rattle.room.specs.Machine.{State, Finding, empty_room, check, accepted_answer, accepted_next, found_answer, found_next, may_record, counted, recorded_answer, recorded_next, answer, next, edits_between}
+use Rattle.room.specs.Machine.{State, Finding, empty_room, check, found_in_pull, accepted_answer, accepted_next, found_answer, found_next, may_record, counted, recorded_answer, recorded_next, answer, next, edits_between}
 use Rattle.room.specs.History.{state_of}
 use Rattle.room.specs.Kept.{IsRoom}
-use Rattle.room.specs.Editor.{Editor, empty_editor, with_edits, with_reply, editor_from}
+use Rattle.room.specs.Editor.{Editor, empty_editor, with_edits, with_reply, editor_from, editor}
 use Rattle.room.specs.Convergence.{given_to, or_before, last_known, is_session, replies_to, NamesVersion, after_call, PullsInStep, EditorsKeepUp}
+use Rattle.room.proofs.Handing.{Extends, hand_over-extends}
 use Rattle.room.proofs.Playing.{plays, reading-stays, length-between}
 use Rattle.room.proofs.Running.{IsWithin, IsRunning, IsRunning-empty, gone, next-running}
-use Rattle.room.proofs.Converging.{there-holds, there-below, joined-there, changed-there, pulled, min-above, min-below}
+use Rattle.room.proofs.Converging.{there-holds, there-below, joined-there, changed-there, pulled, min-above, min-below, state_of-extends}
 
 -- the editor has what session s was sent, and reads it while the session is there
 abbrev pub KeepsUp : Option Session → Option Session → List Operation → ℕ → ℕ → Option Editor → Type 0
@@ -104,6 +112,9 @@ leaves None None log next s (Some E) b k = k
 
 -- ---- a call that is accepted
 
+reading-extended : (log longer : List Operation) (v : ℕ) → v ≤ length log → Extends log longer → reading_at longer v ≡ reading_at log v
+reading-extended log longer v h (more, e) = ap (λ l. reading_at l v) e ∙ reading-stays log more v h
+
 abbrev given : ℕ → Call → Reply → Option Editor → Option Editor
 given s c r E = if is_session s (given_to c r) then option_and_then (with_reply r) E else E
 
@@ -172,9 +183,9 @@ join-keeps s S before E run k = by (nat_eq S.outbox.next_number s) refl
     by false q =
         keeps_on s S (accepted_next S Join) before E E run refl (ap (option_map (λ u. u.sent)) (joined-other s new S.outbox.sessions (nat_eq-sym s S.outbox.next_number ∙ q))) (omega arith) (λ v h. refl) k
 
-pull-keeps : (s t have most : ℕ) (S : State) (before : Option Session) (E : Option Editor) → IsRunning S → check S (Pull t have most) ≡ Ok New → NamesVersion s E (Pull t have most) → Keeps s S before E
+pull-keeps : (s t have most : ℕ) (S : State) (before : Option Session) (E : Option Editor) → IsRunning S → IsLawful S.log → check S (Pull t have most) ≡ Ok New → NamesVersion s E (Pull t have most) → Keeps s S before E
     → Keeps s (accepted_next S (Pull t have most)) (known s S before) (given s (Pull t have most) (accepted_answer S (Pull t have most)) E)
-pull-keeps s t have most S before E run a names k = by (nat_eq t s) refl
+pull-keeps s t have most S before E run l a names k = by (nat_eq t s) refl
   where
     to : ℕ
     to = min (have + most) (length S.log)
@@ -185,16 +196,16 @@ pull-keeps s t have most S before E run a names k = by (nat_eq t s) refl
     pulls : (E : Option Editor) → t ≡ s → option_map (λ F. F.version) E ≡ Some have → (w : Session) × (session_with t S.outbox.sessions ≡ Some w) × (w.first ≤ have) × (have ≤ w.sent) → Keeps s S before E
         → Keeps s (accepted_next S (Pull t have most)) (known s S before) (option_and_then (with_edits have es) E)
     pulls None e n p k = cc
-    pulls (Some F) e n (w, there, f, l) k =
+    pulls (Some F) e n (w, there, f, m) k =
         let at : F.version ≡ have = cc in
         let here : session_with s S.outbox.sessions ≡ Some w = ap (λ m. session_with m S.outbox.sessions) (sym e) ∙ there in
         let keeps : (F.version ≡ w.sent) × (F.text ≡ reading_at S.log F.version) = subst (λ o. KeepsUp o before S.log S.outbox.next_number s (Some F)) here k in
         let inside : IsWithin (length S.log) w = there-holds (IsWithin (length S.log)) t S.outbox.sessions w run.within there in
-        let above : have ≤ to = min-above have (length S.log) most (omega (arith, l, inside.1)) in
+        let above : have ≤ to = min-above have (length S.log) most (omega (arith, m, inside.1)) in
         let size : length es ≡ to - have = length-between S.log have to above (min-below (have + most) (length S.log)) in
         let now : session_with s (change_session t (sent_to to) S.outbox.sessions) ≡ Some (sent_to to w) =
         ap (λ m. session_with m (change_session t (sent_to to) S.outbox.sessions)) (sym e) ∙ changed-there t (sent_to to) w S.outbox.sessions (λ u. refl) there in
-        let played : play F.text es ≡ Some (reading_at S.log (have + (to - have))) = ap (λ x. play x es) (keeps.1 ∙ ap (reading_at S.log) at) ∙ plays S.log have (to - have) run.lawful in
+        let played : play F.text es ≡ Some (reading_at S.log (have + (to - have))) = ap (λ x. play x es) (keeps.1 ∙ ap (reading_at S.log) at) ∙ plays S.log have (to - have) l in
         let yes : with_edits have es F ≡ Some (record { text = reading_at S.log (have + (to - have)); version = F.version + length es }) =
         cond-true (nat_eq have F.version) _ _ (ap (nat_eq have) at ∙ same have) ∙ ap (option_map (λ x. let G : Editor = record { text = x; version = F.version + length es } in G)) played in
         subst (λ o. KeepsUp o (known s S before) S.log S.outbox.next_number s (with_edits have es F)) (sym now)
@@ -223,39 +234,46 @@ leave-keeps s t S before E run k = by (nat_eq s t) refl
         (leaves (session_with s S.outbox.sessions) before S.log S.outbox.next_number s E (here_below S s run) k)
     by false q = keeps_on s S (accepted_next S (Leave t)) before E E run refl (ap (option_map (λ u. u.sent)) (without-other s t S.outbox.sessions q)) (omega arith) (λ v h. refl) k
 
-accepted-keeps : (s : ℕ) (S : State) (c : Call) (before : Option Session) (E : Option Editor) → IsRunning S → check S c ≡ Ok New → NamesVersion s E c → Keeps s S before E
+accepted-keeps : (s : ℕ) (S : State) (c : Call) (before : Option Session) (E : Option Editor) → IsRunning S → IsLawful S.log → check S c ≡ Ok New → NamesVersion s E c → Keeps s S before E
     → Keeps s (accepted_next S c) (known s S before) (given s c (accepted_answer S c) E)
-accepted-keeps s S Join before E run a n k = join-keeps s S before E run k
-accepted-keeps s S (Ins t m v p x) before E run a n k =
+accepted-keeps s S Join before E run l a n k = join-keeps s S before E run k
+accepted-keeps s S (Ins t m v p x) before E run l a n k =
     keeps_on s S (accepted_next S (Ins t m v p x)) before E _ run (same_editor s (Ins t m v p x) (accepted_answer S (Ins t m v p x)) E (λ F. refl))
     (changed-sent s t (after_submission (length S.log) (length S.log + length x)) S.outbox.sessions (λ u. refl) (λ u. refl)) (omega arith)
     (λ i h. reading-stays S.log (asked_insertions S.log S.site v p x) i h) k
-accepted-keeps s S (Del t m v p c) before E run a n k =
+accepted-keeps s S (Del t m v p c) before E run l a n k =
     keeps_on s S (accepted_next S (Del t m v p c)) before E _ run (same_editor s (Del t m v p c) (accepted_answer S (Del t m v p c)) E (λ F. refl))
     (changed-sent s t (after_submission (length S.log) (length S.log + c)) S.outbox.sessions (λ u. refl) (λ u. refl)) (omega arith)
     (λ i h. reading-stays S.log (asked_deletions S.log S.site v p c) i h) k
-accepted-keeps s S (Pull t have most) before E run a n k = pull-keeps s t have most S before E run a n k
-accepted-keeps s S (Leave t) before E run a n k = subst (Keeps s (accepted_next S (Leave t)) (known s S before)) (sym (same_editor s (Leave t) replies.Left E (λ F. refl))) (leave-keeps s t S before E run k)
-accepted-keeps s S Read before E run a n k = keeps_on s S S before E E run refl refl (omega arith) (λ v h. refl) k
+accepted-keeps s S (Pull t have most) before E run l a n k = pull-keeps s t have most S before E run l a n k
+accepted-keeps s S (Leave t) before E run l a n k = subst (Keeps s (accepted_next S (Leave t)) (known s S before)) (sym (same_editor s (Leave t) replies.Left E (λ F. refl))) (leave-keeps s t S before E run k)
+accepted-keeps s S (Ops after most) before E run l a n k = keeps_on s S S before E E run refl refl (omega arith) (λ v h. refl) k
+accepted-keeps s S (Put ops) before E run l a n k =
+    keeps_on s S (accepted_next S (Put ops)) before E E run refl refl (omega arith) (λ i h. reading-extended S.log (accepted_next S (Put ops)).log i h (hand_over-extends S.site S.log S.held ops)) k
+accepted-keeps s S Read before E run l a n k = keeps_on s S S before E E run refl refl (omega arith) (λ v h. refl) k
 
 -- ---- any call, and all calls
+
+lawful_before : (log longer : List Operation) → Extends log longer → IsLawful longer → IsLawful log
+lawful_before log longer (more, e) l =
+    subst IsLawful (take-append_seam log more) (IsLawful-take (log ++ more) (length log) (subst IsLawful e l))
 
 nothing_new : (s : ℕ) (S T : State) (c : Call) (r : Reply) (before : Option Session) (E : Option Editor) → IsRunning S → T.outbox ≡ S.outbox → T.log ≡ S.log → ((F : Editor) → with_reply r F ≡ Some F) → Keeps s S before E
     → Keeps s T (known s S before) (given s c r E)
 nothing_new s S T c r before E run o l f k =
     keeps_on s S T before E _ run (same_editor s c r E f) (ap (λ b. option_map (λ u. u.sent) (session_with s b.sessions)) o) (omega (arith, ap (λ b. b.next_number) o)) (λ v h. ap (λ x. reading_at x v) l) k
 
-found-keeps : (s : ℕ) (S : State) (c : Call) (f : Finding) (before : Option Session) (E : Option Editor) → IsRunning S → check S c ≡ f → NamesVersion s E c → Keeps s S before E
+found-keeps : (s : ℕ) (S : State) (c : Call) (f : Finding) (before : Option Session) (E : Option Editor) → IsRunning S → IsLawful S.log → check S c ≡ f → NamesVersion s E c → Keeps s S before E
     → Keeps s (counted (found_next S c f)) (known s S before) (given s c (found_answer S c f) E)
-found-keeps s S c (Err e) before E run a n k = nothing_new s S (counted S) c (replies.No e) before E run refl refl (λ F. refl) k
-found-keeps s S c (Ok (Repeat x y)) before E run a n k = nothing_new s S (counted S) c (replies.Ok x y) before E run refl refl (λ F. refl) k
-found-keeps s S c (Ok New) before E run a n k = accepted-keeps s S c before E run a n k
+found-keeps s S c (Err e) before E run l a n k = nothing_new s S (counted S) c (replies.No e) before E run refl refl (λ F. refl) k
+found-keeps s S c (Ok (Repeat x y)) before E run l a n k = nothing_new s S (counted S) c (replies.Ok x y) before E run refl refl (λ F. refl) k
+found-keeps s S c (Ok New) before E run l a n k = accepted-keeps s S c before E run l a n k
 
-next-keeps : (s : ℕ) (S : State) (c : Call) (before : Option Session) (E : Option Editor) → IsRunning S → NamesVersion s E c → Keeps s S before E → Keeps s (next S c) (known s S before) (after_call s S c E)
-next-keeps s S c before E run n k = by (may_record S)
+next-keeps : (s : ℕ) (S : State) (c : Call) (before : Option Session) (E : Option Editor) → IsRunning S → IsLawful S.log → NamesVersion s E c → Keeps s S before E → Keeps s (next S c) (known s S before) (after_call s S c E)
+next-keeps s S c before E run l n k = by (may_record S)
   where
     by : (b : Bool) → Keeps s (if b then counted (recorded_next S c) else S) (known s S before) (given s c (if b then recorded_answer S c else replies.No HistoryFull) E)
-    by true = found-keeps s S c (check S c) before E run refl n k
+    by true = found-keeps s S c (check S c) before E run l refl n k
     by false = nothing_new s S S c (replies.No HistoryFull) before E run refl refl (λ F. refl) k
 
 -- the editor after the replies of the calls is the editor after each call in turn
@@ -282,20 +300,21 @@ has_sent (Some w) before log next s (Some E) k = k.0
 has_sent None (Some w) log next s (Some E) k = k.0
 has_sent None None log next s (Some E) k = tt
 
-from_here : (s : ℕ) (S : State) (h : List (ℕ × Call)) (before : Option Session) (E : Option Editor) → IsRunning S → PullsInStep s S h E → Keeps s S before E
+from_here : (s : ℕ) (S : State) (h : List (ℕ × Call)) (before : Option Session) (E : Option Editor) → IsRunning S → IsLawful (state_of S h).log → PullsInStep s S h E → Keeps s S before E
     → HasSent (last_known s S h before) (option_and_then (λ F. editor_from F (replies_to s S h)) E)
-from_here s S [] before E run p k = subst (HasSent (or_before (session_with s S.outbox.sessions) before)) (sym (nothing E)) (has_sent (session_with s S.outbox.sessions) before S.log S.outbox.next_number s E k)
+from_here s S [] before E run l p k = subst (HasSent (or_before (session_with s S.outbox.sessions) before)) (sym (nothing E)) (has_sent (session_with s S.outbox.sessions) before S.log S.outbox.next_number s E k)
   where
     nothing : (E : Option Editor) → option_and_then (λ F. Some F) E ≡ E
     nothing None = refl
     nothing (Some F) = refl
-from_here s S (e ∷ h) before E run p k =
+from_here s S (e ∷ h) before E run l p k =
     subst (HasSent (last_known s (next S e.1) h (known s S before))) (sym (by_turns s S e h E))
-    (from_here s (next S e.1) h (known s S before) (after_call s S e.1 E) (next-running S e.1 run) p.1 (next-keeps s S e.1 before E run p.0 k))
+    (from_here s (next S e.1) h (known s S before) (after_call s S e.1 E) (next-running S e.1 run) l p.1 (next-keeps s S e.1 before E run (lawful_before S.log (state_of (next S e.1) h).log (state_of-extends S (e ∷ h)) l) p.0 k))
 
--- editors keep up with a room from its opening on, which has no sessions
-pub keep_up : (S : State) (h : List (ℕ × Call)) → IsRunning S → S.outbox.sessions ≡ [] → EditorsKeepUp (record { opening = S; history = h; state = state_of S h })
-keep_up S h run none s p = from_here s S h None (Some empty_editor) run p (subst (λ ws. KeepsUp (session_with s ws) None S.log S.outbox.next_number s (Some empty_editor)) (sym none) tt)
+-- editors keep up with a room from its opening on, which has no sessions, as long as its log is lawful
+pub keep_up : (S : State) (h : List (ℕ × Call)) → IsRunning S → IsLawful (state_of S h).log → S.outbox.sessions ≡ [] → EditorsKeepUp (record { opening = S; history = h; state = state_of S h })
+keep_up S h run l none s p = from_here s S h None (Some empty_editor) run l p (subst (λ ws. KeepsUp (session_with s ws) None S.log S.outbox.next_number s (Some empty_editor)) (sym none) tt)
 
-pub room_keeps_up : (S : State) (h : List (ℕ × Call)) (m : ℕ) → S.site < 32 → IsRoom S h m → EditorsKeepUp (record { opening = empty_room S.site; history = h; state = S })
-room_keeps_up S h m b r = subst (λ T. EditorsKeepUp (record { opening = empty_room S.site; history = h; state = T })) r.replays (keep_up (empty_room S.site) h (IsRunning-empty S.site b) refl)
+pub room_keeps_up : (S : State) (h : List (ℕ × Call)) (m : ℕ) → IsLawful S.log → IsRoom S h m → EditorsKeepUp (record { opening = empty_room S.site; history = h; state = S })
+room_keeps_up S h m l r = subst (λ T. EditorsKeepUp (record { opening = empty_room S.site; history = h; state = T })) r.replays
+    (keep_up (empty_room S.site) h (IsRunning-empty S.site) (subst (λ T. IsLawful T.log) (sym r.replays) l) refl)

@@ -1,6 +1,7 @@
 pub mod Histories
 pub mod Accepted
-pub mod Submitted
+pub mod Gathered
+pub mod Handing
 pub mod Replied
 pub mod Playing
 pub mod Running

@@ -1,8 +1,9 @@
 -- The edits between two versions of a log lead from the reading of the one to that of the other.
-use Rattle.std.proofs.Common.{◌≡◌, ℕ, zero, suc, ◌+◌, ◌-◌, ◌≤◌, Some, List, [], ◌∷◌, ◌++◌, length, take, drop, refl, ap, ◌∙◌, sym, subst, arith, append_assoc}
+use Rattle.std.proofs.Common.{◌≡◌, ℕ, zero, suc, ◌+◌, ◌-◌, ◌≤◌, Option, Some, None, List, [], ◌∷◌, ◌++◌, length, take, drop, refl, ap, ◌∙◌, sym, subst, arith, append_assoc}
 use Rattle.std.specs.Prelude.{option_and_then}
-use Rattle.std.proofs.lemmas.List.{append-nil, length-drop, length-take-le, take-append-le, drop-append-le}
+use Rattle.std.proofs.lemmas.List.{append-nil, length-append, length-drop, length-take-le, take-append-le, drop-append-le}
 use Rattle.std.proofs.Math.Seq.{take-add}
+use Rattle.opid.specs.declared.edit.Edit.{Edit}
 use Rattle.opid.specs.Operations.{Operation}
 use Rattle.opid.specs.Reading.{reading, reading_at}
 use Rattle.opid.specs.Splice.{play}
@@ -11,7 +12,7 @@ use Rattle.opid.specs.Lawful.{GoesOn, IsLawful}
 use Rattle.opid.proofs.Logs.{IsLawful-push, IsLawful-take}
 use Rattle.versions.proofs.Played.{edit-leads}
 use Rattle.versions.proofs.Changes.{edits-length}
-use Rattle.room.proofs.Submitted.{goes_on_after}
+use Rattle.replica.proofs.Submitted.{goes_on_after}
 
 drop-edits : (ops xs : List Operation) (i : ℕ) → drop i (edits_from ops xs) ≡ edits_from (ops ++ take i xs) (drop i xs)
 drop-edits ops [] zero = refl

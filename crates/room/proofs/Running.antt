@@ -1,20 +1,19 @@
 -- What holds of a room's state from its opening on, call after call.
-use Rattle.std.proofs.Common.{◌≡◌, ℕ, ◌+◌, ◌<◌, ◌≤◌, Bool, true, false, cond, Some, None, Ok, Err, List, [], ◌∷◌, ◌++◌, length, refl, ap, ◌∙◌, sym, subst, arith, nat_eq}
+use Rattle.std.proofs.Common.{◌≡◌, ℕ, zero, suc, ◌+◌, ◌<◌, ◌≤◌, Bool, true, false, cond, Option, Some, None, Ok, Err, List, [], ◌∷◌, ◌++◌, length, refl, ap, ◌∙◌, sym, subst, arith, nat_eq}
 use Rattle.std.specs.Prelude.{min, max, MatchOption, if◌then◌else◌}
 use Rattle.std.specs.List.{AllByRecursion as Each}
 use Rattle.std.proofs.lemmas.Bool.{eqb-true}
 use Rattle.std.proofs.lemmas.Bool.Decides.{nat_tests}
 use Rattle.std.proofs.lemmas.List.{length-append}
 use Rattle.opid.specs.Operations.{Operation}
-use Rattle.opid.specs.Lawful.{IsLawful}
 use Rattle.opid.specs.Asked.{asked_insertions, asked_deletions}
-use Rattle.opid.proofs.Runs.{asked_insertions-lawful, asked_deletions-lawful}
 use Rattle.opid.proofs.Walk.{Each-append, Each-weaker}
 use Rattle.session_outbox.specs.declared.submission.Submission.TheVariants.{New, Repeat}
-use Rattle.session_outbox.specs.Sessions.{Session, AreNumbered, session_with, change_session, without_session, submitted as after_submission, sent_to, joined}
-use Rattle.session_outbox.proofs.Numbered.{numbered-joined, numbered-without, numbered-changed}
+use Rattle.session_outbox.specs.Sessions.{Session, Outbox, AreNumbered, session_with, change_session, without_session, submitted as after_submission, sent_to, joined}
+use Rattle.session_outbox.proofs.Numbered.{numbered-joined, numbered-without, numbered-changed, low_below, next_is_new}
 use Rattle.room.specs.declared.call.Call.{Call}
-use Rattle.room.specs.declared.call.Call.TheVariants.{Join, Ins, Del, Pull, Leave, Read}
+use Rattle.room.specs.declared.call.Call.TheVariants.{Join, Ins, Del, Pull, Leave, Ops, Put, Read}
+use Rattle.room.proofs.Handing.{Extends, hand_over-extends}
 use Rattle.room.specs.Machine.{State, Finding, empty_room, check, accepted_next, found_next, may_record, counted, recorded_next, next}
 
 -- a session was sent no more than there is
@@ -22,13 +21,11 @@ abbrev pub IsWithin : ℕ → Session → Type 0
 IsWithin version w = (w.first ≤ w.sent) × (w.sent ≤ version)
 
 pub record IsRunning (S : State) : Type 0 where
-  pub site : S.site < 32
-  pub lawful : IsLawful S.log
   pub numbered : AreNumbered 0 S.outbox.next_number S.outbox.sessions
   pub within : Each (IsWithin (length S.log)) S.outbox.sessions
 
-pub IsRunning-empty : (site : ℕ) → site < 32 → IsRunning (empty_room site)
-IsRunning-empty site h = record { site = h; lawful = tt; numbered = omega arith; within = tt }
+pub IsRunning-empty : (site : ℕ) → IsRunning (empty_room site)
+IsRunning-empty site = record { numbered = omega arith; within = tt }
 
 -- ---- changes of one session
 
@@ -120,11 +117,8 @@ IsWithin-more m n h w i = (i.0, omega (arith, i.1, h))
 longer : (log more : List Operation) → length log ≤ length (log ++ more)
 longer log more = omega (arith, length-append log more)
 
-submitted-running : (S : State) (s n : ℕ) (more : List Operation) → IsRunning S → IsLawful (S.log ++ more)
-    → IsRunning (record S { log = S.log ++ more; outbox = record S.outbox { sessions = change_session s (after_submission (length S.log) (length S.log + n)) S.outbox.sessions } })
-submitted-running S s n more r l = record {
-  site = r.site;
-  lawful = l;
+submitted-running : (S : State) (s n : ℕ) (more : List Operation) → IsRunning S → IsRunning (record S { log = S.log ++ more; outbox = record S.outbox { sessions = change_session s (after_submission (length S.log) (length S.log + n)) S.outbox.sessions } })
+submitted-running S s n more r = record {
   numbered = numbered-changed s 0 S.outbox.next_number (after_submission (length S.log) (length S.log + n)) S.outbox.sessions (λ w. refl) r.numbered;
   within = Each-change (IsWithin (length (S.log ++ more))) s (after_submission (length S.log) (length S.log + n)) S.outbox.sessions (λ w h. h)
       (Each-weaker (IsWithin (length S.log)) (IsWithin (length (S.log ++ more))) (IsWithin-more (length S.log) (length (S.log ++ more)) (longer S.log more)) S.outbox.sessions r.within);
@@ -132,28 +126,30 @@ submitted-running S s n more r l = record {
 
 accepted-running : (S : State) (c : Call) → IsRunning S → IsRunning (accepted_next S c)
 accepted-running S Join r = record {
-  site = r.site;
-  lawful = r.lawful;
   numbered = numbered-joined 0 S.outbox.next_number S.outbox.sessions (joined S.outbox.next_number (length S.log)) refl r.numbered;
   within = Each-append (IsWithin (length S.log)) S.outbox.sessions (joined S.outbox.next_number (length S.log) ∷ []) r.within ((omega arith, omega arith), tt);
 }
-accepted-running S (Ins s n v k x) r = submitted-running S s (length x) (asked_insertions S.log S.site v k x) r (asked_insertions-lawful S.log S.site v k x r.lawful r.site)
-accepted-running S (Del s n v k c) r = submitted-running S s c (asked_deletions S.log S.site v k c) r (asked_deletions-lawful S.log S.site v k c r.lawful r.site)
+accepted-running S (Ins s n v k x) r = submitted-running S s (length x) (asked_insertions S.log S.site v k x) r
+accepted-running S (Del s n v k c) r = submitted-running S s c (asked_deletions S.log S.site v k c) r
 accepted-running S (Pull s have most) r =
     let to = min (have + most) (length S.log) in
     record {
-      site = r.site;
-      lawful = r.lawful;
       numbered = numbered-changed s 0 S.outbox.next_number (sent_to to) S.outbox.sessions (λ w. refl) r.numbered;
       within = Each-change (IsWithin (length S.log)) s (sent_to to) S.outbox.sessions
           (λ w h. (within_max w.first w.sent to h.0, max_within w.sent to (length S.log) h.1 (min_within (have + most) (length S.log)))) r.within;
     }
 accepted-running S (Leave s) r = record {
-  site = r.site;
-  lawful = r.lawful;
   numbered = numbered-without s 0 S.outbox.next_number S.outbox.sessions r.numbered;
   within = Each-without (IsWithin (length S.log)) s S.outbox.sessions r.within;
 }
+accepted-running S (Ops after most) r = r
+accepted-running S (Put ops) r = record {
+  numbered = r.numbered;
+  within = Each-weaker (IsWithin (length S.log)) (IsWithin (length (accepted_next S (Put ops)).log)) (IsWithin-more (length S.log) (length (accepted_next S (Put ops)).log) (grown (hand_over-extends S.site S.log S.held ops))) S.outbox.sessions r.within;
+}
+  where
+    grown : Extends S.log (accepted_next S (Put ops)).log → length S.log ≤ length (accepted_next S (Put ops)).log
+    grown (more, e) = omega (arith, ap length e, length-append S.log more)
 accepted-running S Read r = r
 
 found-running : (S : State) (c : Call) (f : Finding) → IsRunning S → IsRunning (found_next S c f)
@@ -162,7 +158,7 @@ found-running S c (Ok (Repeat a b)) r = r
 found-running S c (Ok New) r = accepted-running S c r
 
 pub counted-running : (S : State) → IsRunning S → IsRunning (counted S)
-counted-running S r = record { site = r.site; lawful = r.lawful; numbered = r.numbered; within = r.within }
+counted-running S r = record { numbered = r.numbered; within = r.within }
 
 pub next-running : (S : State) (c : Call) → IsRunning S → IsRunning (next S c)
 next-running S c r = by (may_record S)

@@ -4,7 +4,7 @@ use Rattle.std.specs.Prelude.{◌≡◌, ◌⊎◌, ℕ, Bool, false, ◌==◌, 
 use Rattle.std.specs.List.{AllByRecursion}
 use Rattle.session_outbox.specs.Sessions.{Session, session_with}
 use Rattle.room.specs.declared.call.Call.{Call}
-use Rattle.room.specs.declared.call.Call.TheVariants.{Join, Ins, Del, Pull, Leave, Read}
+use Rattle.room.specs.declared.call.Call.TheVariants.{Join, Ins, Del, Pull, Leave, Ops, Put, Read}
 use Rattle.room.specs.declared.reply.Reply.{Reply}
 use Rattle.room.specs.declared.reply.Reply.TheVariants as replies
 use Rattle.room.specs.Machine.{State, answer, next}
@@ -17,6 +17,8 @@ opened_by (replies.Joined s v x) = Some s
 opened_by (replies.Ok start end) = None
 opened_by (replies.Edits start es) = None
 opened_by replies.Left = None
+opened_by (replies.Ops start ops) = None
+opened_by (replies.Put os) = None
 opened_by (replies.Text v x) = None
 opened_by (replies.No e) = None
 
@@ -27,6 +29,8 @@ given_to (Ins s n v k x) r = Some s
 given_to (Del s n v k c) r = Some s
 given_to (Pull s have max) r = Some s
 given_to (Leave s) r = Some s
+given_to (Ops after most) r = None
+given_to (Put ops) r = None
 given_to Read r = None
 
 -- on these calls, from this state on, session s was given the reply
@@ -70,6 +74,8 @@ NamesVersion s E (Ins t n v k x) = Unit {0}
 NamesVersion s E (Del t n v k c) = Unit {0}
 NamesVersion s E (Pull t have max) = t ≡ s → option_map (λ F. F.version) E ≡ Some have
 NamesVersion s E (Leave t) = Unit {0}
+NamesVersion s E (Ops after most) = Unit {0}
+NamesVersion s E (Put ops) = Unit {0}
 NamesVersion s E Read = Unit {0}
 
 -- the editor after a call: its reply is given to session s, or not

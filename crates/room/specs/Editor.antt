@@ -1,13 +1,13 @@
 -- An editor of a session: the text and the version that it makes of the replies that it is given, in whatever order
 -- and however often they come.
-use Rattle.std.specs.Prelude.{◌≡◌, ℕ, ◌+◌, ◌≤◌, ◌==◌, if◌then◌else◌, Option, Some, option_map, option_and_then, List, [], ◌∷◌, length, take}
+use Rattle.std.specs.Prelude.{◌≡◌, ℕ, ◌+◌, ◌≤◌, ◌==◌, if◌then◌else◌, Option, Some, None, option_map, option_and_then, List, [], ◌∷◌, length, take}
 use Rattle.opid.specs.declared.edit.Edit.{Edit}
 use Rattle.opid.specs.Operations.{Operation}
 use Rattle.opid.specs.Reading.{reading_at}
 use Rattle.opid.specs.Splice.{play}
 use Rattle.session_outbox.specs.Sessions.{Session}
 use Rattle.room.specs.declared.reply.Reply.{Reply}
-use Rattle.room.specs.declared.reply.Reply.TheVariants.{Joined, Ok, Edits, Left, Text, No}
+use Rattle.room.specs.declared.reply.Reply.TheVariants.{Joined, Ok, Edits, Left, Ops, Put, Text, No}
 
 pub record Editor : Type 0 where
   pub text : List ℕ
@@ -30,6 +30,8 @@ with_reply (Joined s v x) E = Some (record { text = x; version = v })
 with_reply (Edits start es) E = with_edits start es E
 with_reply (Ok start end) E = Some E
 with_reply Left E = Some E
+with_reply (Ops start ops) E = Some E
+with_reply (Put os) E = Some E
 with_reply (Text v x) E = Some E
 with_reply (No e) E = Some E
 
@@ -53,5 +55,7 @@ FollowsPart (Joined s v x) E F = F ≡ E
 FollowsPart (Edits start es) E F = (n : ℕ) × (n ≤ length es) × (with_edits start (take n es) E ≡ Some F)
 FollowsPart (Ok start end) E F = F ≡ E
 FollowsPart Left E F = F ≡ E
+FollowsPart (Ops start ops) E F = F ≡ E
+FollowsPart (Put os) E F = F ≡ E
 FollowsPart (Text v x) E F = F ≡ E
 FollowsPart (No e) E F = F ≡ E

@@ -1,3 +1,4 @@
+pub mod Deliveries
 pub mod Machine
 pub mod History
 pub mod Editor

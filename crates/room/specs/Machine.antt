@@ -1,33 +1,37 @@
 -- A room as a sequential machine: what it answers to a call in a state, and the state after it. The place of an
 -- insertion or of a deletion is one of the version that it names; what is asked for by it goes behind the whole log.
+-- Operations from elsewhere are delivered one after another.
 use Rattle.std.specs.Prelude.{ℕ, Bool, ◌+◌, ◌-◌, nat_lt, min, is_some, if◌then◌else◌, Option, Some, None, Result, Ok, Err, List, [], ◌++◌, length, take, drop}
 use Rattle.opid.specs.declared.refusal.Refusal.{Refusal}
-use Rattle.opid.specs.declared.refusal.Refusal.TheVariants.{NoSession, TooManySessions, HistoryFull}
+use Rattle.opid.specs.declared.refusal.Refusal.TheVariants.{NoSession, TooManySessions, BadCount, HistoryFull}
 use Rattle.opid.specs.declared.edit.Edit.{Edit}
 use Rattle.opid.specs.Operations.{Operation}
 use Rattle.opid.specs.Reading.{reading}
 use Rattle.opid.specs.Edits.{edits}
 use Rattle.opid.specs.Asked.{asked_insertions, asked_deletions}
-use Rattle.position_translate.specs.Causes.{insertion_refusal, deletion_refusal}
+use Rattle.position_translate.specs.Causes.{is_bad_count, insertion_refusal, deletion_refusal}
+use Rattle.replica.specs.Part.{part_of}
 use Rattle.session_outbox.specs.declared.submission.Submission.{Submission}
 use Rattle.session_outbox.specs.declared.submission.Submission.TheVariants.{New, Repeat}
 use Rattle.session_outbox.specs.Sessions.{Outbox, session_with, empty_outbox, after_join, after_leave, after_accept, after_pull}
 use Rattle.session_outbox.specs.Answers.{submission_of, pull_of}
 use Rattle.room.specs.declared.call.Call.{Call}
-use Rattle.room.specs.declared.call.Call.TheVariants.{Join, Ins, Del, Pull, Leave, Read}
+use Rattle.room.specs.declared.call.Call.TheVariants.{Join, Ins, Del, Pull, Leave, Ops, Put, Read}
 use Rattle.room.specs.declared.reply.Reply.{Reply}
 use Rattle.room.specs.declared.reply.Reply.TheVariants as replies
+use Rattle.room.specs.Deliveries.{hand_over}
 
--- a room's site, its log, its sessions, and how many calls are recorded
+-- a room's site, its log, what it holds back, its sessions, and how many calls are recorded
 pub record State : Type 0 where
   pub site : ℕ
   pub log : List Operation
+  pub held : List Operation
   pub outbox : Outbox
   pub count : ℕ
 
 -- the room of a site before any call
 abbrev pub empty_room : ℕ → State
-empty_room site = record { site = site; log = []; outbox = empty_outbox; count = 0 }
+empty_room site = record { site = site; log = []; held = []; outbox = empty_outbox; count = 0 }
 
 -- ---- the checks of a call, in their order
 
@@ -50,6 +54,10 @@ abbrev pub found_in_pull : Result (ℕ × ℕ) Refusal → Finding
 found_in_pull (Ok r) = Ok New
 found_in_pull (Err e) = Err e
 
+abbrev pub found_in_part : Result (List Operation) Refusal → Finding
+found_in_part (Ok ops) = Ok New
+found_in_part (Err e) = Err e
+
 -- The version that a submission names is at most its session's sent one, and so at most the newest.
 abbrev pub check : State → Call → Finding
 check S Join = if nat_lt (length S.outbox.sessions) 64 then Ok New else Err TooManySessions
@@ -57,6 +65,8 @@ check S (Ins s n v k x) = first_of (submission_of (session_with s S.outbox.sessi
 check S (Del s n v k c) = first_of (submission_of (session_with s S.outbox.sessions) n v) (deletion_refusal S.log v k c)
 check S (Pull s have max) = found_in_pull (pull_of (session_with s S.outbox.sessions) have max (length S.log))
 check S (Leave s) = if is_some (session_with s S.outbox.sessions) then Ok New else Err NoSession
+check S (Ops after most) = found_in_part (part_of S.log after most)
+check S (Put ops) = if is_bad_count (length ops) then Err BadCount else Ok New
 check S Read = Ok New
 
 -- ---- what an accepted call is answered, and what it does
@@ -71,6 +81,8 @@ accepted_answer S (Ins s n v k x) = replies.Ok (length S.log) (length S.log + le
 accepted_answer S (Del s n v k c) = replies.Ok (length S.log) (length S.log + c)
 accepted_answer S (Pull s have max) = replies.Edits have (edits_between S.log have (min (have + max) (length S.log)))
 accepted_answer S (Leave s) = replies.Left
+accepted_answer S (Ops after most) = replies.Ops after (take most (drop after S.log))
+accepted_answer S (Put ops) = replies.Put (hand_over S.site S.log S.held ops).outcomes
 accepted_answer S Read = replies.Text (length S.log) (reading S.log)
 
 -- a session's next submission is accepted: so many operations go behind the log
@@ -86,6 +98,8 @@ accepted_next S (Ins s n v k x) = submitted s (asked_insertions S.log S.site v k
 accepted_next S (Del s n v k c) = submitted s (asked_deletions S.log S.site v k c) c S
 accepted_next S (Pull s have max) = record S { outbox = after_pull s (min (have + max) (length S.log)) S.outbox }
 accepted_next S (Leave s) = record S { outbox = after_leave s S.outbox }
+accepted_next S (Ops after most) = S
+accepted_next S (Put ops) = record S { log = (hand_over S.site S.log S.held ops).log; held = (hand_over S.site S.log S.held ops).held }
 accepted_next S Read = S
 
 -- ---- answer and next

@@ -2,6 +2,7 @@
 
 ghost use Rattle.std.specs.Prelude.{◌≡◌};
 
+use crate::operations::Operations;
 use std::alloc::AllocError;
 use versions::Characters;
 
@@ -36,6 +37,13 @@ pub enum Call {
     Leave {
         s: u32,
     },
+    /// Asks for the operations of the log from number `after` on, at most `max` of them.
+    Ops {
+        after: u32,
+        max: u32,
+    },
+    /// Hands over operations from elsewhere.
+    Put(Operations),
     /// Asks for the newest version and its text.
     Read,
 }
@@ -66,6 +74,11 @@ impl Clone for Call {
                 max: *max,
             },
             Call::Leave { s } => Call::Leave { s: *s },
+            Call::Ops { after, max } => Call::Ops {
+                after: *after,
+                max: *max,
+            },
+            Call::Put(ops) => Call::Put(ops.clone()?),
             Call::Read => Call::Read,
         })
     }

@@ -1,22 +1,29 @@
 //! What each kind of call does with a room's document and its sessions.
 ghost use Rattle.std.specs.Prelude.{◌≡◌, ◌+◌, ◌-◌, ◌<◌, ◌≤◌, ℕ, [], List, None, IfOk, OnErr, length, vec_capacity};
-ghost use Rattle.opid.specs.Operations.{Operation};
+ghost use Rattle.replica.specs.Deliver.{Contents};
 ghost use Rattle.opid.specs.Reading.{reading};
 ghost use Rattle.session_outbox.specs.Sessions.{Outbox, session_with, MayAccept};
 ghost use Rattle.session_outbox.specs.Answers.{submission_of};
-ghost use Rattle.room.specs.declared.call.Call.TheVariants.{Join, Ins, Del, Pull, Leave, Read};
+ghost use Rattle.room.specs.declared.call.Call.TheVariants.{Join, Ins, Del, Pull, Leave, Ops, Put, Read};
 ghost use Rattle.room.specs.Machine.{edits_between};
-ghost use Rattle.room.specs.Parts.{Does, reply_at_once, Accepts};
+ghost use Rattle.room.specs.Parts.{Does, reply_at_once, Accepts, IsHandedOver};
 
 use crate::call::Call;
 use crate::edits::Edits;
+use crate::operations::Operations;
+use crate::outcome::Outcome;
+use crate::outcomes::Outcomes;
 use crate::reply::Reply;
 use crate::reserved::push_reserved;
-use crate::submissions::{submit_del, submit_ins};
-use opid::{Edit, Refusal, Site};
+use causal_clock::Op;
+use opid::{Edit, Refusal};
+use replica::Replica;
 use session_outbox::{Sessions, Submission};
 use std::alloc::{AllocError, Global};
 use versions::{Characters, Doc};
+
+/// At most so many operations are handed over at once.
+const MAX_OPERATIONS: usize = 64;
 
 /// At most so many edits are sent at once.
 const MAX_EDITS: u32 = 64;
@@ -24,36 +31,37 @@ const MAX_EDITS: u32 = 64;
 /// Carries out a call that is recorded.
 pub(crate) fn perform(
     alloc: Global,
-    doc: &mut Doc,
+    replica: &mut Replica,
     outbox: &mut Sessions,
-    site: Site,
     call: &Call,
 ) -> Result<Reply, AllocError>
     requires { outbox.old.next_number < 4294967295 }
-    ensures does { IfOk result (λ reply. Does site doc.old.log outbox.old call.now reply doc.new.log outbox.new) }
+    ensures does { IfOk result (λ reply. Does replica.old outbox.old call.now reply replica.new outbox.new) }
     ensures numbers { outbox.new.next_number ≤ outbox.old.next_number + 1 }
-    ensures err_doc { OnErr result (doc.new ≡ doc.old) }
+    ensures err_replica { OnErr result (replica.new ≡ replica.old) }
     ensures err_outbox { OnErr result (outbox.new ≡ outbox.old) }
 {
     match call {
-        Call::Join => join(doc, outbox),
-        Call::Ins { s, n, v, k, x } => insert(alloc, doc, outbox, site, *s, *n, *v, *k, x),
-        Call::Del { s, n, v, k, c } => delete(alloc, doc, outbox, site, *s, *n, *v, *k, *c),
-        Call::Pull { s, have, max } => pull(alloc, doc, outbox, *s, *have, *max),
+        Call::Join => join(replica, outbox),
+        Call::Ins { s, n, v, k, x } => insert(replica, outbox, *s, *n, *v, *k, x),
+        Call::Del { s, n, v, k, c } => delete(replica, outbox, *s, *n, *v, *k, *c),
+        Call::Pull { s, have, max } => pull(alloc, replica, outbox, *s, *have, *max),
         Call::Leave { s } => Ok(leave(outbox, *s)),
-        Call::Read => read(doc),
+        Call::Ops { after, max } => part(replica, *after, *max),
+        Call::Put(ops) => put(alloc, replica, ops),
+        Call::Read => read(replica),
     }
 }
 
 /// Opens a session. Takes a step for each element.
-fn join(doc: &Doc, outbox: &mut Sessions) -> Result<Reply, AllocError>
+fn join(replica: &Replica, outbox: &mut Sessions) -> Result<Reply, AllocError>
     requires { outbox.old.next_number < 4294967295 }
-    ensures does { IfOk result (λ reply. (site : ℕ) → Does site doc.now.log outbox.old Join reply doc.now.log outbox.new) }
+    ensures does { IfOk result (λ reply. Does replica.now outbox.old Join reply replica.now outbox.new) }
     ensures numbers { outbox.new.next_number ≤ outbox.old.next_number + 1 }
     ensures err { OnErr result (outbox.new ≡ outbox.old) }
 {
-    let v = doc.version();
-    let x = reading(doc)?;
+    let v = replica.version();
+    let x = reading(replica.doc())?;
     match outbox.join(v) {
         Ok(s) => Ok(Reply::Joined { s, v, x }),
         Err(Refusal::TooManySessions) => Ok(Reply::No(Refusal::TooManySessions)),
@@ -64,49 +72,45 @@ fn join(doc: &Doc, outbox: &mut Sessions) -> Result<Reply, AllocError>
 /// Puts `x` in at place `k` of version `v`, as submission `n` of session `s` of this site.
 #[allow(clippy::too_many_arguments)]
 fn insert(
-    alloc: Global,
-    doc: &mut Doc,
+    replica: &mut Replica,
     outbox: &mut Sessions,
-    site: Site,
     s: u32,
     n: u32,
     v: u32,
     k: u32,
     x: &Characters,
 ) -> Result<Reply, AllocError>
-    ensures does { IfOk result (λ reply. Does site doc.old.log outbox.old (Ins s n v k x.now) reply doc.new.log outbox.new) }
+    ensures does { IfOk result (λ reply. Does replica.old outbox.old (Ins s n v k x.now) reply replica.new outbox.new) }
     ensures numbers { outbox.new.next_number ≡ outbox.old.next_number }
-    ensures err_doc { OnErr result (doc.new ≡ doc.old) }
+    ensures err_replica { OnErr result (replica.new ≡ replica.old) }
     ensures err_outbox { OnErr result (outbox.new ≡ outbox.old) }
 {
     if let Some(reply) = reply_at_once(outbox, s, n, v) {
         return Ok(reply);
     }
-    accept(outbox, s, submit_ins(alloc, doc, site, v, k, x.as_str()))
+    accept(outbox, s, replica.submit_ins(v, k, x.as_str()))
 }
 
 /// Deletes `c` characters from place `k` of version `v` on, as submission `n` of session `s` of this site.
 #[allow(clippy::too_many_arguments)]
 fn delete(
-    alloc: Global,
-    doc: &mut Doc,
+    replica: &mut Replica,
     outbox: &mut Sessions,
-    site: Site,
     s: u32,
     n: u32,
     v: u32,
     k: u32,
     c: u32,
 ) -> Result<Reply, AllocError>
-    ensures does { IfOk result (λ reply. Does site doc.old.log outbox.old (Del s n v k c) reply doc.new.log outbox.new) }
+    ensures does { IfOk result (λ reply. Does replica.old outbox.old (Del s n v k c) reply replica.new outbox.new) }
     ensures numbers { outbox.new.next_number ≡ outbox.old.next_number }
-    ensures err_doc { OnErr result (doc.new ≡ doc.old) }
+    ensures err_replica { OnErr result (replica.new ≡ replica.old) }
     ensures err_outbox { OnErr result (outbox.new ≡ outbox.old) }
 {
     if let Some(reply) = reply_at_once(outbox, s, n, v) {
         return Ok(reply);
     }
-    accept(outbox, s, submit_del(alloc, doc, site, v, k, c))
+    accept(outbox, s, replica.submit_del(v, k, c))
 }
 
 /// The reply to a submission that isn't the session's next one: why it is refused, or the kept reply.
@@ -143,21 +147,21 @@ fn accept(
 /// Sends session `s`, which has version `have`, the edits since, at most `max` of them. Takes a step for each.
 fn pull(
     alloc: Global,
-    doc: &Doc,
+    replica: &Replica,
     outbox: &mut Sessions,
     s: u32,
     have: u32,
     max: u32,
 ) -> Result<Reply, AllocError>
-    ensures does { IfOk result (λ reply. (site : ℕ) → Does site doc.now.log outbox.old (Pull s have max) reply doc.now.log outbox.new) }
+    ensures does { IfOk result (λ reply. Does replica.now outbox.old (Pull s have max) reply replica.now outbox.new) }
     ensures numbers { outbox.new.next_number ≡ outbox.old.next_number }
     ensures err { OnErr result (outbox.new ≡ outbox.old) }
 {
-    let version = doc.version();
+    let version = replica.version();
     let mut es = Vec::with_capacity(alloc, max.min(MAX_EDITS) as usize)?;
     match outbox.pull(s, have, max, version) {
         Ok((from, to)) => {
-            add_edits(doc, from, to, &mut es);
+            add_edits(replica.doc(), from, to, &mut es);
             let es = Edits::new(es);
             Ok(Reply::Edits { from, es })
         }
@@ -167,7 +171,7 @@ fn pull(
 
 /// Ends session `s`.
 fn leave(outbox: &mut Sessions, s: u32) -> Reply
-    ensures does { (site : ℕ) (log : List Operation) → Does site log outbox.old (Leave s) result log outbox.new }
+    ensures does { (replica : Contents) → Does replica outbox.old (Leave s) result replica outbox.new }
     ensures numbers { outbox.new.next_number ≡ outbox.old.next_number }
 {
     match outbox.leave(s) {
@@ -176,12 +180,45 @@ fn leave(outbox: &mut Sessions, s: u32) -> Reply
     }
 }
 
-/// Tells the newest version and its text. Takes a step for each element.
-fn read(doc: &Doc) -> Result<Reply, AllocError>
-    ensures { IfOk result (λ reply. (site : ℕ) (outbox : Outbox) → Does site doc.now.log outbox Read reply doc.now.log outbox) }
+/// Tells the operations of the log from number `after` on, at most `max`. Takes a step for each.
+fn part(replica: &Replica, after: u32, max: u32) -> Result<Reply, AllocError>
+    ensures { IfOk result (λ reply. (outbox : Outbox) → Does replica.now outbox (Ops after max) reply replica.now outbox) }
 {
-    let v = doc.version();
-    let x = reading(doc)?;
+    match replica.ops(after, max) {
+        Ok(ops) => {
+            let ops = Operations::new(ops);
+            Ok(Reply::Ops { from: after, ops })
+        }
+        Err(Refusal::BadRange) => Ok(Reply::No(Refusal::BadRange)),
+        Err(_) => Err(AllocError),
+    }
+}
+
+/// Hands operations over, one after another. All memory is taken first.
+fn put(alloc: Global, replica: &mut Replica, ops: &Operations) -> Result<Reply, AllocError>
+    ensures does { IfOk result (λ reply. (outbox : Outbox) → Does replica.old outbox (Put ops.now) reply replica.new outbox) }
+    ensures err { OnErr result (replica.new ≡ replica.old) }
+{
+    let ops = ops.as_slice();
+    let count = ops.len();
+    if count == 0 || count > MAX_OPERATIONS {
+        return Ok(Reply::No(Refusal::BadCount));
+    }
+    let mut outcomes = Vec::with_capacity(alloc, count)?;
+    match replica.reserve(replica.held() + count) {
+        Ok(()) => {}
+        Err(_) => return Err(AllocError),
+    }
+    hand_over(replica, ops, &mut outcomes);
+    Ok(Reply::Put(Outcomes::new(outcomes)))
+}
+
+/// Tells the newest version and its text. Takes a step for each element.
+fn read(replica: &Replica) -> Result<Reply, AllocError>
+    ensures { IfOk result (λ reply. (outbox : Outbox) → Does replica.now outbox Read reply replica.now outbox) }
+{
+    let v = replica.version();
+    let x = reading(replica.doc())?;
     Ok(Reply::Text { v, x })
 }
 
@@ -204,5 +241,18 @@ fn add_edits(doc: &Doc, from: u32, to: u32, es: &mut Vec<Edit>)
 {
     for version in from..to {
         push_reserved(es, doc.edit(version + 1));
+    }
+}
+
+/// Hands operations over for which there is room, and adds their outcomes.
+fn hand_over(replica: &mut Replica, ops: &[Op], outcomes: &mut Vec<Outcome>)
+    requires empty { outcomes.old.items ≡ [] }
+    requires capacity { length ops.now ≤ vec_capacity outcomes.old }
+    requires room { length replica.old.held + length ops.now ≤ replica.old.room }
+    ensures { IsHandedOver replica.old ops.now outcomes.new.items replica.new }
+{
+    for op in ops {
+        let outcome = Outcome::of(replica.put(*op));
+        push_reserved(outcomes, outcome);
     }
 }

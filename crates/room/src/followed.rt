@@ -78,7 +78,7 @@ impl Client {
 
     // Whether the editor has what the room reads at the editor's version.
     fn is_in_step(&self, desk: &RoomDesk) -> Result<bool, Fail> {
-        let text = desk.room().doc().reading(self.version())?;
+        let text = desk.room().replica().doc().reading(self.version())?;
         Ok(reads(&self.editor, &text))
     }
 
@@ -218,7 +218,11 @@ fn catches_up(client: &mut Client, desk: &mut RoomDesk, text: &Characters) -> Re
 }
 
 fn all_catch_up(desk: &mut RoomDesk, clients: &mut [Client]) -> Result<bool, Fail> {
-    let text = desk.room().doc().reading(desk.room().doc().version())?;
+    let text = desk
+        .room()
+        .replica()
+        .doc()
+        .reading(desk.room().replica().doc().version())?;
     let mut all = !text.as_str().is_empty();
     for client in clients {
         all &= catches_up(client, desk, &text)?;

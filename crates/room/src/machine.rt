@@ -6,10 +6,10 @@ use crate::call::Call;
 use crate::calls::perform;
 use crate::reply::Reply;
 use opid::{Refusal, Site};
+use replica::Replica;
 use session_outbox::Sessions;
 use std::alloc::{AllocError, Global};
 use std::marker::Model;
-use versions::Doc;
 
 /// At most so many calls are recorded.
 const MAX_CALLS: u32 = 1_048_576;
@@ -18,8 +18,7 @@ const MAX_CALLS: u32 = 1_048_576;
 #[derive(Drop)]
 pub(crate) struct Machine {
     alloc: Global,
-    site: Site,
-    doc: Doc,
+    replica: Replica,
     outbox: Sessions,
     count: u32,
 }
@@ -30,7 +29,7 @@ impl Model for Machine {
 
     ghost Value = { State };
 
-    ghost view = { λ m. record { site = m.site; log = m.doc.log; outbox = m.outbox; count = m.count } };
+    ghost view = { λ m. record { site = m.replica.site; log = m.replica.log; held = m.replica.held; outbox = m.outbox; count = m.count } };
 
     ghost invariant = { λ m. (m.count ≤ 1048576) × (m.outbox.next_number ≤ m.count + 1) };
 }
@@ -46,18 +45,19 @@ impl Machine {
     {
         Machine {
             alloc,
-            site,
-            doc: Doc::new(alloc),
+            replica: Replica::new(alloc, site),
             outbox: Sessions::new(alloc),
             count: 0,
         }
     }
 
-    /// The document.
-    pub(crate) fn doc(&self) -> &Doc
-        ensures { result.now.log ≡ self.now.log }
+    /// The replica.
+    pub(crate) fn replica(&self) -> &Replica
+        ensures site { result.now.site ≡ self.now.site }
+        ensures log { result.now.log ≡ self.now.log }
+        ensures held { result.now.held ≡ self.now.held }
     {
-        &self.doc
+        &self.replica
     }
 
     /// Whether a further call is recorded.
@@ -69,8 +69,8 @@ impl Machine {
         ensures site { self.now.site < 32 }
         ensures placed { (c : Call) → PlacesInsertion self.now c }
     {
-        let _ = self.doc.version();
-        let _ = self.site.number();
+        let _ = self.replica.version();
+        let _ = self.replica.site().number();
         self.count < MAX_CALLS
     }
 
@@ -83,8 +83,7 @@ impl Machine {
         if self.count >= MAX_CALLS {
             return Ok(Reply::No(Refusal::HistoryFull));
         }
-        let (doc, outbox) = (&mut self.doc, &mut self.outbox);
-        let reply = perform(self.alloc, doc, outbox, self.site, call)?;
+        let reply = perform(self.alloc, &mut self.replica, &mut self.outbox, call)?;
         self.count += 1;
         Ok(reply)
     }

@@ -1,6 +1,8 @@
 //! What a room answers.
 
 use crate::edits::Edits;
+use crate::operations::Operations;
+use crate::outcomes::Outcomes;
 use opid::Refusal;
 use versions::Characters;
 
@@ -15,6 +17,10 @@ pub enum Reply {
     Edits { from: u32, es: Edits },
     /// The session was ended.
     Left,
+    /// The operations of the log from number `from` on.
+    Ops { from: u32, ops: Operations },
+    /// What became of each operation that was handed over, in their order.
+    Put(Outcomes),
     /// The newest version is `v`, and reads `x`.
     Text { v: u32, x: Characters },
     /// The call was refused and changed nothing.

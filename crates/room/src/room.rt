@@ -7,9 +7,9 @@ use crate::machine::Machine;
 use crate::reply::Reply;
 use crate::reserved::push_reserved;
 use opid::{Refusal, Site};
+use replica::Replica;
 use std::alloc::{AllocError, Global};
 use std::marker::Model;
-use versions::Doc;
 
 /// One document with its sessions, seen as the state that it was opened with, the calls that it recorded, and its
 /// state now, which is that of these calls one after another.
@@ -64,11 +64,13 @@ impl Room {
         &self.history
     }
 
-    /// The document: its log, and each version's text. Constant time.
-    pub fn doc(&self) -> &Doc
-        ensures { result.now.log ≡ self.now.state.log }
+    /// The replica: its document with each version's text, and what it holds back. Constant time.
+    pub fn replica(&self) -> &Replica
+        ensures site { result.now.site ≡ self.now.state.site }
+        ensures log { result.now.log ≡ self.now.state.log }
+        ensures held { result.now.held ≡ self.now.state.held }
     {
-        self.machine.doc()
+        self.machine.replica()
     }
 
     /// The least ticket that may follow: the last recorded one plus one, or 0. Constant time.

@@ -1,3 +1,11 @@
 mod Steps
 mod Lists
+mod Loops
+mod Told
+mod Clocks
+mod Pairs
+mod Back
+mod ListTexts
+mod OperationTexts
+mod Read
 mod Texts

@@ -5,11 +5,11 @@ use Rattle.serde_json.specs.View.{view, items_view}
 use Rattle.serde_json.specs.declared.value.Value.{Value}
 use Rattle.wire_json.specs.Written.{each_data}
 
-abbrev behind : Items → Data → Items
+abbrev pub behind : Items → Data → Items
 behind no_items d = item d no_items
 behind (item e ds) d = item e (behind ds d)
 
-items_view-push : (vs : List Value) (v : Value) → items_view (vs ++ v ∷ []) ≡ behind (items_view vs) (view v)
+pub items_view-push : (vs : List Value) (v : Value) → items_view (vs ++ v ∷ []) ≡ behind (items_view vs) (view v)
 items_view-push [] v = refl
 items_view-push (w ∷ vs) v = ap (item (view w)) (items_view-push vs v)
 

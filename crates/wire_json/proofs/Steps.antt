@@ -1,11 +1,16 @@
 -- What serde_json's clauses say, as steps of the grammar.
-use Rattle.std.proofs.Common.{◌≡◌, ℕ, List, true, false, cond, Some, None, Ok, Err, IsUtf8, refl}
+use Rattle.std.proofs.Common.{◌≡◌, ◌≢◌, ◌==◌, ℕ, List, true, false, cond, Some, None, option_and_then, Ok, Err, IsUtf8, refl, eq-eqb, arith}
+use Rattle.std.proofs.lemmas.Grind.{common_steps}
 use Rattle.std.proofs.lemmas.Str.{is_utf8-from_IsUtf8, IsUtf8-from_is_utf8}
 use Rattle.std.specs.Str.{is_utf8}
-use Rattle.serde_json.specs.Data.{Data}
+use Rattle.serde_json.specs.Data.{Data, Items}
+use Rattle.serde_json.specs.Find.{as_array}
+use Rattle.serde_json.specs.Events.{items_len}
 use Rattle.serde_json.specs.Read.{read}
-use Rattle.opid.specs.declared.refusal.Refusal.TheVariants.{BadJson}
-use Rattle.wire_json.specs.Request.{json_of, or_refuse}
+use Rattle.opid.specs.declared.refusal.Refusal.TheVariants.{BadJson, BadField}
+use Rattle.wire_json.specs.Request.{json_of}
+use Rattle.wire_json.specs.Members.{or_refuse}
+use Rattle.wire_json.specs.Operations.{two}
 
 pub json_read : (bytes : List ℕ) (d : Data) → IsUtf8 bytes → read bytes ≡ Some d → json_of bytes ≡ Ok d
 json_read bytes d u e = rw (is_utf8-from_IsUtf8 bytes u, e) refl
@@ -16,3 +21,11 @@ json_refused bytes none =
       | true ↦ λ e. rw (none (IsUtf8-from_is_utf8 bytes e)) refl
       | false ↦ λ e. refl
     ] refl
+
+pub of_two : (ds : Items) (d : Data) → Some ds ≡ as_array d → items_len ds ≡ 2 → or_refuse BadField (option_and_then two (as_array d)) ≡ Ok tt
+of_two ds d e same = rw (← e) (rw (eq-eqb (items_len ds) 2 same) refl)
+
+pub of_other_than_two : (ds : Items) (d : Data) → Some ds ≡ as_array d → items_len ds ≢ 2 → or_refuse BadField (option_and_then two (as_array d)) ≡ Err BadField
+of_other_than_two ds d e other =
+    let test : (items_len ds == 2) ≡ false = grind (arith, common_steps) in
+    rw (← e) (rw test refl)

@@ -5,9 +5,9 @@ use Rattle.std.specs.Str.{all_scalars, chars}
 use Rattle.std.specs.List.{AllByRecursion}
 use Rattle.std.proofs.lemmas.Fmt.{decimal_injective}
 use Rattle.std.proofs.lemmas.Str.{chars-encodes}
-use Rattle.json.specs.Print.{escape_byte}
+use Rattle.json.specs.Print.{escape_byte, print}
 use Rattle.json.specs.Json.{document, max_depth}
-use Rattle.json.specs.Tree.{depth, items_depth, HasNumbers, ItemsHaveNumbers}
+use Rattle.json.specs.Tree.{depth, items_depth, HasNumbers, ItemsHaveNumbers, json_tokens}
 use Rattle.json.proofs.Printed.Trees.{document-print}
 use Rattle.json.proofs.Printed.Decimals.{IsNumber-decimal}
 use Rattle.serde_json.specs.Data.{Data, array}
@@ -19,40 +19,28 @@ use Rattle.opid.specs.Refusals.{number_of}
 use Rattle.opid.specs.declared.edit.Edit as edit
 use Rattle.opid.specs.declared.edit.Edit.TheVariants.{Ins, Del, Nop}
 use Rattle.room.specs.declared.reply.Reply as reply
-use Rattle.room.specs.declared.reply.Reply.TheVariants.{Joined, Ok, Edits, Left, Text, No}
-use Rattle.wire_json.specs.Text.{IsInRange, IsEditInRange, quote, text, more, listed, edit_text}
-use Rattle.wire_json.specs.Written.{data_of, edit_data, each_data}
-
-regroup_3 : (a b c : List ℕ) → a ++ (b ++ c) ≡ a ++ b ++ c
-regroup_3 a b c = simp append_assoc
-
-regroup_5 : (a b c d e : List ℕ) → a ++ (b ++ (c ++ (d ++ e))) ≡ a ++ b ++ c ++ d ++ e
-regroup_5 a b c d e = simp append_assoc
-
-regroup_7 : (a b c d e f g : List ℕ) → a ++ (b ++ (c ++ (d ++ (e ++ (f ++ g))))) ≡ a ++ b ++ c ++ d ++ e ++ f ++ g
-regroup_7 a b c d e f g = simp append_assoc
-
--- ---- lists: each value's compact text is its text, so the list's is too
-
-regroup_item : (c x m : List ℕ) → c ++ (x ++ (m ++ 93 ∷ [])) ≡ (c ++ x ++ m) ++ 93 ∷ []
-regroup_item c x m = simp append_assoc
-
-more_compact : {A : Type 0} (f : A → Data) (t : A → List ℕ) → ((x : A) → compact_text (f x) ≡ t x) → (xs : List A) → items_text true (each_data f xs) ≡ more (map t xs) ++ 93 ∷ []
-more_compact f t e [] = refl
-more_compact f t e (x ∷ xs) = ap₂ (λ y m. 44 ∷ (y ++ m)) (e x) (more_compact f t e xs) ∙ regroup_item (44 ∷ []) (t x) (more (map t xs))
-
-list_compact : {A : Type 0} (f : A → Data) (t : A → List ℕ) → ((x : A) → compact_text (f x) ≡ t x) → (xs : List A) → compact_text (array (each_data f xs)) ≡ listed (map t xs)
-list_compact f t e [] = refl
-list_compact f t e (x ∷ xs) = ap₂ (λ y m. 91 ∷ (y ++ m)) (e x) (more_compact f t e xs) ∙ regroup_first (t x) (more (map t xs))
-  where
-    regroup_first : (y m : List ℕ) → 91 ∷ (y ++ (m ++ 93 ∷ [])) ≡ 91 ∷ ((y ++ m) ++ 93 ∷ [])
-    regroup_first y m = simp append_assoc
+use Rattle.room.specs.declared.reply.Reply.TheVariants.{Joined, Ok, Edits, Left, Ops, Put, Text, No}
+use Rattle.opid.specs.Operations.{Operation}
+use Rattle.room.specs.declared.outcome.Outcome as outcome
+use Rattle.room.specs.declared.outcome.Outcome.TheVariants as outcomes
+use Rattle.wire_json.proofs.OperationTexts.{op_compact, op_no_float}
+use Rattle.wire_json.proofs.Read.{different as one_text, op_numbers, op_depth}
+use Rattle.wire_json.specs.Text.{IsInRange, IsEditInRange, IsOperationInRange, IsOutcomeInRange, op_text, outcome_text, quote, text, more, listed, edit_text}
+use Rattle.wire_json.proofs.ListTexts.{regroup_3, regroup_5, regroup_7, list_compact}
+use Rattle.wire_json.specs.Written.{data_of, op_data, outcome_data, edit_data, each_data}
 
 edit_compact : (e : edit.Edit) → compact_text (edit_data e) ≡ edit_text e
 unfolding escape_byte
 edit_compact (Ins k c) = regroup_5 (codes "[\"i\",") (decimal k) (codes ",") (quote (c ∷ [])) (codes "]")
 edit_compact (Del k) = regroup_3 (codes "[\"d\",") (decimal k) (codes "]")
 edit_compact Nop = refl
+
+outcome_compact : (o : outcome.Outcome) → compact_text (outcome_data o) ≡ outcome_text o
+unfolding escape_byte
+outcome_compact (outcomes.Took taken dropped) = regroup_5 (codes "[\"took\",") (decimal taken) (codes ",") (decimal dropped) (codes "]")
+outcome_compact outcomes.Kept = refl
+outcome_compact outcomes.Again = refl
+outcome_compact (outcomes.No why) = regroup_3 (codes "[\"no\",") (decimal (number_of why)) (codes "]")
 
 -- what serde_json writes for the value of a reply is the reply's text
 pub compact : (r : reply.Reply) → compact_text (data_of r) ≡ text r
@@ -63,6 +51,12 @@ compact (Edits «from» es) =
     ap (λ l. codes "{\"es\":" ++ (l ++ (codes ",\"from\":" ++ (decimal «from» ++ codes ",\"r\":\"edits\"}")))) (list_compact edit_data edit_text edit_compact es)
     ∙ regroup_5 (codes "{\"es\":") (listed (map edit_text es)) (codes ",\"from\":") (decimal «from») (codes ",\"r\":\"edits\"}")
 compact Left = refl
+compact (Ops «from» ops) =
+    ap (λ l. codes "{\"from\":" ++ (decimal «from» ++ (codes ",\"ops\":" ++ (l ++ codes ",\"r\":\"ops\"}")))) (list_compact op_data op_text op_compact ops)
+    ∙ regroup_5 (codes "{\"from\":") (decimal «from») (codes ",\"ops\":") (listed (map op_text ops)) (codes ",\"r\":\"ops\"}")
+compact (Put os) =
+    ap (λ l. codes "{\"os\":" ++ (l ++ codes ",\"r\":\"put\"}")) (list_compact outcome_data outcome_text outcome_compact os)
+    ∙ regroup_3 (codes "{\"os\":") (listed (map outcome_text os)) (codes ",\"r\":\"put\"}")
 compact (Text v x) = regroup_5 (codes "{\"r\":\"text\",\"v\":") (decimal v) (codes ",\"x\":") (quote x) (codes "}")
 compact (No why) = regroup_3 (codes "{\"n\":") (decimal (number_of why)) (codes ",\"r\":\"no\"}")
 
@@ -72,11 +66,24 @@ edits_no_float (Ins k c ∷ es) = edits_no_float es
 edits_no_float (Del k ∷ es) = edits_no_float es
 edits_no_float (Nop ∷ es) = edits_no_float es
 
+ops_no_float : (xs : List Operation) → items_have_float (each_data op_data xs) ≡ false
+ops_no_float [] = refl
+ops_no_float (x ∷ xs) = rw (op_no_float x) (ops_no_float xs)
+
+outcomes_no_float : (os : List outcome.Outcome) → items_have_float (each_data outcome_data os) ≡ false
+outcomes_no_float [] = refl
+outcomes_no_float (outcomes.Took taken dropped ∷ os) = outcomes_no_float os
+outcomes_no_float (outcomes.Kept ∷ os) = outcomes_no_float os
+outcomes_no_float (outcomes.Again ∷ os) = outcomes_no_float os
+outcomes_no_float (outcomes.No why ∷ os) = outcomes_no_float os
+
 pub no_float : (r : reply.Reply) → has_float (data_of r) ≡ false
 no_float (Joined s v x) = refl
 no_float (Ok «from» to) = refl
 no_float (Edits «from» es) = rw (edits_no_float es) refl
 no_float Left = refl
+no_float (Ops «from» ops) = rw (ops_no_float ops) refl
+no_float (Put os) = rw (outcomes_no_float os) refl
 no_float (Text v x) = refl
 no_float (No why) = refl
 
@@ -120,11 +127,24 @@ edit_numbers (Ins k c ∷ es) h = ((tt, (IsNumber-decimal k h.0.0, (tt, tt))), e
 edit_numbers (Del k ∷ es) h = ((tt, (IsNumber-decimal k h.0, tt)), edit_numbers es h.1)
 edit_numbers (Nop ∷ es) h = ((tt, tt), edit_numbers es h.1)
 
+ops_numbers : (xs : List Operation) → AllByRecursion IsOperationInRange xs → ItemsHaveNumbers (items_outline (each_data op_data xs))
+ops_numbers [] h = tt
+ops_numbers (x ∷ xs) h = (op_numbers x h.0.0 h.0.1, ops_numbers xs h.1)
+
+outcome_numbers : (os : List outcome.Outcome) → AllByRecursion IsOutcomeInRange os → ItemsHaveNumbers (items_outline (each_data outcome_data os))
+outcome_numbers [] h = tt
+outcome_numbers (outcomes.Took taken dropped ∷ os) h = ((tt, (IsNumber-decimal taken (small taken h.0.0), (IsNumber-decimal dropped (small dropped h.0.1), tt))), outcome_numbers os h.1)
+outcome_numbers (outcomes.Kept ∷ os) h = ((tt, tt), outcome_numbers os h.1)
+outcome_numbers (outcomes.Again ∷ os) h = ((tt, tt), outcome_numbers os h.1)
+outcome_numbers (outcomes.No why ∷ os) h = ((tt, (IsNumber-decimal (number_of why) (number_small why), tt)), outcome_numbers os h.1)
+
 numbers : (r : reply.Reply) → IsInRange r → HasNumbers (outline (data_of r))
 numbers (Joined s v x) h = (tt, (IsNumber-decimal s (small s h.0), (IsNumber-decimal v (small v h.1), (tt, tt))))
 numbers (Ok «from» to) h = (IsNumber-decimal «from» (small «from» h.0), (tt, (IsNumber-decimal to (small to h.1), tt)))
 numbers (Edits «from» es) h = (edit_numbers es h.1, (IsNumber-decimal «from» (small «from» h.0), (tt, tt)))
 numbers Left h = (tt, tt)
+numbers (Ops «from» ops) h = (IsNumber-decimal «from» (small «from» h.0), (ops_numbers ops h.1, (tt, tt)))
+numbers (Put os) h = (outcome_numbers os h, (tt, tt))
 numbers (Text v x) h = (tt, (IsNumber-decimal v (small v h.0), (tt, tt)))
 numbers (No why) h = (IsNumber-decimal (number_of why) (number_small why), (tt, tt))
 
@@ -134,11 +154,24 @@ edits_shallow (Ins k c ∷ es) = omega (arith, edits_shallow es)
 edits_shallow (Del k ∷ es) = omega (arith, edits_shallow es)
 edits_shallow (Nop ∷ es) = omega (arith, edits_shallow es)
 
+ops_shallow : (xs : List Operation) → items_depth (items_outline (each_data op_data xs)) ≤ 3
+ops_shallow [] = lit≤ tt
+ops_shallow (x ∷ xs) = omega (arith, op_depth x, ops_shallow xs)
+
+outcomes_shallow : (os : List outcome.Outcome) → items_depth (items_outline (each_data outcome_data os)) ≤ 1
+outcomes_shallow [] = lit≤ tt
+outcomes_shallow (outcomes.Took taken dropped ∷ os) = omega (arith, outcomes_shallow os)
+outcomes_shallow (outcomes.Kept ∷ os) = omega (arith, outcomes_shallow os)
+outcomes_shallow (outcomes.Again ∷ os) = omega (arith, outcomes_shallow os)
+outcomes_shallow (outcomes.No why ∷ os) = omega (arith, outcomes_shallow os)
+
 shallow : (r : reply.Reply) → depth (outline (data_of r)) ≤ max_depth
 shallow (Joined s v x) = lit≤ tt
 shallow (Ok «from» to) = lit≤ tt
 shallow (Edits «from» es) = omega (arith, edits_shallow es)
 shallow Left = lit≤ tt
+shallow (Ops «from» ops) = omega (arith, ops_shallow ops)
+shallow (Put os) = omega (arith, outcomes_shallow os)
 shallow (Text v x) = lit≤ tt
 shallow (No why) = lit≤ tt
 
@@ -213,6 +246,30 @@ one_list P f one [] (y ∷ ys) h k e = cc
 one_list P f one (x ∷ xs) [] h k e = cc
 one_list P f one (x ∷ xs) (y ∷ ys) h k e = ap₂ (λ z zs. z ∷ zs) (one x y h.0 k.0 (cc)) (one_list P f one xs ys h.1 k.1 (cc))
 
+one_operation : (x y : Operation) → IsOperationInRange x → IsOperationInRange y → outline (op_data x) ≡ outline (op_data y) → x ≡ y
+one_operation x y h k e = one_text x y h.0 h.1 k.0 k.1 (sym (print-outline (op_data x) ∙ op_compact x) ∙ ap (λ t. print (json_tokens t)) e ∙ print-outline (op_data y) ∙ op_compact y)
+
+one_outcome : (a b : outcome.Outcome) → IsOutcomeInRange a → IsOutcomeInRange b → outline (outcome_data a) ≡ outline (outcome_data b) → a ≡ b
+one_outcome (outcomes.Took t d) (outcomes.Took u f) h k e =
+    let same_taken = decimal_injective t u (small t h.0) (small u k.0) (cc) in
+    let same_dropped = decimal_injective d f (small d h.1) (small f k.1) (cc) in
+    cc
+one_outcome (outcomes.No x) (outcomes.No y) h k e = ap outcomes.No (same_refusal x y (decimal_injective (number_of x) (number_of y) (number_small x) (number_small y) (cc)))
+one_outcome outcomes.Kept outcomes.Kept h k e = refl
+one_outcome outcomes.Again outcomes.Again h k e = refl
+one_outcome (outcomes.Took t d) outcomes.Kept h k e = cc
+one_outcome (outcomes.Took t d) outcomes.Again h k e = cc
+one_outcome (outcomes.Took t d) (outcomes.No y) h k e = cc
+one_outcome outcomes.Kept (outcomes.Took u f) h k e = cc
+one_outcome outcomes.Kept outcomes.Again h k e = cc
+one_outcome outcomes.Kept (outcomes.No y) h k e = cc
+one_outcome outcomes.Again (outcomes.Took u f) h k e = cc
+one_outcome outcomes.Again outcomes.Kept h k e = cc
+one_outcome outcomes.Again (outcomes.No y) h k e = cc
+one_outcome (outcomes.No x) (outcomes.Took u f) h k e = cc
+one_outcome (outcomes.No x) outcomes.Kept h k e = cc
+one_outcome (outcomes.No x) outcomes.Again h k e = cc
+
 one_reply : (a b : reply.Reply) → IsInRange a → IsInRange b → outline (data_of a) ≡ outline (data_of b) → a ≡ b
 one_reply (Joined s v x) (Joined t w y) h k e =
     let same_s = decimal_injective s t (small s h.0) (small t k.0) (cc) in
@@ -228,6 +285,11 @@ one_reply (Edits m es) (Edits i fs) h k e =
     let same_edits = one_list IsEditInRange edit_data one_edit es fs h.1 k.1 (cc) in
     cc
 one_reply Left Left h k e = refl
+one_reply (Ops m xs) (Ops i ys) h k e =
+    let same_from = decimal_injective m i (small m h.0) (small i k.0) (cc) in
+    let same_operations = one_list IsOperationInRange op_data one_operation xs ys h.1 k.1 (cc) in
+    cc
+one_reply (Put os) (Put ps) h k e = ap Put (one_list IsOutcomeInRange outcome_data one_outcome os ps h k (cc))
 one_reply (Text v x) (Text w y) h k e =
     let same_v = decimal_injective v w (small v h.0) (small w k.0) (cc) in
     let same_x = same_characters x y h.1 k.1 (cc) in
@@ -237,32 +299,58 @@ one_reply (No p) (No q) h k e =
 one_reply (Joined s v x) (Ok i j) h k e = cc
 one_reply (Joined s v x) (Edits i fs) h k e = cc
 one_reply (Joined s v x) Left h k e = cc
+one_reply (Joined s v x) (Ops i ys) h k e = cc
+one_reply (Joined s v x) (Put ps) h k e = cc
 one_reply (Joined s v x) (Text w y) h k e = cc
 one_reply (Joined s v x) (No q) h k e = cc
 one_reply (Ok m n) (Joined t w y) h k e = cc
 one_reply (Ok m n) (Edits i fs) h k e = cc
 one_reply (Ok m n) Left h k e = cc
+one_reply (Ok m n) (Ops i ys) h k e = cc
+one_reply (Ok m n) (Put ps) h k e = cc
 one_reply (Ok m n) (Text w y) h k e = cc
 one_reply (Ok m n) (No q) h k e = cc
 one_reply (Edits m es) (Joined t w y) h k e = cc
 one_reply (Edits m es) (Ok i j) h k e = cc
 one_reply (Edits m es) Left h k e = cc
+one_reply (Edits m es) (Ops i ys) h k e = cc
+one_reply (Edits m es) (Put ps) h k e = cc
 one_reply (Edits m es) (Text w y) h k e = cc
 one_reply (Edits m es) (No q) h k e = cc
 one_reply Left (Joined t w y) h k e = cc
 one_reply Left (Ok i j) h k e = cc
 one_reply Left (Edits i fs) h k e = cc
+one_reply Left (Ops i ys) h k e = cc
+one_reply Left (Put ps) h k e = cc
 one_reply Left (Text w y) h k e = cc
 one_reply Left (No q) h k e = cc
+one_reply (Ops m xs) (Joined t w y) h k e = cc
+one_reply (Ops m xs) (Ok i j) h k e = cc
+one_reply (Ops m xs) (Edits i fs) h k e = cc
+one_reply (Ops m xs) Left h k e = cc
+one_reply (Ops m xs) (Put ps) h k e = cc
+one_reply (Ops m xs) (Text w y) h k e = cc
+one_reply (Ops m xs) (No q) h k e = cc
+one_reply (Put os) (Joined t w y) h k e = cc
+one_reply (Put os) (Ok i j) h k e = cc
+one_reply (Put os) (Edits i fs) h k e = cc
+one_reply (Put os) Left h k e = cc
+one_reply (Put os) (Ops i ys) h k e = cc
+one_reply (Put os) (Text w y) h k e = cc
+one_reply (Put os) (No q) h k e = cc
 one_reply (Text v x) (Joined t w y) h k e = cc
 one_reply (Text v x) (Ok i j) h k e = cc
 one_reply (Text v x) (Edits i fs) h k e = cc
 one_reply (Text v x) Left h k e = cc
+one_reply (Text v x) (Ops i ys) h k e = cc
+one_reply (Text v x) (Put ps) h k e = cc
 one_reply (Text v x) (No q) h k e = cc
 one_reply (No p) (Joined t w y) h k e = cc
 one_reply (No p) (Ok i j) h k e = cc
 one_reply (No p) (Edits i fs) h k e = cc
 one_reply (No p) Left h k e = cc
+one_reply (No p) (Ops i ys) h k e = cc
+one_reply (No p) (Put ps) h k e = cc
 one_reply (No p) (Text w y) h k e = cc
 
 pub different : (a b : reply.Reply) → IsInRange a → IsInRange b → text a ≡ text b → a ≡ b

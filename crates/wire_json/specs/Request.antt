@@ -1,51 +1,14 @@
 -- Which call the bytes of a request ask for, or why they are refused. JSON is that of RFC 8259, as `serde_json` reads it: the last value of a repeated key stands.
-use Rattle.std.specs.Prelude.{◌^◌, ℕ, nat_lt, Bool, true, ◌&&◌, if◌then◌else◌, Option, Some, None, option_and_then, Result, Ok, Err, List, length, [], ◌∷◌, codes, bytes_eq}
+use Rattle.std.specs.Prelude.{ℕ, nat_lt, if◌then◌else◌, Option, Some, None, Result, Ok, Err, List, length, [], ◌∷◌, codes, bytes_eq}
 use Rattle.std.specs.Str.{is_utf8, chars}
-use Rattle.std.specs.List.{list_any}
-use Rattle.serde_json.specs.Data.{Data, Members, no_members, member}
+use Rattle.serde_json.specs.Data.{Data}
 use Rattle.serde_json.specs.Read.{read}
-use Rattle.serde_json.specs.Find.{get, as_number, as_u64, as_str, as_object}
 use Rattle.opid.specs.declared.refusal.Refusal.{Refusal}
-use Rattle.opid.specs.declared.refusal.Refusal.TheVariants.{BadJson, BadField, UnknownKind, TooLong}
+use Rattle.opid.specs.declared.refusal.Refusal.TheVariants.{BadJson, UnknownKind, TooLong}
 use Rattle.room.specs.declared.call.Call.{Call}
-use Rattle.room.specs.declared.call.Call.TheVariants.{Join, Ins, Del, Pull, Leave, Read}
-
--- ---- a step that may be refused: the first refusal stands
-
-infixl 10 ◌>>=◌
-abbrev pub ◌>>=◌ : {A B : Type 0} → Result A Refusal → (A → Result B Refusal) → Result B Refusal
-(Ok x) >>= f = f x
-(Err e) >>= f = Err e
-
--- the value, or the refusal where there is none
-abbrev pub or_refuse : {A : Type 0} → Refusal → Option A → Result A Refusal
-or_refuse e (Some x) = Ok x
-or_refuse e None = Err e
-
--- ---- the members of a request
-
--- each key is one of the row
-abbrev pub are_among : List (List ℕ) → Members → Bool
-are_among row no_members = true
-are_among row (member key d ms) = list_any (λ name. bytes_eq name key) row && are_among row ms
-
-abbrev pub within : List (List ℕ) → Members → Option (Unit {0})
-within row ms = if are_among row ms then Some tt else None
-
--- an object with no key but those of the row; each of these is looked up besides
-abbrev pub only_keys : List (List ℕ) → Data → Result (Unit {0}) Refusal
-only_keys row d = or_refuse BadField (option_and_then (within row) (as_object d))
-
--- the text at a key, in UTF-8
-abbrev pub text_at : List ℕ → Data → Result (List ℕ) Refusal
-text_at key d = or_refuse BadField (option_and_then as_str (get key d))
-
-abbrev pub below : ℕ → ℕ → Option ℕ
-below limit n = if nat_lt n limit then Some n else None
-
--- the number at a key: whole, from 0 to 4,294,967,295, written with no sign, fraction or exponent
-abbrev pub number_at : List ℕ → Data → Result ℕ Refusal
-number_at key d = or_refuse BadField (option_and_then (below (2 ^ 32)) (option_and_then as_u64 (option_and_then as_number (get key d))))
+use Rattle.room.specs.declared.call.Call.TheVariants.{Join, Ins, Del, Pull, Leave, Ops, Put, Read}
+use Rattle.wire_json.specs.Members.{◌>>=◌, or_refuse, only_keys, number_at, text_at}
+use Rattle.wire_json.specs.Operations.{list_at, ops_of}
 
 -- ---- the kinds: each with its keys
 
@@ -88,6 +51,20 @@ leave_of d = do
   s ← number_at (codes "s") d
   Ok (Leave s)
 
+abbrev pub part_of : Data → Result Call Refusal
+part_of d = do
+  keys ← only_keys (codes "t" ∷ codes "after" ∷ codes "max" ∷ []) d
+  after ← number_at (codes "after") d
+  max ← number_at (codes "max") d
+  Ok (Ops after max)
+
+abbrev pub put_of : Data → Result Call Refusal
+put_of d = do
+  keys ← only_keys (codes "t" ∷ codes "ops" ∷ []) d
+  list ← list_at (codes "ops") d
+  ops ← ops_of list
+  Ok (Put ops)
+
 abbrev pub read_of : Data → Result Call Refusal
 read_of d = do
   keys ← only_keys (codes "t" ∷ []) d
@@ -100,7 +77,9 @@ call_named t d =
     if bytes_eq t (codes "del") then del_of d else (
     if bytes_eq t (codes "pull") then pull_of d else (
     if bytes_eq t (codes "leave") then leave_of d else (
-    if bytes_eq t (codes "read") then read_of d else Err UnknownKind)))))
+    if bytes_eq t (codes "ops") then part_of d else (
+    if bytes_eq t (codes "put") then put_of d else (
+    if bytes_eq t (codes "read") then read_of d else Err UnknownKind)))))))
 
 abbrev pub call_of : Data → Result Call Refusal
 call_of d = do

@@ -1,12 +1,19 @@
--- The JSON value of a reply. Private clauses alone cite it.
-use Rattle.std.specs.Prelude.{ℕ, List, [], ◌∷◌, codes, encode_utf8_all}
-use Rattle.serde_json.specs.Data.{Data, Items, no_items, item, string, number, unsigned, array, object, member, no_members}
+-- The JSON value of a reply, and of an operation. Private clauses alone cite it.
+use Rattle.std.specs.Prelude.{ℕ, Option, Some, None, List, [], ◌∷◌, codes, encode_utf8_all}
+use Rattle.serde_json.specs.Data.{Data, null, Items, no_items, item, string, number, unsigned, array, object, member, no_members}
 use Rattle.opid.specs.declared.refusal.Refusal.{Refusal}
 use Rattle.opid.specs.Refusals.{number_of}
+use Rattle.opid.specs.declared.stamp.Stamp.{Stamp}
+use Rattle.opid.specs.declared.kind.OpKind as kind
+use Rattle.opid.specs.declared.kind.OpKind.TheVariants as kinds
+use Rattle.opid.specs.Operations.{Operation}
 use Rattle.opid.specs.declared.edit.Edit as edit
 use Rattle.opid.specs.declared.edit.Edit.TheVariants.{Ins, Del, Nop}
+use Rattle.room.specs.declared.outcome.Outcome as outcome
+use Rattle.room.specs.declared.outcome.Outcome.TheVariants as outcomes
 use Rattle.room.specs.declared.reply.Reply as reply
-use Rattle.room.specs.declared.reply.Reply.TheVariants.{Joined, Ok, Edits, Left, Text, No}
+use Rattle.room.specs.declared.reply.Reply.TheVariants.{Joined, Ok, Edits, Left, Ops, Put, Text, No}
+use Rattle.wire_json.specs.Text.{pairs_of}
 
 abbrev pub joined_data : ℕ → ℕ → List ℕ → Data
 joined_data s v x = object (member (codes "r") (string (codes "joined")) (member (codes "s") (number (unsigned s)) (member (codes "v") (number (unsigned v)) (member (codes "x") (string x) no_members))))
@@ -36,11 +43,54 @@ text_data v x = object (member (codes "r") (string (codes "text")) (member (code
 abbrev pub no_data : Refusal → Data
 no_data why = object (member (codes "n") (number (unsigned (number_of why))) (member (codes "r") (string (codes "no")) no_members))
 
+abbrev pub two_data : ℕ → ℕ → Data
+two_data m n = array (item (number (unsigned m)) (item (number (unsigned n)) no_items))
+
+abbrev pub pair_data : ℕ × ℕ → Data
+pair_data p = two_data p.0 p.1
+
+abbrev pub pairs_data : List ℕ → Items
+pairs_data clock = each_data pair_data (pairs_of clock)
+
+abbrev pub stamp_data : Stamp → Data
+stamp_data s = two_data s.sum s.site
+
+abbrev pub parent_data : Option Stamp → Data
+parent_data None = null
+parent_data (Some s) = stamp_data s
+
+abbrev pub insertion_data : ℕ → List ℕ → Option Stamp → ℕ → Data
+insertion_data s clock parent c = object (member (codes "c") (array (pairs_data clock)) (member (codes "k") (string (codes "i")) (member (codes "p") (parent_data parent) (member (codes "s") (number (unsigned s)) (member (codes "x") (string (encode_utf8_all (c ∷ []))) no_members)))))
+
+abbrev pub deletion_data : ℕ → List ℕ → Stamp → Data
+deletion_data s clock target = object (member (codes "c") (array (pairs_data clock)) (member (codes "k") (string (codes "d")) (member (codes "s") (number (unsigned s)) (member (codes "t") (stamp_data target) no_members))))
+
+abbrev pub op_data_of : ℕ → List ℕ → kind.OpKind → Data
+op_data_of s clock (kinds.Ins parent c) = insertion_data s clock parent c
+op_data_of s clock (kinds.Del target) = deletion_data s clock target
+
+abbrev pub op_data : Operation → Data
+op_data x = op_data_of x.site x.clock x.kind
+
+abbrev pub part_data : ℕ → List Operation → Data
+part_data «from» ops = object (member (codes "from") (number (unsigned «from»)) (member (codes "ops") (array (each_data op_data ops)) (member (codes "r") (string (codes "ops")) no_members)))
+
+abbrev pub outcome_data : outcome.Outcome → Data
+outcome_data (outcomes.Took taken dropped) = array (item (string (codes "took")) (item (number (unsigned taken)) (item (number (unsigned dropped)) no_items)))
+outcome_data outcomes.Kept = array (item (string (codes "kept")) no_items)
+outcome_data outcomes.Again = array (item (string (codes "again")) no_items)
+outcome_data (outcomes.No why) = array (item (string (codes "no")) (item (number (unsigned (number_of why))) no_items))
+
+abbrev pub put_data : List outcome.Outcome → Data
+put_data os = object (member (codes "os") (array (each_data outcome_data os)) (member (codes "r") (string (codes "put")) no_members))
+
 -- texts are in UTF-8
 abbrev pub data_of : reply.Reply → Data
 data_of (Joined s v x) = joined_data s v (encode_utf8_all x)
 data_of (Ok «from» to) = ok_data «from» to
 data_of (Edits «from» es) = edits_data «from» es
 data_of Left = left_data
+data_of (Ops «from» ops) = part_data «from» ops
+data_of (Put os) = put_data os
 data_of (Text v x) = text_data v (encode_utf8_all x)
 data_of (No why) = no_data why

@@ -2,11 +2,18 @@
 #![tactic(auto)]
 
 mod laws;
+mod offer;
+#[cfg(test)]
+mod operation_tests;
+mod operation_values;
+mod operations;
 mod reading;
 #[cfg(test)]
 mod tests;
 mod writing;
 
-pub use laws::different_replies;
+pub use laws::{different_operations, different_replies, operations_read_back};
+pub use operation_values::write_op;
+pub use operations::read_op;
 pub use reading::read_request;
 pub use writing::write_reply;

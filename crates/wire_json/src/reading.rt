@@ -1,13 +1,15 @@
 //! Reading a request: the steps of its grammar, each a value or the first refusal.
-ghost use Rattle.std.specs.Prelude.{◌≡◌, ◌<◌, Err, length, map, bytes_eq};
+ghost use Rattle.std.specs.Prelude.{◌≡◌, ◌<◌, Err, length, map, bytes_eq, option_map};
 ghost use Rattle.opid.specs.declared.refusal.Refusal.TheVariants.{TooLong};
 ghost use Rattle.std.specs.List.{list_any};
 ghost use Rattle.serde_json.specs.View.{view, members_view};
-ghost use Rattle.wire_json.specs.Request.{request, json_of, call_of, join_of, ins_of, del_of, pull_of, leave_of, read_of, only_keys, are_among, number_at, text_at};
+ghost use Rattle.wire_json.specs.Request.{request, json_of, call_of, join_of, ins_of, del_of, pull_of, leave_of, part_of, put_of, read_of};
+ghost use Rattle.wire_json.specs.Members.{only_keys, are_among, number_of, number_at, text_at};
 ghost use Rattle.wire_json.specs.Given.{Gives, same};
 
+use crate::operations::{read_list, read_ops};
 use opid::Refusal;
-use room::{Call, Characters};
+use room::{Call, Characters, Operations};
 use serde_json::{Map, Value};
 use std::alloc::Global;
 
@@ -20,7 +22,7 @@ const MAX_BYTES: usize = 65_536;
 /// kind, in any order. Refused with the first of these that applies to the whole request: `TooLong` above 65,536
 /// bytes, `BadJson` where the bytes are no JSON text in UTF-8, `BadField` where the value is no object or has no
 /// text `t`, `UnknownKind` where `t` names no request, `BadField` where a key is missing or too many or a value has
-/// a wrong type or range. `Memory` may stand in the place of any answer but `TooLong`. Takes time and memory in
+/// a wrong type or range, also in an operation, and then `BadSite` and `BadClock` of operations, as `read_op` tells. `Memory` may stand in the place of any answer but `TooLong`. Takes time and memory in
 /// proportion to the bytes.
 pub fn read_request(alloc: Global, bytes: &[u8]) -> Result<Call, Refusal>
     ensures asked { Gives same result (request bytes.now) }
@@ -53,6 +55,8 @@ fn read_call(alloc: Global, value: &Value) -> Result<Call, Refusal>
         "del" => read_del(value),
         "pull" => read_pull(value),
         "leave" => read_leave(value),
+        "ops" => read_part(value),
+        "put" => read_put(alloc, value),
         "read" => read_read(value),
         _ => Err(Refusal::UnknownKind),
     }
@@ -108,6 +112,24 @@ fn read_leave(value: &Value) -> Result<Call, Refusal>
     Ok(Call::Leave { s })
 }
 
+fn read_part(value: &Value) -> Result<Call, Refusal>
+    ensures { Gives same result (part_of (view value.now)) }
+{
+    check_keys(value, &["t", "after", "max"])?;
+    let after = read_number(value, "after")?;
+    let max = read_number(value, "max")?;
+    Ok(Call::Ops { after, max })
+}
+
+fn read_put(alloc: Global, value: &Value) -> Result<Call, Refusal>
+    ensures { Gives same result (put_of (view value.now)) }
+{
+    check_keys(value, &["t", "ops"])?;
+    let list = read_list(value, "ops")?;
+    let ops = read_ops(alloc, list)?;
+    Ok(Call::Put(Operations::new(ops)))
+}
+
 fn read_read(value: &Value) -> Result<Call, Refusal>
     ensures { Gives same result (read_of (view value.now)) }
 {
@@ -116,7 +138,7 @@ fn read_read(value: &Value) -> Result<Call, Refusal>
 }
 
 // No key but those of the row. That each of these is there is seen where its value is read.
-fn check_keys(value: &Value, row: &[&str]) -> Result<(), Refusal>
+pub(crate) fn check_keys(value: &Value, row: &[&str]) -> Result<(), Refusal>
     ensures { Gives same result (only_keys (map (λ name. name.now) row.now) (view value.now)) }
 {
     match value.as_object() {
@@ -142,16 +164,22 @@ fn is_among(key: &str, row: &[&str]) -> bool
     row.contains(&key)
 }
 
-fn read_number(value: &Value, key: &str) -> Result<u32, Refusal>
+pub(crate) fn read_number(value: &Value, key: &str) -> Result<u32, Refusal>
     ensures { Gives same result (number_at key.now (view value.now)) }
 {
-    match value.get(key).and_then(Value::as_u64) {
+    number_in(value.get(key))
+}
+
+pub(crate) fn number_in(value: Option<&Value>) -> Result<u32, Refusal>
+    ensures { Gives same result (number_of (option_map (λ v. view v.now) value.entry)) }
+{
+    match value.and_then(Value::as_u64) {
         Some(n) if n <= u32::MAX as u64 => Ok(n as u32),
         _ => Err(Refusal::BadField),
     }
 }
 
-fn read_text<'v>(value: &'v Value, key: &str) -> Result<&'v str, Refusal>
+pub(crate) fn read_text<'v>(value: &'v Value, key: &str) -> Result<&'v str, Refusal>
     ensures { Gives (λ s. s.now) result (text_at key.now (view value.now)) }
 {
     match value.get(key).and_then(Value::as_str) {

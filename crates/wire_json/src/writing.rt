@@ -2,10 +2,12 @@
 ghost use Rattle.std.specs.Prelude.{◌≡◌, IfOk, string_bytes, encode_utf8_all};
 ghost use Rattle.serde_json.specs.View.{view, items_view};
 ghost use Rattle.wire_json.specs.Text.{text};
-ghost use Rattle.wire_json.specs.Written.{joined_data, ok_data, edit_data, each_data, edits_data, left_data, text_data, no_data, data_of};
+ghost use Rattle.wire_json.specs.Written.{joined_data, ok_data, edit_data, each_data, edits_data, left_data, part_data, outcome_data, put_data, text_data, no_data, data_of};
 
+use crate::operation_values::op_values;
+use causal_clock::Op;
 use opid::{Edit, Refusal};
-use room::Reply;
+use room::{Outcome, Reply};
 use serde_json::{Value, json, push};
 use std::alloc::{AllocError, Global};
 
@@ -27,6 +29,8 @@ fn value_of(alloc: Global, reply: &Reply) -> Result<Value, AllocError>
         Reply::Ok { from, to } => accepted(alloc, *from, *to),
         Reply::Edits { from, es } => edits(alloc, *from, es.as_slice()),
         Reply::Left => left(alloc),
+        Reply::Ops { from, ops } => part(alloc, *from, ops.as_slice()),
+        Reply::Put(outcomes) => put(alloc, outcomes.as_slice()),
         Reply::Text { v, x } => whole_text(alloc, *v, x.as_str()),
         Reply::No(why) => refused(alloc, *why),
     }
@@ -69,6 +73,42 @@ fn edit_value(alloc: Global, edit: Edit) -> Result<Value, AllocError>
         Edit::Ins(place, ch) => json!(in alloc; ["i", place, ch.encode_utf8(&mut [0; 4])]),
         Edit::Del(place) => json!(in alloc; ["d", place]),
         Edit::Nop => json!(in alloc; ["n"]),
+    }
+}
+
+fn part(alloc: Global, from: u32, ops: &[Op]) -> Result<Value, AllocError>
+    ensures { IfOk result (λ out. view out ≡ part_data from ops.now) }
+{
+    let list = op_values(alloc, ops)?;
+    json!(in alloc; {"from": from, "ops": list, "r": "ops"})
+}
+
+fn put(alloc: Global, outcomes: &[Outcome]) -> Result<Value, AllocError>
+    ensures { IfOk result (λ out. view out ≡ put_data outcomes.now) }
+{
+    let list = outcome_values(alloc, outcomes)?;
+    json!(in alloc; {"os": list, "r": "put"})
+}
+
+fn outcome_values(alloc: Global, outcomes: &[Outcome]) -> Result<Vec<Value>, AllocError>
+    ensures { IfOk result (λ list. items_view list.items ≡ each_data outcome_data outcomes.now) }
+{
+    let mut list = Vec::with_capacity(alloc, outcomes.len())?;
+    for outcome in outcomes {
+        let value = outcome_value(alloc, *outcome)?;
+        push(&mut list, value)?;
+    }
+    Ok(list)
+}
+
+fn outcome_value(alloc: Global, outcome: Outcome) -> Result<Value, AllocError>
+    ensures { IfOk result (λ out. view out ≡ outcome_data outcome) }
+{
+    match outcome {
+        Outcome::Took(taken, dropped) => json!(in alloc; ["took", taken, dropped]),
+        Outcome::Kept => json!(in alloc; ["kept"]),
+        Outcome::Again => json!(in alloc; ["again"]),
+        Outcome::No(why) => json!(in alloc; ["no", why.number()]),
     }
 }
 

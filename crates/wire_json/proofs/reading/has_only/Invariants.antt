@@ -1,7 +1,7 @@
 -- The keys that were seen are all of the row, so the rest decides.
 use Rattle.std.proofs.Common.{◌≡◌, map}
 use Rattle.serde_json.specs.View.{members_view}
-use Rattle.wire_json.specs.Request.{are_among}
+use Rattle.wire_json.specs.Members.{are_among}
 use Rattle.wire_json.proofs.reading.has_only.Given as goal
 
 abbrev pub invariant-loop-key : goal.invariant-loop-key
