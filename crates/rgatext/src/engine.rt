@@ -24,13 +24,13 @@ use wire_json::{read_request, write_reply};
 #[derive(Clone, Copy, Debug, PartialEq, Eq, Error)]
 pub enum ServeFault {
     /// A read failed.
-    #[error("a read failed")]
+    #[error("fault read")]
     Read,
     /// A write failed, or took nothing.
-    #[error("a write failed")]
+    #[error("fault write")]
     Write,
     /// Memory was refused, for the buffer or for the text of a reply.
-    #[error("memory was refused")]
+    #[error("fault memory")]
     Memory,
 }
 

@@ -16,9 +16,8 @@ mod window;
 
 use command_line::plan;
 use counted::Counted;
-use engine::ServeFault;
 use plan::PlanFault;
-use play::{Stop, play};
+use play::play;
 use std::process::ExitCode;
 use std::{env, io};
 
@@ -32,15 +31,6 @@ fn words_of(rt: &HostRuntime) -> io::Result<Vec<String>> {
         words.push(word)?;
     }
     Ok(words)
-}
-
-// How a run that stopped is told.
-fn told(stop: Stop) -> &'static str {
-    match stop {
-        Stop::Fault(ServeFault::Read) => "rgatext: fault read",
-        Stop::Fault(ServeFault::Write) => "rgatext: fault write",
-        Stop::Fault(ServeFault::Memory) => "rgatext: fault memory",
-    }
 }
 
 fn main(rt: HostRuntime) -> ExitCode {
@@ -63,7 +53,7 @@ fn main(rt: HostRuntime) -> ExitCode {
             match play(alloc, &plan, &mut input, &mut output) {
                 Ok(()) => ExitCode::SUCCESS,
                 Err(stop) => {
-                    let _ = eprintln!(rt; "{}", told(stop));
+                    let _ = eprintln!(rt; "rgatext: {stop}");
                     ExitCode::FAILURE
                 }
             }

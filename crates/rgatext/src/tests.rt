@@ -1,6 +1,7 @@
 //! The engine over a small desk, and over readers and writers that give little at a time, or fail.
 use crate::counted::Counted;
 use crate::engine::{ServeFault, serve_lines};
+use crate::play::Stop;
 use opid::Refusal;
 use room::{Call, Characters, Desk, DeskFault, Reply};
 use std::alloc::Global;
@@ -337,5 +338,18 @@ fn only_memory_stands_in_for_an_answer(rt: HostRuntime) -> std::result::Result<(
     let all = told.end == Ok(()) && joined && refused;
     let ended = told.end == Err(ServeFault::Memory) && text.is_empty();
     assert!(rt; all || ended);
+    Ok(())
+}
+
+#[test]
+fn a_fault_is_named(rt: HostRuntime) -> std::result::Result<(), Fail> {
+    for (why, name) in [
+        (ServeFault::Read, "fault read"),
+        (ServeFault::Write, "fault write"),
+        (ServeFault::Memory, "fault memory"),
+    ] {
+        let told = format!(in rt.alloc(); "{}", Stop::Fault(why))?;
+        assert_eq!(rt; told.as_str(), name);
+    }
     Ok(())
 }
