@@ -1,13 +1,12 @@
 -- An editor that is given replies of its session, in any order, reads what the room reads at the editor's version.
-use Rattle.std.proofs.Common.{◌≡◌, ℕ, zero, suc, ◌+◌, ◌-◌, ◌<◌, ◌≤◌, Bool, true, false, cond, Option, Some, None, Ok, Err, List, [], ◌∷◌, ◌++◌, length, take, drop, refl, ap, ◌∙◌, sym, subst, arith, append_assoc, nat_eq, inl, inr, ◌⊎◌}
+use Rattle.std.proofs.Common.{◌≡◌, ℕ, ◌+◌, ◌-◌, ◌<◌, ◌≤◌, Bool, true, false, cond, Option, Some, None, Ok, Err, List, [], ◌∷◌, ◌++◌, length, take, drop, refl, ap, ◌∙◌, sym, subst, arith, append_assoc, nat_eq, inl, inr}
 use mathlib.Core.Path.{ap₂}
-use Rattle.std.specs.Prelude.{min, max, nat_lt, MatchOption, if◌then◌else◌, option_map, option_and_then, ◌==◌, ◌||◌, Result}
+use Rattle.std.specs.Prelude.{min, max, nat_lt, MatchOption, if◌then◌else◌, option_map, option_and_then, ◌==◌, ◌||◌}
 use Rattle.std.specs.List.{AllByRecursion as Each}
 use Rattle.std.proofs.lemmas.Bool.{eqb-true, cond-true, cond-false}
 use Rattle.std.proofs.lemmas.Bool.Decides.{nat_tests}
-use Rattle.std.proofs.lemmas.List.{append-nil, length-append, take_all}
+use Rattle.std.proofs.lemmas.List.{length-append, take_all}
 use Rattle.opid.specs.declared.edit.Edit.{Edit}
-use Rattle.opid.specs.declared.refusal.Refusal.{Refusal}
 use Rattle.opid.specs.declared.refusal.Refusal.TheVariants.{BadCount, BadHave, HistoryFull}
 use Rattle.opid.specs.Operations.{Operation}
 use Rattle.opid.specs.Reading.{reading, reading_at}
@@ -16,7 +15,7 @@ use Rattle.opid.specs.Edits.{edits}
 use Rattle.opid.specs.Lawful.{IsLawful}
 use Rattle.opid.specs.Asked.{asked_insertions, asked_deletions}
 use Rattle.session_outbox.specs.declared.submission.Submission.TheVariants.{New, Repeat}
-use Rattle.session_outbox.specs.Sessions.{Session, AreNumbered, session_with, change_session, without_session, submitted as after_submission, sent_to, joined}
+use Rattle.session_outbox.specs.Sessions.{Session, AreNumbered, session_with, change_session, submitted as after_submission, sent_to, joined}
 use Rattle.session_outbox.specs.Answers.{pull_of}
 use Rattle.session_outbox.proofs.Numbered.{next_is_new, low_below}
 use Rattle.room.specs.declared.call.Call.{Call}
@@ -26,8 +25,8 @@ use Rattle.room.specs.declared.reply.Reply.TheVariants as replies
 use Rattle.room.specs.Machine.{State, Finding, empty_room, check, found_in_pull, accepted_answer, accepted_next, found_answer, found_next, may_record, counted, recorded_answer, recorded_next, answer, next, edits_between}
 use Rattle.room.specs.History.{state_of}
 use Rattle.room.specs.Kept.{IsRoom}
-use Rattle.room.specs.Editor.{Editor, empty_editor, with_edits, with_reply, editor_from, editor, IsInStep}
-use Rattle.room.specs.Convergence.{opened_by, given_to, WasGiven, or_before, last_known, EditorsConverge}
+use Rattle.room.specs.Editor.{Editor, with_edits, with_reply, editor_from, editor, IsInStep}
+use Rattle.room.specs.Convergence.{given_to, WasGiven, or_before, last_known, EditorsConverge}
 use Rattle.room.proofs.Handing.{Extends, Extends-refl, hand_over-extends}
 use Rattle.room.proofs.Playing.{plays, edits-stay, reading-stays, length-between}
 use Rattle.room.proofs.Running.{IsWithin, IsRunning, IsRunning-empty, IfThere, IfThere-changed, IfThere-without, IfThere-joined, next-running}

@@ -1,5 +1,5 @@
 -- Operations that are handed over one after another.
-use Rattle.std.proofs.Common.{◌≡◌, ℕ, zero, suc, ◌+◌, ◌-◌, ◌<◌, ◌≤◌, ◌⊎◌, inl, inr, Bool, true, false, cond, Option, Some, None, Result, Ok, Err, List, [], ◌∷◌, ◌++◌, length, drop, get_or, refl, ap, ◌∙◌, sym, subst, arith, append_assoc, add-one, drop-cons}
+use Rattle.std.proofs.Common.{◌≡◌, ℕ, zero, suc, ◌+◌, ◌-◌, ◌<◌, ◌≤◌, ◌⊎◌, inl, inr, Bool, true, false, cond, Option, Some, None, Result, Ok, Err, List, [], ◌∷◌, ◌++◌, length, drop, get_or, refl, ap, ◌∙◌, sym, arith, append_assoc, add-one, drop-cons}
 use mathlib.Core.Path.{ap₂}
 use Rattle.std.specs.Prelude.{nat_le, nat_lt, if◌then◌else◌, IfOk, IfErr, OnErr}
 use Rattle.std.proofs.lemmas.List.{append-nil, length-append, drop_all}
@@ -14,7 +14,7 @@ use Rattle.replica.specs.declared.delivery.Delivery.{Delivery}
 use Rattle.replica.specs.declared.delivery.Delivery.TheVariants.{Took, Kept, Again}
 use Rattle.replica.specs.Refused.{refusal_of}
 use Rattle.replica.specs.Settle.{Settling, appended_or_dropped, taken_out, round_with, round, rounds, settle}
-use Rattle.replica.specs.Deliver.{Contents, Delivered, unchanged, hold, settled, integrate, deliver_new, deliver_found, claims_site, deliver, taken_by}
+use Rattle.replica.specs.Deliver.{Contents, Delivered, unchanged, hold, integrate, deliver_new, deliver_found, claims_site, deliver, taken_by}
 use Rattle.room.specs.declared.outcome.Outcome.{Outcome}
 use Rattle.room.specs.Deliveries.{Handed, outcome_of, hand_over}
 

@@ -1,8 +1,6 @@
 -- An editor that is given each reply of its session once, in order, has the version that the session was sent.
-use Rattle.std.proofs.Common.{◌≡◌, ℕ, zero, suc, ◌+◌, ◌-◌, ◌<◌, ◌≤◌, Bool, true, false, cond, Option, Some, None, Ok, Err, List, [], ◌∷◌, ◌++◌, length, take, drop, refl, ap, ◌∙◌, sym, subst, arith, nat_eq}
-use mathlib.Core.Path.{ap₂}
-use Rattle.std.specs.Prelude.{min, max, MatchOption, if◌then◌else◌, option_map, option_and_then, is_some, ◌==◌}
-use Rattle.std.specs.List.{AllByRecursion as Each}
+use Rattle.std.proofs.Common.{◌≡◌, ℕ, ◌+◌, ◌-◌, ◌<◌, ◌≤◌, Bool, true, false, cond, Option, Some, None, Ok, Err, List, [], ◌∷◌, ◌++◌, length, refl, ap, ◌∙◌, sym, subst, arith, nat_eq}
+use Rattle.std.specs.Prelude.{min, max, MatchOption, if◌then◌else◌, option_map, option_and_then}
 use Rattle.std.proofs.lemmas.Bool.{eqb-true, cond-true, cond-false}
 use Rattle.std.proofs.lemmas.Bool.Decides.{nat_tests}
 use Rattle.std.proofs.lemmas.List.{take_all}
@@ -13,21 +11,19 @@ use Rattle.opid.specs.declared.refusal.Refusal.TheVariants.{HistoryFull}
 use Rattle.opid.specs.Operations.{Operation}
 use Rattle.opid.specs.Reading.{reading, reading_at}
 use Rattle.opid.specs.Splice.{play}
-use Rattle.opid.specs.Edits.{edits}
 use Rattle.opid.specs.Lawful.{IsLawful}
 use Rattle.opid.specs.Asked.{asked_insertions, asked_deletions}
 use Rattle.session_outbox.specs.declared.submission.Submission.TheVariants.{New, Repeat}
-use Rattle.session_outbox.specs.Sessions.{Session, AreNumbered, session_with, change_session, without_session, submitted as after_submission, sent_to, joined}
-use Rattle.session_outbox.specs.Answers.{pull_of}
+use Rattle.session_outbox.specs.Sessions.{Session, session_with, change_session, without_session, submitted as after_submission, sent_to, joined}
 use Rattle.session_outbox.proofs.Numbered.{next_is_new}
 use Rattle.room.specs.declared.call.Call.{Call}
 use Rattle.room.specs.declared.call.Call.TheVariants.{Join, Ins, Del, Pull, Leave, Ops, Put, Read}
 use Rattle.room.specs.declared.reply.Reply.{Reply}
 use Rattle.room.specs.declared.reply.Reply.TheVariants as replies
-use Rattle.room.specs.Machine.{State, Finding, empty_room, check, found_in_pull, accepted_answer, accepted_next, found_answer, found_next, may_record, counted, recorded_answer, recorded_next, answer, next, edits_between}
+use Rattle.room.specs.Machine.{State, Finding, empty_room, check, accepted_answer, accepted_next, found_answer, found_next, may_record, counted, recorded_answer, recorded_next, answer, next, edits_between}
 use Rattle.room.specs.History.{state_of}
 use Rattle.room.specs.Kept.{IsRoom}
-use Rattle.room.specs.Editor.{Editor, empty_editor, with_edits, with_reply, editor_from, editor}
+use Rattle.room.specs.Editor.{Editor, empty_editor, with_edits, with_reply, editor_from}
 use Rattle.room.specs.Convergence.{given_to, or_before, last_known, is_session, replies_to, NamesVersion, after_call, PullsInStep, EditorsKeepUp}
 use Rattle.room.proofs.Handing.{Extends, hand_over-extends}
 use Rattle.room.proofs.Playing.{plays, reading-stays, length-between}

@@ -12,7 +12,7 @@ use Rattle.session_outbox.specs.Sessions.{Outbox, after_accept}
 use Rattle.room.specs.declared.call.Call.{Call}
 use Rattle.room.specs.declared.reply.Reply.{Reply}
 use Rattle.room.specs.declared.reply.Reply.TheVariants as replies
-use Rattle.room.specs.Machine.{State, Finding, check, first_of, unless, accepted_answer, accepted_next, found_answer, found_next}
+use Rattle.room.specs.Machine.{State, Finding, check, first_of, accepted_answer, accepted_next, found_answer, found_next}
 use Rattle.room.specs.Parts.{state_with, Does, reply_at_once, Accepts}
 
 -- what a call is found to be tells what it is answered, and what it does

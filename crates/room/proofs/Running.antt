@@ -1,5 +1,5 @@
 -- What holds of a room's state from its opening on, call after call.
-use Rattle.std.proofs.Common.{◌≡◌, ℕ, zero, suc, ◌+◌, ◌<◌, ◌≤◌, Bool, true, false, cond, Option, Some, None, Ok, Err, List, [], ◌∷◌, ◌++◌, length, refl, ap, ◌∙◌, sym, subst, arith, nat_eq}
+use Rattle.std.proofs.Common.{◌≡◌, ℕ, ◌+◌, ◌<◌, ◌≤◌, Bool, true, false, cond, Some, None, Ok, Err, List, [], ◌∷◌, ◌++◌, length, refl, ap, ◌∙◌, sym, subst, arith, nat_eq}
 use Rattle.std.specs.Prelude.{min, max, MatchOption, if◌then◌else◌}
 use Rattle.std.specs.List.{AllByRecursion as Each}
 use Rattle.std.proofs.lemmas.Bool.{eqb-true}
@@ -9,8 +9,8 @@ use Rattle.opid.specs.Operations.{Operation}
 use Rattle.opid.specs.Asked.{asked_insertions, asked_deletions}
 use Rattle.opid.proofs.Walk.{Each-append, Each-weaker}
 use Rattle.session_outbox.specs.declared.submission.Submission.TheVariants.{New, Repeat}
-use Rattle.session_outbox.specs.Sessions.{Session, Outbox, AreNumbered, session_with, change_session, without_session, submitted as after_submission, sent_to, joined}
-use Rattle.session_outbox.proofs.Numbered.{numbered-joined, numbered-without, numbered-changed, low_below, next_is_new}
+use Rattle.session_outbox.specs.Sessions.{Session, AreNumbered, session_with, change_session, without_session, submitted as after_submission, sent_to, joined}
+use Rattle.session_outbox.proofs.Numbered.{numbered-joined, numbered-without, numbered-changed}
 use Rattle.room.specs.declared.call.Call.{Call}
 use Rattle.room.specs.declared.call.Call.TheVariants.{Join, Ins, Del, Pull, Leave, Ops, Put, Read}
 use Rattle.room.proofs.Handing.{Extends, hand_over-extends}

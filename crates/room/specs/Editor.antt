@@ -1,6 +1,6 @@
 -- An editor of a session: the text and the version that it makes of the replies that it is given, in whatever order
 -- and however often they come.
-use Rattle.std.specs.Prelude.{◌≡◌, ℕ, ◌+◌, ◌≤◌, ◌==◌, if◌then◌else◌, Option, Some, None, option_map, option_and_then, List, [], ◌∷◌, length, take}
+use Rattle.std.specs.Prelude.{◌≡◌, ℕ, ◌+◌, ◌≤◌, ◌==◌, if◌then◌else◌, Option, Some, option_map, option_and_then, List, [], ◌∷◌, length, take}
 use Rattle.opid.specs.declared.edit.Edit.{Edit}
 use Rattle.opid.specs.Operations.{Operation}
 use Rattle.opid.specs.Reading.{reading_at}

@@ -28,6 +28,14 @@ pub use room::Room;
 pub use versions::Characters;
 
 #[cfg(test)]
+mod client;
+#[cfg(test)]
+mod exchanged;
+#[cfg(test)]
+mod fixtures;
+#[cfg(test)]
 mod followed;
+#[cfg(test)]
+mod held_back;
 #[cfg(test)]
 mod tests;

@@ -1,151 +1,188 @@
 //! Calls of a room with ample memory, and what is kept after a refusal.
-ghost use Rattle.std.specs.Prelude.{◌≡◌, [], IfOk};
+ghost use Rattle.std.specs.Prelude.{◌≤◌, ◌^◌};
+ghost use Rattle.room.specs.History.{mark};
 
-use crate::{Call, Characters, Desk, Reply, Room, RoomDesk};
-use opid::{Edit, Refusal, Site};
+use crate::fixtures::{accepts, empty_desk, empty_room, insertion, reads, refuses};
+use crate::{Call, Desk, Reply, Room, RoomDesk};
+use opid::{Edit, Refusal};
 use std::alloc::Global;
 use std::test::Fail;
 
-fn room(alloc: Global) -> Result<Room, Fail>
-    ensures { IfOk result (λ r. r.history ≡ []) }
-{
-    Ok(Room::new(alloc, Site::new(0)?))
+fn inserts(alloc: Global, desk: &mut RoomDesk, s: u32, x: &str) -> Result<bool, Fail> {
+    let call = insertion(alloc, s, 1, 0, x)?;
+    accepts(desk, call)
 }
 
-fn insertion(alloc: Global, s: u32, n: u32, k: u32, x: &str) -> Result<Call, Fail> {
-    Ok(Call::Ins {
-        s,
-        n,
-        v: 0,
-        k,
-        x: Characters::new(String::from_str(alloc, x)?),
-    })
+// Two sessions, each of which puts one character in at the start of the empty text.
+fn two_insert(alloc: Global, desk: &mut RoomDesk) -> Result<bool, Fail> {
+    let mut all = accepts(desk, Call::Join)?;
+    all &= accepts(desk, Call::Join)?;
+    all &= inserts(alloc, desk, 1, "A")?;
+    all &= inserts(alloc, desk, 2, "B")?;
+    all &= reads(desk, 2, "BA")?;
+    Ok(all)
 }
 
-fn reads(reply: &Reply, version: u32, text: &str) -> bool {
-    match reply {
-        Reply::Text { v, x } => *v == version && x.as_str() == text,
-        _ => false,
-    }
+fn has_recorded(room: &Room, calls: usize) -> bool {
+    room.history().len() == calls && room.mark() == calls as u64
 }
 
-fn is_refused(reply: &Reply, why: Refusal) -> bool {
-    match reply {
-        Reply::No(e) => *e == why,
-        _ => false,
-    }
+fn later_stands_first(alloc: Global) -> Result<bool, Fail> {
+    let mut desk = empty_desk(alloc, 0)?;
+    let all = two_insert(alloc, &mut desk)?;
+    Ok(all && has_recorded(&desk.into_room(), 5))
 }
 
 #[test]
 fn the_later_of_two_stands_first(rt: HostRuntime) -> Result<(), Fail> {
-    let mut desk = RoomDesk::new(room(rt.alloc())?);
-    let _ = desk.call(Call::Join)?;
-    let _ = desk.call(Call::Join)?;
-    let _ = desk.call(insertion(rt.alloc(), 1, 1, 0, "A")?)?;
-    let _ = desk.call(insertion(rt.alloc(), 2, 1, 0, "B")?)?;
-    assert!(rt; reads(&desk.call(Call::Read)?, 2, "BA"));
-    let room = desk.into_room();
-    assert_eq!(rt; room.history().len(), 5);
-    assert_eq!(rt; room.mark(), 5);
+    assert!(rt; later_stands_first(rt.alloc())?);
     Ok(())
+}
+
+fn refuses_insertion(
+    alloc: Global,
+    desk: &mut RoomDesk,
+    n: u32,
+    k: u32,
+    x: &str,
+    why: Refusal,
+) -> Result<bool, Fail> {
+    let call = insertion(alloc, 1, n, k, x)?;
+    refuses(desk, call, why)
+}
+
+// Insertions by no session, of the wrong number, of no text and outside the text.
+fn refuses_each(alloc: Global, desk: &mut RoomDesk) -> Result<bool, Fail> {
+    let mut all = refuses_insertion(alloc, desk, 1, 0, "A", Refusal::NoSession)?;
+    all &= accepts(desk, Call::Join)?;
+    all &= refuses_insertion(alloc, desk, 2, 0, "A", Refusal::BadNumber)?;
+    all &= refuses_insertion(alloc, desk, 1, 0, "", Refusal::BadText)?;
+    all &= refuses_insertion(alloc, desk, 1, 1, "A", Refusal::BadPlace)?;
+    all &= reads(desk, 0, "")?;
+    Ok(all)
+}
+
+fn records_refusals(alloc: Global) -> Result<bool, Fail> {
+    let mut desk = empty_desk(alloc, 0)?;
+    let all = refuses_each(alloc, &mut desk)?;
+    Ok(all && has_recorded(desk.room(), 6))
 }
 
 #[test]
 fn a_refused_call_is_recorded(rt: HostRuntime) -> Result<(), Fail> {
-    let mut desk = RoomDesk::new(room(rt.alloc())?);
-    assert!(rt;
-        is_refused(
-            &desk.call(insertion(rt.alloc(), 1, 1, 0, "A")?)?,
-            Refusal::NoSession
-        )
-    );
-    let _ = desk.call(Call::Join)?;
-    assert!(rt;
-        is_refused(
-            &desk.call(insertion(rt.alloc(), 1, 2, 0, "A")?)?,
-            Refusal::BadNumber
-        )
-    );
-    assert!(rt;
-        is_refused(
-            &desk.call(insertion(rt.alloc(), 1, 1, 0, "")?)?,
-            Refusal::BadText
-        )
-    );
-    assert!(rt;
-        is_refused(
-            &desk.call(insertion(rt.alloc(), 1, 1, 1, "A")?)?,
-            Refusal::BadPlace
-        )
-    );
-    assert!(rt; reads(&desk.call(Call::Read)?, 0, ""));
-    assert_eq!(rt; desk.into_room().history().len(), 6);
+    assert!(rt; records_refusals(rt.alloc())?);
     Ok(())
 }
 
-#[test]
-fn runs_calls_in_turn(rt: HostRuntime) -> Result<(), Fail> {
-    let mut calls = Vec::new(rt.alloc());
-    calls.push(Call::Join)?;
-    calls.push(insertion(rt.alloc(), 1, 1, 0, "\u{1F600}a")?)?;
-    calls.push(insertion(rt.alloc(), 1, 1, 0, "b")?)?;
-    calls.push(Call::Read)?;
-    let mut room = room(rt.alloc())?;
-    let mut replies = Vec::new(rt.alloc());
-    assert_eq!(rt; room.mark(), 0);
-    room.run(&calls, &mut replies)?;
-    assert_eq!(rt; replies.len(), 4);
-    assert!(rt; reads(&replies[3], 2, "\u{1F600}a"));
-    assert_eq!(rt; room.mark(), 4);
-    Ok(())
+// A join, an insertion, the same submission again, and a read.
+fn repeated_insertion(alloc: Global) -> Result<Vec<Call>, Fail> {
+    let first = insertion(alloc, 1, 1, 0, "\u{1F600}a")?;
+    let second = insertion(alloc, 1, 1, 0, "b")?;
+    Ok(vec![in alloc; Call::Join, first, second, Call::Read]?)
 }
 
-#[test]
-fn a_65th_session_is_refused(rt: HostRuntime) -> Result<(), Fail> {
-    let mut desk = RoomDesk::new(room(rt.alloc())?);
-    for _ in 0..64 {
-        assert!(rt; !is_refused(&desk.call(Call::Join)?, Refusal::TooManySessions));
-    }
-    assert!(rt; is_refused(&desk.call(Call::Join)?, Refusal::TooManySessions));
-    Ok(())
-}
-
-fn pull(s: u32, have: u32) -> Call {
-    Call::Pull { s, have, max: 64 }
-}
-
-fn has_edits(reply: Reply, version: u32, edits: &[Edit]) -> bool {
+fn is_text(reply: Option<&Reply>, version: u32, text: &str) -> bool {
     match reply {
-        Reply::Edits { from, es } => from == version && es.into_vec().as_slice() == edits,
+        Some(Reply::Text { v, x }) => *v == version && x.as_str() == text,
         _ => false,
     }
 }
 
+fn runs_each(alloc: Global, room: &mut Room, calls: &[Call]) -> Result<bool, Fail>
+    requires { mark room.old.history ≤ 2 ^ 61 }
+{
+    let mut replies = Vec::new(alloc);
+    room.run(calls, &mut replies)?;
+    Ok(replies.len() == 4 && is_text(replies.last(), 2, "\u{1F600}a"))
+}
+
+fn runs_in_turn(alloc: Global) -> Result<bool, Fail> {
+    let calls = repeated_insertion(alloc)?;
+    let mut room = empty_room(alloc, 0)?;
+    let new = has_recorded(&room, 0);
+    let all = runs_each(alloc, &mut room, &calls)?;
+    Ok(new && all && has_recorded(&room, 4))
+}
+
 #[test]
-fn a_pull_tells_the_edits(rt: HostRuntime) -> Result<(), Fail> {
-    let mut desk = RoomDesk::new(room(rt.alloc())?);
-    let _ = desk.call(Call::Join)?;
-    let _ = desk.call(insertion(rt.alloc(), 1, 1, 0, "a")?)?;
-    assert!(rt; is_refused(&desk.call(pull(1, 1))?, Refusal::BadHave));
-    let _ = desk.call(pull(1, 0))?;
-    let _ = desk.call(Call::Del {
+fn runs_calls_in_turn(rt: HostRuntime) -> Result<(), Fail> {
+    assert!(rt; runs_in_turn(rt.alloc())?);
+    Ok(())
+}
+
+fn refuses_the_65th(desk: &mut RoomDesk) -> Result<bool, Fail> {
+    let mut all = true;
+    for _ in 0..64 {
+        all &= accepts(desk, Call::Join)?;
+    }
+    all &= refuses(desk, Call::Join, Refusal::TooManySessions)?;
+    Ok(all)
+}
+
+#[test]
+fn a_65th_session_is_refused(rt: HostRuntime) -> Result<(), Fail> {
+    let mut desk = empty_desk(rt.alloc(), 0)?;
+    assert!(rt; refuses_the_65th(&mut desk)?);
+    Ok(())
+}
+
+fn pull(have: u32) -> Call {
+    Call::Pull {
+        s: 1,
+        have,
+        max: 64,
+    }
+}
+
+fn pulls(desk: &mut RoomDesk, edits: &[Edit]) -> Result<bool, Fail> {
+    match desk.call(pull(0))? {
+        Reply::Edits { from, es } => Ok(from == 0 && es.as_slice() == edits),
+        _ => Ok(false),
+    }
+}
+
+// Puts a character in and deletes it, and pulls after each.
+fn pulls_each(alloc: Global, desk: &mut RoomDesk) -> Result<bool, Fail> {
+    let mut all = accepts(desk, Call::Join)?;
+    all &= inserts(alloc, desk, 1, "a")?;
+    all &= refuses(desk, pull(1), Refusal::BadHave)?;
+    all &= pulls(desk, &[Edit::Ins(0, 'a')])?;
+    let deletion = Call::Del {
         s: 1,
         n: 2,
         v: 1,
         k: 0,
         c: 1,
-    })?;
-    let reply = desk.call(pull(1, 0))?;
-    assert!(rt; has_edits(reply, 0, &[Edit::Ins(0, 'a'), Edit::Del(0)]));
+    };
+    all &= accepts(desk, deletion)?;
+    all &= pulls(desk, &[Edit::Ins(0, 'a'), Edit::Del(0)])?;
+    Ok(all)
+}
+
+#[test]
+fn a_pull_tells_the_edits(rt: HostRuntime) -> Result<(), Fail> {
+    let mut desk = empty_desk(rt.alloc(), 0)?;
+    assert!(rt; pulls_each(rt.alloc(), &mut desk)?);
     Ok(())
+}
+
+fn leaves(desk: &mut RoomDesk) -> Result<bool, Fail> {
+    match desk.call(Call::Leave { s: 1 })? {
+        Reply::Left => Ok(true),
+        _ => Ok(false),
+    }
+}
+
+fn leaves_once(desk: &mut RoomDesk) -> Result<bool, Fail> {
+    let mut all = accepts(desk, Call::Join)?;
+    all &= leaves(desk)?;
+    all &= refuses(desk, Call::Leave { s: 1 }, Refusal::NoSession)?;
+    Ok(all)
 }
 
 #[test]
 fn a_session_leaves_once(rt: HostRuntime) -> Result<(), Fail> {
-    let mut desk = RoomDesk::new(room(rt.alloc())?);
-    let _ = desk.call(Call::Join)?;
-    let leave = Call::Leave { s: 1 };
-    assert!(rt; matches!(&desk.call(leave.clone()?)?, Reply::Left));
-    assert!(rt; is_refused(&desk.call(leave)?, Refusal::NoSession));
+    let mut desk = empty_desk(rt.alloc(), 0)?;
+    assert!(rt; leaves_once(&mut desk)?);
     Ok(())
 }

@@ -1,4 +1,4 @@
-use Rattle.std.proofs.Common.{length, refl, sym, ◌∙◌}
+use Rattle.std.proofs.Common.{refl, sym, ◌∙◌}
 use Rattle.opid.specs.Asked.{asked_deletions}
 use Rattle.position_translate.specs.Causes.{deletion_refusal}
 use Rattle.session_outbox.specs.Sessions.{session_with}

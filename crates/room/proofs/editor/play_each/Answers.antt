@@ -1,5 +1,4 @@
 use Rattle.std.proofs.Common.{Err, ap, arith, ◌∙◌}
-use Rattle.opid.specs.declared.refusal.Refusal.TheVariants.{BadPlace}
 use Rattle.room.proofs.Edited.{plays_on, refused}
 use Rattle.room.proofs.editor.play_each.Goals as goal
 

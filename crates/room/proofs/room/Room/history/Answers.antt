@@ -1,5 +1,4 @@
 use Rattle.std.proofs.Common.{subst}
-use Rattle.room.specs.History.{Account}
 use Rattle.room.specs.Convergence.{EditorsConverge, EditorsKeepUp}
 use Rattle.room.proofs.Converging.{room_converges}
 use Rattle.room.proofs.KeepingUp.{room_keeps_up}
