@@ -1,11 +1,11 @@
 -- An operation's JSON value is read back as that operation.
-use Rattle.std.proofs.Common.{◌≡◌, ℕ, ◌<◌, ◌≤◌, ◌^◌, List, [], ◌∷◌, codes, Option, Some, None, Result, Ok, Err, cond, true, refl, sym, ap, ap₂, ◌∙◌, arith}
-use Rattle.std.specs.Prelude.{IsTrue, encode_utf8_all, nat_lt}
-use Rattle.std.specs.Str.{all_scalars, chars}
+use Rattle.std.proofs.Common.{◌≡◌, ℕ, ◌<◌, ◌^◌, List, [], ◌∷◌, Some, None, Result, Ok, refl, ap, ◌∙◌, arith}
+use Rattle.std.specs.Prelude.{IsTrue, encode_utf8_all}
+use Rattle.std.specs.Str.{all_scalars}
 use Rattle.std.specs.List.{AllByRecursion as Each}
 use Rattle.std.proofs.lemmas.Bool.{lt-ltb}
 use Rattle.std.proofs.lemmas.Str.{chars-encodes}
-use Rattle.serde_json.specs.Data.{Data, Items, number, unsigned}
+use Rattle.serde_json.specs.Data.{number, unsigned}
 use Rattle.opid.specs.declared.refusal.Refusal.{Refusal}
 use Rattle.opid.specs.declared.stamp.Stamp.{Stamp}
 use Rattle.opid.specs.declared.kind.OpKind.{OpKind}
@@ -14,9 +14,9 @@ use Rattle.opid.specs.Clocks.{entry}
 use Rattle.opid.specs.Operations.{Operation}
 use Rattle.causal_clock.specs.Kinds.{IsClock, IsOperation}
 use Rattle.wire_json.specs.Members.{◌>>=◌, number_of}
-use Rattle.wire_json.specs.Operations.{Offer, each, items_in, pair_of, stamp_of, parent_of, only_char, offer_of, site_of, sited_pair, sited_stamp, sited_kind, sited, clock_of, counted, operation, op_of}
+use Rattle.wire_json.specs.Operations.{Offer, each, items_in, pair_of, stamp_of, parent_of, only_char, offer_of, site_of, sited_pair, sited_kind, sited, clock_of, counted, operation, op_of}
 use Rattle.wire_json.specs.Text.{IsStampInRange, IsKindInRange, pairs_of}
-use Rattle.wire_json.specs.Written.{each_data, two_data, pair_data, pairs_data, stamp_data, parent_data, op_data_of, op_data}
+use Rattle.wire_json.specs.Written.{each_data, two_data, pair_data, stamp_data, op_data_of, op_data}
 use Rattle.wire_json.proofs.Told.{tells}
 use Rattle.wire_json.proofs.Pairs.{listing_of, clock_with_pairs, pairs_sited, pairs_small}
 

@@ -1,17 +1,14 @@
 -- A clock's entries that aren't 0, as pairs: they tell the clock.
-use Rattle.std.proofs.Common.{◌≡◌, ℕ, zero, suc, ◌+◌, ◌<◌, ◌≤◌, ◌⊎◌, inl, inr, List, [], ◌∷◌, ◌++◌, length, sum, map, get_or, Bool, true, false, cond, refl, sym, ap, ap₂, subst, ◌∙◌, arith, eqb, eqb-true, eq-eqb}
+use Rattle.std.proofs.Common.{◌≡◌, ℕ, ◌+◌, ◌<◌, ◌≤◌, List, [], ◌∷◌, ◌++◌, map, false, cond, refl, sym, ap, ap₂, ◌∙◌, arith}
 use Rattle.std.specs.Prelude.{nat_lt, filter}
-use Rattle.std.specs.List.{AllByRecursion, range_with_len, sum_by}
-use Rattle.std.proofs.lemmas.Bool.{cases_eq, cond-true, cond-false, false_from_ne_true, ltb-true, lt-ltb}
-use Rattle.std.proofs.lemmas.List.FromFn.{fill_by_all, filter_of_map_range_with_len_more}
-use Rattle.std.proofs.lemmas.List.Sums.{sum_by-cons}
+use Rattle.std.specs.List.{range_with_len}
+use Rattle.std.proofs.lemmas.Bool.{false_from_ne_true, ltb-true, lt-ltb}
+use Rattle.std.proofs.lemmas.List.FromFn.{filter_of_map_range_with_len_more}
 use Rattle.std.proofs.lemmas.List.{append-nil}
-use Rattle.serde_json.specs.Data.{Data, Items, no_items, item}
+use Rattle.serde_json.specs.Data.{Data, item}
 use Rattle.serde_json.specs.View.{view, items_view}
 use Rattle.serde_json.specs.declared.value.Value.{Value}
 use Rattle.opid.specs.Clocks.{sites, entry}
-use Rattle.causal_clock.specs.Listing.{count_in, clock_with, AreRising, IsListing}
-use Rattle.wire_json.specs.Text.{pairs_of}
 use Rattle.wire_json.specs.Written.{each_data, pair_data, pairs_data}
 use Rattle.wire_json.proofs.Lists.{behind, items_view-push}
 

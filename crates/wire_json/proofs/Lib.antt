@@ -1,6 +1,7 @@
 mod Steps
 mod Lists
 mod Loops
+mod Checked
 mod Told
 mod Clocks
 mod Pairs

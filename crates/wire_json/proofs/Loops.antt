@@ -1,5 +1,5 @@
 -- Stepping through a list, as a loop does.
-use Rattle.std.proofs.Common.{◌≡◌, ℕ, zero, suc, ◌+◌, ◌≤◌, ◌<◌, ◌⊎◌, inl, inr, List, [], ◌∷◌, ◌++◌, length, drop, get_or, Result, Ok, Err, refl, sym, ap, ◌∙◌, append_assoc, add-one, arith}
+use Rattle.std.proofs.Common.{◌≡◌, ℕ, zero, suc, ◌+◌, ◌≤◌, ◌<◌, ◌⊎◌, inl, inr, List, [], ◌∷◌, ◌++◌, length, drop, map, get_or, Result, Ok, Err, refl, sym, ap, ◌∙◌, append_assoc, add-one, arith}
 use Rattle.std.proofs.lemmas.List.{append-nil, drop_all}
 use Rattle.serde_json.specs.View.{view, items_view}
 use Rattle.serde_json.specs.declared.value.Value.{Value}
@@ -37,25 +37,29 @@ ends f front xs i x e total h at (inr is) so_far = inr (sym so_far ∙ rw (each-
 pub is_done : {A B : Type 0} (f : A → Result B Refusal) (front : List B) (xs : List A) (i : ℕ) (total : Result (List B) Refusal) → length xs ≤ i → with_front front (each f (drop i xs)) ≡ total → total ≡ Ok front
 is_done f front xs i total h so_far = sym so_far ∙ rw (drop_all i xs h) (ap Ok (append-nil front))
 
+-- ---- the same over a list that is seen as another
+
+pub each-map : {A B C : Type 0} (f : B → Result C Refusal) (g : A → B) (xs : List A) → each f (map g xs) ≡ each (λ x. f (g x)) xs
+each-map f g [] = refl
+each-map f g (x ∷ xs) = ap (λ r. f (g x) >>= λ y. r >>= λ ys. Ok (y ∷ ys)) (each-map f g xs)
+
 -- ---- the same over the items of a JSON list
 
-each-items : {B : Type 0} (f : Data → Result B Refusal) (vs : List Value) (i : ℕ) (v : Value) → i < length vs → v ≡ get_or vs i v
-    → each f (items_in (items_view (drop i vs))) ≡ (f (view v) >>= λ y. each f (items_in (items_view (drop (i + 1) vs))) >>= λ ys. Ok (y ∷ ys))
-each-items f [] i v h e = absurd (omega arith)
-each-items f (w ∷ vs) zero v h e = ap (λ (u : Value). f (view u) >>= λ y. each f (items_in (items_view vs)) >>= λ ys. Ok (y ∷ ys)) (sym e)
-each-items f (w ∷ vs) (suc i) v h e = rw add-one (each-items f vs i v (omega arith) e ∙ rw add-one refl)
+each-items : {B : Type 0} (f : Data → Result B Refusal) (vs : List Value) → each f (items_in (items_view vs)) ≡ each (λ v. f (view v)) vs
+each-items f [] = refl
+each-items f (v ∷ vs) = ap (λ r. f (view v) >>= λ y. r >>= λ ys. Ok (y ∷ ys)) (each-items f vs)
+
+seen : {B : Type 0} (f : Data → Result B Refusal) (front : List B) (vs : List Value) → with_front front (each f (items_in (items_view vs))) ≡ with_front front (each (λ v. f (view v)) vs)
+seen f front vs = ap (with_front front) (each-items f vs)
 
 pub item_goes_on : {B : Type 0} (f : Data → Result B Refusal) (front : List B) (vs : List Value) (i : ℕ) (v : Value) (y : B) (total : Result (List B) Refusal) → i < length vs → v ≡ get_or vs i v → f (view v) ≡ Ok y
     → with_front front (each f (items_in (items_view (drop i vs)))) ≡ total → with_front (front ++ y ∷ []) (each f (items_in (items_view (drop (i + 1) vs)))) ≡ total
 item_goes_on f front vs i v y total h e is so_far =
-    let one : with_front front (each f (items_in (items_view (drop i vs)))) ≡ with_front (front ++ y ∷ []) (each f (items_in (items_view (drop (i + 1) vs)))) =
-    rw (each-items f vs i v h e) (rw is (regroup front y (each f (items_in (items_view (drop (i + 1) vs)))))) in
-    sym one ∙ so_far
+    seen f (front ++ y ∷ []) (drop (i + 1) vs) ∙ goes_on (λ w. f (view w)) front vs i v y total h e is (sym (seen f front (drop i vs)) ∙ so_far)
 
 pub item_ends : {B : Type 0} (f : Data → Result B Refusal) (front : List B) (vs : List Value) (i : ℕ) (v : Value) (e : Refusal) (total : Result (List B) Refusal) → i < length vs → v ≡ get_or vs i v → (e ≡ Memory) ⊎ (f (view v) ≡ Err e)
     → with_front front (each f (items_in (items_view (drop i vs)))) ≡ total → (e ≡ Memory) ⊎ (total ≡ Err e)
-item_ends f front vs i v e total h at (inl m) so_far = inl m
-item_ends f front vs i v e total h at (inr is) so_far = inr (sym so_far ∙ rw (each-items f vs i v h at) (rw is refl))
+item_ends f front vs i v e total h at is so_far = ends (λ w. f (view w)) front vs i v e total h at is (sym (seen f front (drop i vs)) ∙ so_far)
 
 pub items_done : {B : Type 0} (f : Data → Result B Refusal) (front : List B) (vs : List Value) (i : ℕ) (total : Result (List B) Refusal) → length vs ≤ i → with_front front (each f (items_in (items_view (drop i vs)))) ≡ total → total ≡ Ok front
 items_done f front vs i total h so_far = sym so_far ∙ rw (drop_all i vs h) (ap Ok (append-nil front))

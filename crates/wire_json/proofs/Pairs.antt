@@ -1,5 +1,5 @@
 -- The pairs of a clock's entries that aren't 0 are a listing, and tell that clock.
-use Rattle.std.proofs.Common.{◌≡◌, ℕ, zero, suc, ◌+◌, ◌<◌, ◌≤◌, ◌⊎◌, inl, inr, ◌^◌, List, [], ◌∷◌, length, sum, map, get_or, Bool, true, false, cond, refl, sym, ap, subst, ◌∙◌, arith, eqb, eqb-true, eq-eqb}
+use Rattle.std.proofs.Common.{◌≡◌, ℕ, zero, suc, ◌+◌, ◌<◌, ◌≤◌, ◌⊎◌, inl, inr, ◌^◌, List, [], ◌∷◌, length, sum, map, Bool, true, false, cond, refl, sym, ap, ◌∙◌, arith, eqb, eqb-true, eq-eqb}
 use Rattle.std.specs.Prelude.{nat_lt}
 use Rattle.std.specs.List.{AllByRecursion as Each, range_with_len, sum_by}
 use Rattle.std.proofs.lemmas.Bool.{cases_eq, cond-true, cond-false, false_from_ne_true, ltb-true, lt-ltb}

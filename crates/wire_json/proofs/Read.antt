@@ -1,5 +1,5 @@
 -- The text of an operation is read as its JSON value.
-use Rattle.std.proofs.Common.{◌≡◌, ℕ, ◌<◌, ◌≤◌, ◌^◌, List, [], ◌∷◌, Option, Some, None, Ok, Result, option_and_then, option_map, decimal, refl, sym, ap, ◌∙◌, arith, append-nil, lit≤}
+use Rattle.std.proofs.Common.{◌≡◌, ℕ, ◌<◌, ◌≤◌, ◌^◌, List, [], ◌∷◌, Option, Some, None, Ok, option_and_then, option_map, refl, sym, ap, ◌∙◌, arith, append-nil, lit≤}
 use Rattle.std.specs.List.{AllByRecursion as Each}
 use Rattle.json.specs.Json as json
 use Rattle.json.specs.Lex.{tokens}
@@ -13,15 +13,13 @@ use Rattle.serde_json.specs.Read.{read, max_depth, of_json, of_items}
 use Rattle.serde_json.specs.Written.{outline, items_outline}
 use Rattle.serde_json.proofs.Numbers.{number_of-decimal}
 use Rattle.serde_json.proofs.Texts.{print-outline}
-use Rattle.opid.specs.declared.refusal.Refusal.{Refusal}
-use Rattle.opid.specs.declared.stamp.Stamp.{Stamp}
 use Rattle.opid.specs.declared.kind.OpKind.{OpKind}
 use Rattle.opid.specs.declared.kind.OpKind.TheVariants.{Ins, Del}
 use Rattle.opid.specs.Operations.{Operation}
 use Rattle.causal_clock.specs.Kinds.{IsClock, IsOperation}
 use Rattle.wire_json.specs.Operations.{op_of}
-use Rattle.wire_json.specs.Text.{IsStampInRange, IsKindInRange, pairs_of, op_text}
-use Rattle.wire_json.specs.Written.{each_data, two_data, pair_data, stamp_data, op_data_of, op_data}
+use Rattle.wire_json.specs.Text.{IsKindInRange, pairs_of, op_text}
+use Rattle.wire_json.specs.Written.{each_data, two_data, pair_data, op_data_of, op_data}
 use Rattle.wire_json.proofs.Pairs.{pairs_small}
 use Rattle.wire_json.proofs.OperationTexts.{op_compact}
 use Rattle.wire_json.proofs.Back.{op_back}

@@ -1,5 +1,5 @@
 -- The pairs of a clock that are refused are those that tell none.
-use Rattle.std.proofs.Common.{◌≡◌, ℕ, ◌<◌, ◌≤◌, ◌↔◌, inl, inr, List, [], ◌∷◌, Bool, true, false, Result, Ok, Err, refl, sym, ap, ap₂, ◌∙◌, arith}
+use Rattle.std.proofs.Common.{◌≡◌, ℕ, ◌+◌, ◌<◌, ◌≤◌, ◌↔◌, List, [], ◌∷◌, length, Bool, true, false, Result, Ok, Err, refl, ap, ap₂, arith}
 use Rattle.std.specs.Prelude.{IsOk, IfOk, IfErr, nat_lt, nat_le, ◌&&◌}
 use Rattle.std.specs.List.{AllByRecursion, list_all, sum_by}
 use Rattle.std.proofs.lemmas.Bool.{and_parts, ltb-true, lt-ltb, false_from_ne_true}
@@ -8,7 +8,6 @@ use Rattle.opid.specs.declared.refusal.Refusal.{Refusal}
 use Rattle.opid.specs.declared.refusal.Refusal.TheVariants.{BadClock}
 use Rattle.causal_clock.specs.Listing.{clock_with, AreRising, IsListing}
 use Rattle.wire_json.specs.Operations.{rises, tells_clock, clock_of}
-use Rattle.wire_json.specs.Given.{Gives, same}
 
 all_pass : {A : Type 0} (test : A → Bool) (P : A → Type 0) → ((x : A) → P x → test x ≡ true) → (xs : List A) → AllByRecursion P xs → list_all test xs ≡ true
 all_pass test P pass [] h = refl
@@ -50,9 +49,20 @@ listing ps h =
       limit = is_within (sum_by (λ p. p.1) ps) both.1;
     }
 
-pub told : (ps : List (ℕ × ℕ)) (r : Result (List ℕ) Refusal) → IfOk r (λ clock. clock ≡ clock_with ps) → (IsOk r ↔ IsListing ps) → IfErr r (λ e. e ≡ BadClock) → Gives same r (clock_of ps)
+pub told : (ps : List (ℕ × ℕ)) (r : Result (List ℕ) Refusal) → IfOk r (λ clock. clock ≡ clock_with ps) → (IsOk r ↔ IsListing ps) → IfErr r (λ e. e ≡ BadClock) → r ≡ clock_of ps
 told ps (Ok clock) value accepted cause =
-    rw (tells ps (accepted.0 refl)) (ap Ok (sym value))
+    rw (tells ps (accepted.0 refl)) (ap Ok value)
 told ps (Err e) value accepted cause =
     let none : tells_clock ps ≡ false = false_from_ne_true (tells_clock ps) (λ t. let both = accepted.1 (listing ps t) in cc) in
-    inr (rw none (ap Err (sym cause)))
+    rw none (ap Err cause)
+
+-- ---- pairs of sites
+
+-- the sites rise from the first, below 32
+short : (p : ℕ × ℕ) (ps : List (ℕ × ℕ)) → AllByRecursion (λ q. q.0 < 32) (p ∷ ps) → AreRising (p ∷ ps) → p.0 + length (p ∷ ps) ≤ 32
+short p [] s h = omega (arith, s.0)
+short p (q ∷ ps) s h = omega (arith, h.0.0, short q ps s.1 h.1)
+
+pub too_many : (ps : List (ℕ × ℕ)) → AllByRecursion (λ q. q.0 < 32) ps → 32 < length ps → clock_of ps ≡ Err BadClock
+too_many [] s more = absurd (omega arith)
+too_many (p ∷ ps) s more = rw (false_from_ne_true (tells_clock (p ∷ ps)) (λ t. omega (arith, short p ps s (listing (p ∷ ps) t).rising))) refl

@@ -1,7 +1,12 @@
--- What a function that may find no memory answers, beside what is right.
+-- What a function answers whose result is seen as another value, or that may find no memory.
 use Rattle.std.specs.Prelude.{◌≡◌, ◌⊎◌, Result, Ok, Err}
 use Rattle.opid.specs.declared.refusal.Refusal.{Refusal}
 use Rattle.opid.specs.declared.refusal.Refusal.TheVariants.{Memory}
+
+-- a result, its value seen by `seen`, is the right one
+abbrev pub Tells : {A B : Type 0} → (A → B) → Result A Refusal → Result B Refusal → Type 0
+Tells seen (Ok x) right = right ≡ Ok (seen x)
+Tells seen (Err e) right = right ≡ Err e
 
 abbrev pub same : {A : Type 0} → A → A
 same x = x

@@ -1,8 +1,13 @@
--- What a kind of operation that is offered tells. Private clauses alone cite it.
-use Rattle.std.specs.Prelude.{ℕ, Option, option_map}
+-- What an operation that is offered tells. Private clauses alone cite it.
+use Rattle.std.specs.Prelude.{ℕ, option_map, List, map}
+use Rattle.std.specs.Result.{result_unwrap_or}
+use Rattle.serde_json.specs.declared.value.Value.{Value}
+use Rattle.serde_json.specs.Data.{Data}
+use Rattle.serde_json.specs.View.{view}
 use Rattle.opid.specs.declared.stamp.Stamp.{Stamp}
 use Rattle.opid.specs.declared.kind.OpKind.{OpKind}
 use Rattle.opid.specs.declared.kind.OpKind.TheVariants as kinds
+use Rattle.wire_json.specs.Operations.{pair_of}
 use Rattle.wire_json.specs.declared.offer.OfferedKind.{OfferedKind}
 use Rattle.wire_json.specs.declared.offer.OfferedKind.TheVariants.{Ins, Del}
 
@@ -13,3 +18,10 @@ stamp_with p = record { sum = p.0; site = p.1 }
 abbrev pub kind_of : OfferedKind → OpKind
 kind_of (Ins parent ch) = kinds.Ins (option_map stamp_with parent) ch
 kind_of (Del target) = kinds.Del (stamp_with target)
+
+-- the pair that a value is, or zeros
+abbrev pub pair_in : Data → ℕ × ℕ
+pair_in d = result_unwrap_or (pair_of d) (0, 0)
+
+abbrev pub pairs_in : List Value → List (ℕ × ℕ)
+pairs_in values = map (λ v. pair_in (view v)) values

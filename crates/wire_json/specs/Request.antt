@@ -1,5 +1,5 @@
 -- Which call the bytes of a request ask for, or why they are refused. JSON is that of RFC 8259, as `serde_json` reads it: the last value of a repeated key stands.
-use Rattle.std.specs.Prelude.{ℕ, nat_lt, if◌then◌else◌, Option, Some, None, Result, Ok, Err, List, length, [], ◌∷◌, codes, bytes_eq}
+use Rattle.std.specs.Prelude.{ℕ, nat_lt, if◌then◌else◌, Result, Ok, Err, List, length, [], ◌∷◌, codes, bytes_eq}
 use Rattle.std.specs.Str.{is_utf8, chars}
 use Rattle.serde_json.specs.Data.{Data}
 use Rattle.serde_json.specs.Read.{read}

@@ -1,12 +1,14 @@
-//! Operations as they are offered, before their sites and clocks are checked.
+//! Operations as they are offered, before their sites and clocks are checked. They borrow the JSON list of the clock's
+//! pairs, so that reading one operation takes no memory.
 use opid::{OpKind, Site};
+use serde_json::Value;
 use std::marker::Model;
 
-/// An operation object's members, with sites of any number.
+/// An operation object's members, with sites of any number. Each value of `pairs` is a pair.
 #[derive(Drop)]
-pub(crate) struct Offer {
+pub(crate) struct Offer<'v> {
     pub(crate) site: u32,
-    pub(crate) pairs: Vec<(u32, u32)>,
+    pub(crate) pairs: &'v [Value],
     pub(crate) kind: OfferedKind,
 }
 
@@ -22,27 +24,31 @@ pub(crate) enum OfferedKind {
     },
 }
 
-impl Model for Offer {
+impl<'v> Model for Offer<'v> {
     ghost use Rattle.wire_json.specs.Operations.{Offer as Offered};
-    ghost use Rattle.wire_json.specs.Offers.{kind_of};
+    ghost use Rattle.wire_json.specs.Offers.{kind_of, pairs_in};
 
     ghost Value = { Offered };
 
-    ghost view = { λ o. record { site = o.site; pairs = o.pairs.items; kind = kind_of o.kind } };
+    ghost view = { λ o. record { site = o.site; pairs = pairs_in o.pairs.now; kind = kind_of o.kind } };
 }
 
-/// An offer whose sites are sites.
+/// An offer whose sites are sites, those of `pairs` too.
 #[derive(Drop)]
-pub(crate) struct SitedOffer {
+pub(crate) struct SitedOffer<'v> {
     pub(crate) site: Site,
-    pub(crate) pairs: Vec<(Site, u32)>,
+    pub(crate) pairs: &'v [Value],
     pub(crate) kind: OpKind,
 }
 
-impl Model for SitedOffer {
-    ghost use Rattle.wire_json.specs.Operations.{Offer as Offered};
+impl<'v> Model for SitedOffer<'v> {
+    ghost use Rattle.std.specs.Prelude.{◌≡◌, Ok};
+    ghost use Rattle.wire_json.specs.Operations.{Offer as Offered, each, sited_pair};
+    ghost use Rattle.wire_json.specs.Offers.{pairs_in};
 
     ghost Value = { Offered };
 
-    ghost view = { λ o. record { site = o.site; pairs = o.pairs.items; kind = o.kind } };
+    ghost view = { λ o. record { site = o.site; pairs = pairs_in o.pairs.now; kind = o.kind } };
+
+    ghost invariant = { λ o. each sited_pair (pairs_in o.pairs.now) ≡ Ok (pairs_in o.pairs.now) };
 }

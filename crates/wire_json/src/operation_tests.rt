@@ -18,7 +18,7 @@ fn op_of(alloc: Global, text: &str) -> Result<Op, Refusal> {
     let Ok(value) = Value::from_str(alloc, text) else {
         return Err(Refusal::BadJson);
     };
-    read_op(alloc, &value)
+    read_op(&value)
 }
 
 fn ops_of(alloc: Global, text: &str) -> Result<Vec<Op>, Refusal> {

@@ -5,7 +5,7 @@ ghost use Rattle.std.specs.List.{list_any};
 ghost use Rattle.serde_json.specs.View.{view, members_view};
 ghost use Rattle.wire_json.specs.Request.{request, json_of, call_of, join_of, ins_of, del_of, pull_of, leave_of, part_of, put_of, read_of};
 ghost use Rattle.wire_json.specs.Members.{only_keys, are_among, number_of, number_at, text_at};
-ghost use Rattle.wire_json.specs.Given.{Gives, same};
+ghost use Rattle.wire_json.specs.Given.{Tells, Gives, same};
 
 use crate::operations::{read_list, read_ops};
 use opid::Refusal;
@@ -22,8 +22,8 @@ const MAX_BYTES: usize = 65_536;
 /// kind, in any order. Refused with the first of these that applies to the whole request: `TooLong` above 65,536
 /// bytes, `BadJson` where the bytes are no JSON text in UTF-8, `BadField` where the value is no object or has no
 /// text `t`, `UnknownKind` where `t` names no request, `BadField` where a key is missing or too many or a value has
-/// a wrong type or range, also in an operation, and then `BadSite` and `BadClock` of operations, as `read_op` tells. `Memory` may stand in the place of any answer but `TooLong`. Takes time and memory in
-/// proportion to the bytes.
+/// a wrong type or range, also in an operation, and then `BadSite` and `BadClock` of operations, as `read_op` tells.
+/// `Memory` may stand in the place of any answer but `TooLong`. Takes time and memory in proportion to the bytes.
 pub fn read_request(alloc: Global, bytes: &[u8]) -> Result<Call, Refusal>
     ensures asked { Gives same result (request bytes.now) }
     ensures too_long { 65536 < length bytes.now → result ≡ Err TooLong }
@@ -63,7 +63,7 @@ fn read_call(alloc: Global, value: &Value) -> Result<Call, Refusal>
 }
 
 fn read_join(value: &Value) -> Result<Call, Refusal>
-    ensures { Gives same result (join_of (view value.now)) }
+    ensures { result ≡ join_of (view value.now) }
 {
     check_keys(value, &["t"])?;
     Ok(Call::Join)
@@ -83,7 +83,7 @@ fn read_ins(alloc: Global, value: &Value) -> Result<Call, Refusal>
 }
 
 fn read_del(value: &Value) -> Result<Call, Refusal>
-    ensures { Gives same result (del_of (view value.now)) }
+    ensures { result ≡ del_of (view value.now) }
 {
     check_keys(value, &["t", "s", "n", "v", "k", "c"])?;
     let s = read_number(value, "s")?;
@@ -95,7 +95,7 @@ fn read_del(value: &Value) -> Result<Call, Refusal>
 }
 
 fn read_pull(value: &Value) -> Result<Call, Refusal>
-    ensures { Gives same result (pull_of (view value.now)) }
+    ensures { result ≡ pull_of (view value.now) }
 {
     check_keys(value, &["t", "s", "have", "max"])?;
     let s = read_number(value, "s")?;
@@ -105,7 +105,7 @@ fn read_pull(value: &Value) -> Result<Call, Refusal>
 }
 
 fn read_leave(value: &Value) -> Result<Call, Refusal>
-    ensures { Gives same result (leave_of (view value.now)) }
+    ensures { result ≡ leave_of (view value.now) }
 {
     check_keys(value, &["t", "s"])?;
     let s = read_number(value, "s")?;
@@ -113,7 +113,7 @@ fn read_leave(value: &Value) -> Result<Call, Refusal>
 }
 
 fn read_part(value: &Value) -> Result<Call, Refusal>
-    ensures { Gives same result (part_of (view value.now)) }
+    ensures { result ≡ part_of (view value.now) }
 {
     check_keys(value, &["t", "after", "max"])?;
     let after = read_number(value, "after")?;
@@ -131,7 +131,7 @@ fn read_put(alloc: Global, value: &Value) -> Result<Call, Refusal>
 }
 
 fn read_read(value: &Value) -> Result<Call, Refusal>
-    ensures { Gives same result (read_of (view value.now)) }
+    ensures { result ≡ read_of (view value.now) }
 {
     check_keys(value, &["t"])?;
     Ok(Call::Read)
@@ -139,7 +139,7 @@ fn read_read(value: &Value) -> Result<Call, Refusal>
 
 // No key but those of the row. That each of these is there is seen where its value is read.
 pub(crate) fn check_keys(value: &Value, row: &[&str]) -> Result<(), Refusal>
-    ensures { Gives same result (only_keys (map (λ name. name.now) row.now) (view value.now)) }
+    ensures { result ≡ only_keys (map (λ name. name.now) row.now) (view value.now) }
 {
     match value.as_object() {
         Some(members) if has_only(members, row) => Ok(()),
@@ -165,13 +165,13 @@ fn is_among(key: &str, row: &[&str]) -> bool
 }
 
 pub(crate) fn read_number(value: &Value, key: &str) -> Result<u32, Refusal>
-    ensures { Gives same result (number_at key.now (view value.now)) }
+    ensures { result ≡ number_at key.now (view value.now) }
 {
     number_in(value.get(key))
 }
 
 pub(crate) fn number_in(value: Option<&Value>) -> Result<u32, Refusal>
-    ensures { Gives same result (number_of (option_map (λ v. view v.now) value.entry)) }
+    ensures { result ≡ number_of (option_map (λ v. view v.now) value.entry) }
 {
     match value.and_then(Value::as_u64) {
         Some(n) if n <= u32::MAX as u64 => Ok(n as u32),
@@ -180,7 +180,7 @@ pub(crate) fn number_in(value: Option<&Value>) -> Result<u32, Refusal>
 }
 
 pub(crate) fn read_text<'v>(value: &'v Value, key: &str) -> Result<&'v str, Refusal>
-    ensures { Gives (λ s. s.now) result (text_at key.now (view value.now)) }
+    ensures { Tells (λ s. s.now) result (text_at key.now (view value.now)) }
 {
     match value.get(key).and_then(Value::as_str) {
         Some(text) => Ok(text),

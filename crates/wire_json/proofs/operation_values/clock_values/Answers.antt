@@ -1,5 +1,5 @@
 -- A site's pair is written exactly where its entry isn't 0.
-use Rattle.std.proofs.Common.{ap, ◌∙◌, sym, arith}
+use Rattle.std.proofs.Common.{ap, ◌∙◌}
 use Rattle.serde_json.specs.View.{items_view}
 use Rattle.wire_json.specs.Written.{pair_data}
 use Rattle.wire_json.proofs.Clocks.{pair_pushed, pair_skipped, pairs_written}

@@ -1,5 +1,5 @@
 -- A list of two items is told by its length.
-use Rattle.std.proofs.Common.{◌≡◌, ◌≢◌, ◌∙◌, inr, length, sym, arith}
+use Rattle.std.proofs.Common.{◌≡◌, ◌≢◌, ◌∙◌, length, sym, arith}
 use Rattle.serde_json.proofs.Views.{items_len-items_view}
 use Rattle.serde_json.specs.View.{view}
 use Rattle.wire_json.proofs.Steps.{of_two, of_other_than_two}
@@ -13,4 +13,4 @@ returns-in-Some c =
 pub returns-in_default : goal.returns-in_default
 returns-in_default c =
     let other : length c.in-Some.items.now.items ≢ 2 = omega (arith, c.in-Some.items.now.ok, c.len.ensures, c.if-len-eq2.false) in
-    inr (of_other_than_two _ (view c.args.value.now) c.in-Some.ensures (λ e. other (sym (items_len-items_view c.in-Some.items.now.items) ∙ e)))
+    of_other_than_two _ (view c.args.value.now) c.in-Some.ensures (λ e. other (sym (items_len-items_view c.in-Some.items.now.items) ∙ e))
