@@ -1,4 +1,5 @@
--- A clock told by pairs of a site and its count, as messages tell it: sites that aren't named have the count 0.
+-- A clock told by pairs of a site and its count, as messages tell it: sites that aren't named have the count 0;
+-- the server's own.
 use Rattle.std.specs.Prelude.{ℕ, ◌<◌, ◌≤◌, ◌==◌, if◌then◌else◌, List, [], ◌∷◌, map}
 use Rattle.std.specs.List.{AllByRecursion, sum_by}
 use Rattle.opid.specs.Clocks.{sites}

@@ -1,5 +1,4 @@
-//! Where threads sleep that are further back in the line. A bell is rung for one place in the line alone, so that a turn costs no more with many sleepers than
-//! with few.
+//! Where threads sleep that are further back in the line. Tickets that are 64 apart share a bell, so that a turn wakes one in 64 of those that sleep.
 
 use std::sync::Wait;
 use std::sync::atomic::AtomicU64;
@@ -51,7 +50,7 @@ impl Bells {
     }
 
     pub fn of(&self, ticket: u64) -> &Bell {
-        &self.bells[(ticket % 64) as usize]
+        &self.bells[(ticket % COUNT as u64) as usize]
     }
 }
 

@@ -1,16 +1,13 @@
 -- The test of sameness is equality.
-use Rattle.std.proofs.Common.{◌≡◌, ℕ, Bool, true, ◌&&◌, eqb, eqb-true, eq-eqb, List, [], ◌∷◌, refl, ap, ◌∙◌, subst}
+use Rattle.std.proofs.Common.{◌≡◌, ℕ, true, ◌&&◌, eqb, eqb-true, eq-eqb, List, [], ◌∷◌, refl, ap, ◌∙◌, subst}
 use mathlib.Core.Path.{ap₂}
-use Rattle.std.proofs.lemmas.Bool.{and_parts}
+use Rattle.std.proofs.lemmas.Bool.{and_from, and_parts}
 use Rattle.opid.specs.declared.kind.OpKind.{OpKind}
 use Rattle.opid.specs.declared.kind.OpKind.TheVariants.{Ins, Del}
 use Rattle.opid.specs.Stamps.{is_same_parent}
 use Rattle.opid.specs.Operations.{Operation}
 use Rattle.opid.proofs.Order.{is_same-eq, is_same-refl, is_same_parent-eq, is_same_parent-refl}
 use Rattle.holdback.specs.Same.{is_same_clock, is_same_kind, is_same_operation}
-
-both : (b c : Bool) → b ≡ true → c ≡ true → (b && c) ≡ true
-both b c e f = cc
 
 clocks : (a b : List ℕ) → is_same_clock a b ≡ true → a ≡ b
 clocks [] [] h = refl
@@ -22,7 +19,7 @@ clocks (m ∷ a) (n ∷ b) h =
 
 clock_itself : (a : List ℕ) → is_same_clock a a ≡ true
 clock_itself [] = refl
-clock_itself (m ∷ a) = both (eqb m m) (is_same_clock a a) (eq-eqb m m refl) (clock_itself a)
+clock_itself (m ∷ a) = and_from _ _ (eq-eqb m m refl) (clock_itself a)
 
 kinds : (a b : OpKind) → is_same_kind a b ≡ true → a ≡ b
 kinds (Ins p c) (Ins q d) h =
@@ -33,7 +30,7 @@ kinds (Del s) (Ins q d) h = cc
 kinds (Del s) (Del t) h = ap Del (is_same-eq s t h)
 
 kind_itself : (a : OpKind) → is_same_kind a a ≡ true
-kind_itself (Ins p c) = both (is_same_parent p p) (eqb c c) (is_same_parent-refl p) (eq-eqb c c refl)
+kind_itself (Ins p c) = and_from _ _ (is_same_parent-refl p) (eq-eqb c c refl)
 kind_itself (Del s) = is_same-refl s
 
 pub same-equal : (x y : Operation) → is_same_operation x y ≡ true → x ≡ y
@@ -45,7 +42,7 @@ same-equal x y h =
     ∙ ap with_kind (kinds x.kind y.kind most.1)
 
 itself : (x : Operation) → is_same_operation x x ≡ true
-itself x = both _ _ (both _ _ (eq-eqb x.site x.site refl) (clock_itself x.clock)) (kind_itself x.kind)
+itself x = and_from _ _ (and_from _ _ (eq-eqb x.site x.site refl) (clock_itself x.clock)) (kind_itself x.kind)
 
 pub equal-same : (x y : Operation) → x ≡ y → is_same_operation x y ≡ true
 equal-same x y e = subst (λ (z : Operation). is_same_operation x z ≡ true) e (itself x)

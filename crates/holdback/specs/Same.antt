@@ -1,4 +1,5 @@
--- When two operations are one and the same: the same site, the same clock, and the same deed.
+-- When two operations are one and the same: the same site, the same clock, and the same deed
+-- (Roh and others 2011).
 use Rattle.std.specs.Prelude.{ℕ, Bool, true, false, ◌==◌, ◌&&◌, List, [], ◌∷◌}
 use Rattle.opid.specs.declared.kind.OpKind.{OpKind}
 use Rattle.opid.specs.declared.kind.OpKind.TheVariants.{Ins, Del}

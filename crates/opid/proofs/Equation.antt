@@ -12,7 +12,7 @@ use Rattle.opid.specs.Operations.{Operation, insertions, Insertion}
 use Rattle.opid.specs.Tree.{IsPreorder, rising, all, is_child_of, preorder}
 use Rattle.opid.specs.Lawful.{IsSound}
 use Rattle.opid.proofs.Sound.{IsTree-sound}
-use Rattle.opid.proofs.Walk.{Above, IsRising, IsOlder, ParentsOlder, IsOlder-not_same, IsOlder-trans, Each-append, Each-weaker, append-nil}
+use Rattle.opid.proofs.Walk.{Above, IsRising, IsOlder, ParentsOlder, IsOlder-not_same, IsOlder-trans, Each-append, Each-filter, Each-weaker, append-nil}
 
 -- the same at a list
 abbrev pub children_of : List Insertion → Option Stamp → List Insertion
@@ -23,14 +23,6 @@ Preorders xs f = (p : Option Stamp) → f p ≡ flat_map (λ c. c ∷ f (Some c.
 
 reverse-push : (x : Insertion) (xs : List Insertion) → reverse (x ∷ xs) ≡ reverse xs ++ x ∷ []
 reverse-push x xs = reverse-append (x ∷ []) xs
-
-Each-filter : (P : Insertion → Type 0) (t : Insertion → Bool) (xs : List Insertion) → Each P xs → Each P (filter t xs)
-Each-filter P t [] h = tt
-Each-filter P t (x ∷ xs) h = go (t x) (Each-filter P t xs h.1)
-  where
-    go : (b : Bool) → Each P (filter t xs) → Each P (cond b (x ∷ filter t xs) (filter t xs))
-    go true ih = (h.0, ih)
-    go false ih = ih
 
 Each-reverse : (P : Insertion → Type 0) (xs : List Insertion) → Each P xs → Each P (reverse xs)
 Each-reverse P [] h = tt

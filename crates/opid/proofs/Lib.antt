@@ -12,3 +12,4 @@ pub mod Counts
 pub mod Runs
 pub mod Placing
 pub mod Stated
+pub mod Gathered

@@ -70,3 +70,7 @@ IsLawful-take log n l = GoesOn-take [] log n l
 pub GoesOn-append : (ops xs ys : List Operation) → GoesOn ops xs → GoesOn (ops ++ xs) ys → GoesOn ops (xs ++ ys)
 GoesOn-append ops [] ys g h = subst (λ r. GoesOn r ys) (append-nil ops) h
 GoesOn-append ops (x ∷ xs) ys g h = (g.0, GoesOn-append (ops ++ x ∷ []) xs ys g.1 (subst (λ r. GoesOn r ys) (sym (append_assoc ops (x ∷ []) xs)) h))
+
+pub goes_on_after : (ops xs ys : List Operation) → GoesOn ops (xs ++ ys) → GoesOn (ops ++ xs) ys
+goes_on_after ops [] ys g = subst (λ r. GoesOn r ys) (sym (append-nil ops)) g
+goes_on_after ops (x ∷ xs) ys g = subst (λ r. GoesOn r ys) (append_assoc ops (x ∷ []) xs) (goes_on_after (ops ++ x ∷ []) xs ys g.1)

@@ -12,7 +12,7 @@ use Rattle.opid.specs.Tree.{is_child_of, insert_rising, rising, preorder, all}
 use Rattle.opid.specs.Reading.{visible}
 use Rattle.opid.specs.Lawful.{IsPart, IsSound}
 use Rattle.opid.proofs.Order.{is_before-irrefl, is_before-asym, is_same-eq, is_same-refl}
-use Rattle.opid.proofs.Walk.{Childless, IsRising, append-nil, preorder-childless}
+use Rattle.opid.proofs.Walk.{Childless, Each-filter, IsRising, append-nil, preorder-childless}
 use Rattle.opid.proofs.Rising.{HasParent, Each-rising}
 use Rattle.opid.proofs.Sound.{IsTree-sound}
 
@@ -148,14 +148,6 @@ preorder-filter keep (x ∷ xs) p h = go (keep x) refl (preorder-filter keep xs 
         here ∙ sym (filter-append keep (preorder xs p) (cond (is_child_of p x) (x ∷ preorder xs (Some x.stamp)) []) ∙ ap (λ r. filter keep (preorder xs p) ++ r) (left_out below e (is_child_of p x)) ∙ append-nil (filter keep (preorder xs p)))
 
 -- a filter keeps the order by stamp
-Each-filter : (P : Insertion → Type 0) (keep : Insertion → Bool) (xs : List Insertion) → Each P xs → Each P (filter keep xs)
-Each-filter P keep [] h = tt
-Each-filter P keep (x ∷ xs) h = go (keep x) (Each-filter P keep xs h.1)
-  where
-    go : (t : Bool) → Each P (filter keep xs) → Each P (cond t (x ∷ filter keep xs) (filter keep xs))
-    go true ih = (h.0, ih)
-    go false ih = ih
-
 IsRising-filter : (keep : Insertion → Bool) (xs : List Insertion) → IsRising xs → IsRising (filter keep xs)
 IsRising-filter keep [] r = tt
 IsRising-filter keep (x ∷ xs) r = go (keep x) (IsRising-filter keep xs r.1)

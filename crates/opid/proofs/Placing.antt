@@ -1,8 +1,9 @@
 -- Asked insertions stand at their place in the version that was named.
-use Rattle.std.proofs.Common.{◌≡◌, ℕ, ◌+◌, ◌<◌, ◌≤◌, zero, suc, Bool, true, false, cond, not, ◌||◌, eqb-true, Option, Some, None, List, [], ◌∷◌, ◌++◌, length, sum, take, drop, refl, ap, ◌∙◌, sym, subst, arith, append_assoc, take-append-drop}
+use Rattle.std.proofs.Common.{◌≡◌, ℕ, ◌+◌, ◌<◌, ◌≤◌, zero, suc, Bool, true, false, cond, not, eqb-true, Option, Some, None, List, [], ◌∷◌, ◌++◌, length, sum, take, drop, refl, ap, ◌∙◌, sym, subst, arith, append_assoc, take-append-drop}
 use mathlib.Core.Path.{ap₂}
 use Rattle.std.specs.Prelude.{filter, slice_get, option_map, ◌==◌}
 use Rattle.std.specs.List.{AllByRecursion as Each, list_any}
+use Rattle.std.proofs.Math.Bool.{or-false}
 use Rattle.std.proofs.lemmas.Bool.{false_from_ne_true, cond-true, cond-false}
 use Rattle.std.proofs.lemmas.Bool.Decides.{nat_tests}
 use Rattle.std.proofs.lemmas.List.{length-append, length-take-le, take_at, drop_at}
@@ -18,12 +19,12 @@ use Rattle.opid.specs.Reading.{visible, visible_at}
 use Rattle.opid.specs.Lawful.{IsAllowed, IsLawful, IsSound, AreApart}
 use Rattle.opid.specs.Asked.{parent_at, insertion_run, asked_insertions, IsPlaced}
 use Rattle.opid.proofs.Order.{is_same-refl, is_same-sym}
-use Rattle.opid.proofs.Walk.{Each-append, Each-weaker, stand, stand_after, walk, append-nil}
+use Rattle.opid.proofs.Walk.{Each-append, Each-filter, Each-weaker, stand, stand_after, walk, append-nil}
 use Rattle.opid.proofs.Rising.{HasParent}
 use Rattle.opid.proofs.Sound.{op_at, element_at, is_deleted-push, not_deleted-new, list_any-all, AreApart-all, all-insertion, IsSound-push}
 use Rattle.opid.proofs.Logs.{IsLawful-take, IsSound-lawful}
 use Rattle.opid.proofs.Counts.{length-clock_of, length-raised, sum-raised, sum-clock_of, sums_within}
-use Rattle.opid.proofs.Runs.{Each-filter, Each-some, Each-member, Each-take, has_element-sum, smaller, has_element-new, parent_at-has_version}
+use Rattle.opid.proofs.Runs.{Each-some, Each-member, Each-take, has_element-sum, smaller, has_element-new, parent_at-has_version}
 
 -- ---- parts of lists
 
@@ -46,13 +47,13 @@ drop-middle a x b k e =
     ap (drop (suc k)) (sym (append_assoc a (x ∷ []) b))
     ∙ drop_at (a ++ x ∷ []) b (suc k) (omega (arith, length-append a (x ∷ []), e))
 
-get-middle : (a : List Insertion) (x : Insertion) (b : List Insertion) (k : ℕ) → length a ≡ k → slice_get (a ++ x ∷ b) k ≡ Some x
+pub get-middle : {X : Type 0} (a : List X) (x : X) (b : List X) (k : ℕ) → length a ≡ k → slice_get (a ++ x ∷ b) k ≡ Some x
 get-middle [] x b zero e = refl
 get-middle [] x b (suc k) e = absurd (omega (arith, e))
 get-middle (y ∷ a) x b zero e = absurd (omega (arith, e))
 get-middle (y ∷ a) x b (suc k) e = get-middle a x b k (omega (arith, e))
 
-get-within : (xs : List Insertion) (k : ℕ) → k < length xs → (e : Insertion) × (slice_get xs k ≡ Some e)
+pub get-within : {X : Type 0} (xs : List X) (k : ℕ) → k < length xs → (e : X) × (slice_get xs k ≡ Some e)
 get-within [] k h = absurd (omega (arith, h))
 get-within (x ∷ xs) zero h = (x, refl)
 get-within (x ∷ xs) (suc k) h = get-within xs k (omega (arith, h))
@@ -102,16 +103,12 @@ abbrev IsParentAt : List Insertion → ℕ → Option Stamp → Type 0
 IsParentAt shown zero o = o ≡ None
 IsParentAt shown (suc j) o = (e : Insertion) × (slice_get shown j ≡ Some e) × (o ≡ Some e.stamp)
 
-or_false : (b : Bool) → (b || false) ≡ b
-or_false true = refl
-or_false false = refl
-
 -- what is visible after an insertion: the walk among what was visible
 visible-insertion : (ops : List Operation) (i : ℕ) (w : List ℕ) (o : Option Stamp) (c : ℕ) → IsSound ops → has_element ops (stamp_at i w) ≡ false → IsAllowed ops (stamp_at i w) (Ins o c)
     → visible (ops ++ op_at i w (Ins o c) ∷ []) ≡ filter (λ y. not (is_deleted ops y.stamp)) (walk o (element_at (stamp_at i w) o c) (all ops))
 visible-insertion ops i w o c h n a =
     filter_agree (λ y. not (is_deleted (ops ++ op_at i w (Ins o c) ∷ []) y.stamp)) (λ y. not (is_deleted ops y.stamp))
-    (λ y. ap not (is_deleted-push ops (op_at i w (Ins o c)) y.stamp ∙ or_false (is_deleted ops y.stamp))) (all (ops ++ op_at i w (Ins o c) ∷ []))
+    (λ y. ap not (is_deleted-push ops (op_at i w (Ins o c)) y.stamp ∙ or-false (is_deleted ops y.stamp))) (all (ops ++ op_at i w (Ins o c) ∷ []))
     ∙ ap (filter (λ y. not (is_deleted ops y.stamp))) (all-insertion ops i w o c h n a)
 
 -- an insertion with the greatest stamp stands at the place of its parent

@@ -1,6 +1,6 @@
 -- Asked operations are lawful after the log, and asked insertions stand at their place.
-use Rattle.std.proofs.Common.{◌≡◌, ℕ, ◌+◌, ◌-◌, ◌<◌, ◌≤◌, zero, suc, Bool, true, false, cond, not, Option, Some, None, List, [], ◌∷◌, ◌++◌, length, sum, map, take, drop, refl, ap, ◌∙◌, sym, subst, arith, inl, inr, take-append-drop}
-use Rattle.std.specs.Prelude.{filter, slice_get, option_map, if◌then◌else◌, ◌==◌}
+use Rattle.std.proofs.Common.{◌≡◌, ℕ, ◌+◌, ◌-◌, ◌<◌, ◌≤◌, zero, suc, Bool, true, false, not, Option, Some, None, List, [], ◌∷◌, ◌++◌, length, sum, map, take, drop, refl, ap, ◌∙◌, sym, subst, arith, inl, inr, take-append-drop}
+use Rattle.std.specs.Prelude.{slice_get, option_map, if◌then◌else◌, ◌==◌}
 use Rattle.std.specs.List.{AllByRecursion as Each, list_any}
 use Rattle.std.proofs.lemmas.Bool.{both_ways, or_cases, or_left, or_right}
 use Rattle.std.proofs.lemmas.Bool.Decides.{nat_tests}
@@ -17,7 +17,7 @@ use Rattle.opid.specs.Reading.{visible_at}
 use Rattle.opid.specs.Lawful.{IsAllowed, MayFollow, GoesOn, IsLawful, IsSound}
 use Rattle.opid.specs.Asked.{parent_at, insertion_run, deletion_run, asked_insertions, asked_deletions}
 use Rattle.opid.proofs.Order.{is_same-eq, is_same-refl}
-use Rattle.opid.proofs.Walk.{Each-weaker}
+use Rattle.opid.proofs.Walk.{Each-filter, Each-weaker}
 use Rattle.opid.proofs.Rising.{HasParent}
 use Rattle.opid.proofs.Sound.{op_at, element_at, insertions-append, insertions-push, has_element-push, list_any-all}
 use Rattle.opid.proofs.Logs.{IsLawful-push, IsLawful-take, GoesOn-append, IsSound-lawful}
@@ -111,15 +111,6 @@ deletions_go_on log site (t ∷ ts) l b h = (
     m : MayFollow log (op_at site (raised (clock_of log) site) (Del t))
     m = next_may_follow log site (Del t) l b h.0
 
--- an element of a version is one of the log
-pub Each-filter : {X : Type 0} (P : X → Type 0) (t : X → Bool) (xs : List X) → Each P xs → Each P (filter t xs)
-Each-filter P t [] h = tt
-Each-filter P t (x ∷ xs) h = go (t x) (Each-filter P t xs h.1)
-  where
-    go : (b : Bool) → Each P (filter t xs) → Each P (cond b (x ∷ filter t xs) (filter t xs))
-    go true ih = (h.0, ih)
-    go false ih = ih
-
 pub Each-some : {X : Type 0} (P : X → Type 0) (xs : List X) (i : ℕ) (x : X) → Each P xs → slice_get xs i ≡ Some x → P x
 Each-some P [] i x h e = cc
 Each-some P (y ∷ ys) zero x h e = let same : y ≡ x = cc in subst P same h.0
@@ -132,6 +123,13 @@ Each-member (x ∷ xs) = (
   Each-weaker (λ (y : Insertion). list_any (λ z. is_same y.stamp z.stamp) xs ≡ true) (λ y. list_any (λ z. is_same y.stamp z.stamp) (x ∷ xs) ≡ true) (λ y h. or_right (is_same y.stamp x.stamp) _ h) xs (Each-member xs),
 )
 
+-- each of the elements in the one order is an element
+pub all-elements : (ops : List Operation) → IsSound ops → Each (λ y. has_element ops y.stamp ≡ true) (all ops)
+all-elements ops h =
+    Each-weaker (λ (y : Insertion). list_any (λ z. is_same y.stamp z.stamp) (all ops) ≡ true) (λ y. has_element ops y.stamp ≡ true)
+    (λ y m. sym (list_any-all ops h y.stamp) ∙ m) (all ops) (Each-member (all ops))
+
+-- an element of a version is one of the log
 has_element-take : (log : List Operation) (v : ℕ) (s : Stamp) → has_element (take v log) s ≡ true → has_element log s ≡ true
 has_element-take log v s h =
     ap (λ r. has_element r s) (sym (take-append-drop v log))
@@ -142,10 +140,8 @@ has_element-take log v s h =
 -- the visible elements of a version are elements of it
 version_elements : (log : List Operation) (v : ℕ) → IsLawful log → Each (λ y. has_element (take v log) y.stamp ≡ true) (visible_at log v)
 version_elements log v l =
-    let sound : IsSound (take v log) = IsSound-lawful (take v log) (IsLawful-take log v l) in
-    Each-weaker (λ (y : Insertion). list_any (λ z. is_same y.stamp z.stamp) (all (take v log)) ≡ true) (λ y. has_element (take v log) y.stamp ≡ true)
-    (λ y h. sym (list_any-all (take v log) sound y.stamp) ∙ h) (visible_at log v)
-    (Each-filter (λ (y : Insertion). list_any (λ z. is_same y.stamp z.stamp) (all (take v log)) ≡ true) (λ y. not (is_deleted (take v log) y.stamp)) (all (take v log)) (Each-member (all (take v log))))
+    Each-filter (λ (y : Insertion). has_element (take v log) y.stamp ≡ true) (λ y. not (is_deleted (take v log) y.stamp)) (all (take v log))
+    (all-elements (take v log) (IsSound-lawful (take v log) (IsLawful-take log v l)))
 
 -- the parent that is asked for is the head or an element of the version
 pub parent_at-has_version : (log : List Operation) (v k : ℕ) → IsLawful log → HasParent (insertions (take v log)) (parent_at log v k)

@@ -1,6 +1,7 @@
 -- The walk puts an element where the preorder has it.
 use Rattle.std.proofs.Common.{◌≡◌, ℕ, Bool, true, false, cond, Option, Some, None, List, [], ◌∷◌, ◌++◌, refl, ap, ◌∙◌, sym, subst, inl, inr, ◌⊎◌}
 use Rattle.std.proofs.lemmas.Bool.{cond-true, cond-false, both_ways, false_from_ne_true}
+use Rattle.std.specs.Prelude.{filter}
 use Rattle.std.specs.List.{AllByRecursion as Each}
 use Rattle.opid.specs.declared.stamp.Stamp.{Stamp}
 use Rattle.opid.specs.Stamps.{is_before, is_same, is_same_parent}
@@ -54,6 +55,14 @@ Each-append P (x ∷ xs) ys h k = (h.0, Each-append P xs ys h.1 k)
 pub Each-weaker : {X : Type 0} (P Q : X → Type 0) (f : (x : X) → P x → Q x) (xs : List X) → Each P xs → Each Q xs
 Each-weaker P Q f [] h = tt
 Each-weaker P Q f (x ∷ xs) h = (f x h.0, Each-weaker P Q f xs h.1)
+
+pub Each-filter : {X : Type 0} (P : X → Type 0) (t : X → Bool) (xs : List X) → Each P xs → Each P (filter t xs)
+Each-filter P t [] h = tt
+Each-filter P t (x ∷ xs) h = go (t x) (Each-filter P t xs h.1)
+  where
+    go : (b : Bool) → Each P (filter t xs) → Each P (cond b (x ∷ filter t xs) (filter t xs))
+    go true ih = (h.0, ih)
+    go false ih = ih
 
 -- what holds of each holds of each in the order
 pub Each-preorder : (P : Insertion → Type 0) (xs : List Insertion) (p : Option Stamp) → Each P xs → Each P (preorder xs p)

@@ -42,8 +42,7 @@ AreApart [] = Unit {0}
 AreApart (x ∷ xs) = AllByRecursion (λ y. is_same x.stamp y.stamp ≡ false) xs × AreApart xs
 
 -- A set of operations, in any order: no two insertions have one stamp, each parent is the head or an element with
--- a smaller stamp, and each target is an element. Every lawful log is such a set, and so is the union of the logs
--- of replicas that exchange operations.
+-- a smaller stamp, and each target is an element. Every lawful log is such a set (`laws::lawful_logs`).
 pub record IsSound (ops : List Operation) : Type 0 where
   pub apart : AreApart (insertions ops)
   pub allowed : AllByRecursion (λ x. IsAllowed ops (stamp_of x) x.kind) ops

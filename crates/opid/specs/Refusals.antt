@@ -1,4 +1,4 @@
--- The numbers and names of refusals.
+-- The numbers and names of refusals, which are the server's own.
 use Rattle.std.specs.Prelude.{ℕ, List, codes}
 use Rattle.opid.specs.declared.refusal.Refusal.{Refusal}
 use Rattle.opid.specs.declared.refusal.Refusal.TheVariants.{BadJson, BadField, UnknownKind, NoRoom, NoSession, TooManySessions, BadNumber, BadVersion, BadPlace, BadText, BadCount, Full, HistoryFull, BadSite, BadClock, OwnSite, Conflict, HoldFull, NotRising, UnknownElement, NotOlder, BadHave, BadRange, Busy, Worn, Memory, SiteUsed, BadSnapshot, TooLong}

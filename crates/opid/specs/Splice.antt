@@ -1,4 +1,4 @@
--- The splice of a list by an edit, and by edits in turn.
+-- The splice of a list by an edit, and by edits in turn (Attiya and others 2016: insertion and deletion at a position).
 use Rattle.std.specs.Prelude.{ℕ, nat_le, nat_lt, if◌then◌else◌, Option, Some, None, option_and_then, List, [], ◌∷◌, length, insert, remove}
 use Rattle.opid.specs.declared.edit.Edit.{Edit}
 use Rattle.opid.specs.declared.edit.Edit.TheVariants.{Ins, Del, Nop}

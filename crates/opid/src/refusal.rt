@@ -3,7 +3,7 @@ ghost use Rattle.std.specs.Prelude.{◌≡◌};
 
 use std::alloc::{AllocError, AllocFailed};
 
-/// The cause of a refusal. A refused call changes nothing.
+/// The cause of a refusal. A refused call changes nothing, but that a room records it.
 #[derive(Clone, Copy, Debug, Drop, PartialEq, Eq)]
 pub enum Refusal {
     /// The bytes are no JSON text.

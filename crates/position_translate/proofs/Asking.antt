@@ -1,5 +1,5 @@
 -- What is asked for, gathered one operation after another.
-use Rattle.std.proofs.Common.{◌≡◌, ℕ, ◌+◌, ◌-◌, ◌<◌, ◌≤◌, zero, suc, Option, Some, None, List, [], ◌∷◌, ◌++◌, length, sum, map, take, drop, get_or, refl, ap, ap₂, ◌∙◌, sym, subst, arith, append_assoc, add-one, drop-cons}
+use Rattle.std.proofs.Common.{◌≡◌, ℕ, ◌+◌, ◌-◌, ◌<◌, ◌≤◌, zero, suc, Option, Some, None, List, [], ◌∷◌, ◌++◌, length, sum, map, take, drop, get_or, refl, ap, ap₂, ◌∙◌, sym, subst, arith, append_assoc}
 use Rattle.std.specs.Prelude.{slice_get, option_map}
 use Rattle.std.proofs.lemmas.List.{append-nil, drop_all, length-drop, length-map, length-take-le}
 use Rattle.opid.specs.declared.stamp.Stamp.{Stamp}
@@ -13,12 +13,9 @@ use Rattle.opid.specs.Asked.{parent_at, insertion_run, deletion_run, asked_inser
 use Rattle.opid.proofs.Counts.{sum-clock_of}
 use Rattle.opid.proofs.Runs.{asked_insertions-lawful, asked_deletions-lawful}
 use Rattle.opid.proofs.Placing.{asked_insertions-placed}
+use Rattle.opid.proofs.Gathered.{rest_at, take_none, between_at}
 
 -- ---- insertions: what was made so far, and the run of the rest
-
--- the character at n, and those behind it
-rest_at : (cs : List ℕ) (n c : ℕ) → n < length cs → c ≡ get_or cs n c → drop n cs ≡ c ∷ drop (n + 1) cs
-rest_at cs n c h e = drop-cons cs n c h ∙ ap₂ (λ (x : ℕ) (xs : List ℕ). x ∷ xs) (sym e) (ap (λ k. drop k cs) (sym (add-one n)))
 
 pub insertion_more : (site : ℕ) (made : List Operation) (clock clock' : List ℕ) (parent parent' : Option Stamp) (cs : List ℕ) (n c : ℕ) (op : Operation) (whole : List Operation)
     → n < length cs → c ≡ get_or cs n c → op ≡ record { site = site; clock = raised clock site; kind = Ins parent c } → clock' ≡ op.clock → parent' ≡ Some (stamp_of op)
@@ -48,23 +45,14 @@ insertion_all site made clock parent cs n whole h so_far =
 abbrev pub stamps : List Insertion → ℕ → ℕ → List Stamp
 stamps xs first end = map (λ x. x.stamp) (take (end - first) (drop first xs))
 
-take_first : (xs : List Insertion) (p n : ℕ) (t : Stamp) → Some t ≡ option_map (λ x. x.stamp) (slice_get xs p)
-    → map (λ x. x.stamp) (take (suc n) (drop p xs)) ≡ t ∷ map (λ x. x.stamp) (take n (drop (suc p) xs))
-take_first [] zero n t e = cc
-take_first [] (suc p) n t e = cc
-take_first (x ∷ xs) zero n t e =
-    let same : t ≡ x.stamp = cc in
-    ap₂ (λ (s : Stamp) (ys : List Insertion). s ∷ map (λ y. y.stamp) (take n ys)) (sym same) refl
-take_first (x ∷ xs) (suc p) n t e = take_first xs p n t e
-
 stamps_at : (xs : List Insertion) (p end : ℕ) (t : Stamp) → p < end → Some t ≡ option_map (λ x. x.stamp) (slice_get xs p) → stamps xs p end ≡ t ∷ stamps xs (p + 1) end
-stamps_at xs p end t h e =
-    ap (λ n. map (λ (x : Insertion). x.stamp) (take n (drop p xs))) size
-    ∙ take_first xs p (end - (p + 1)) t e
-    ∙ ap (λ k. t ∷ map (λ (x : Insertion). x.stamp) (take (end - (p + 1)) (drop k xs))) (sym (add-one p))
+stamps_at xs p end t h e = go (slice_get xs p) refl e
   where
-    size : end - p ≡ suc (end - (p + 1))
-    size = omega (arith, h)
+    go : (o : Option Insertion) → slice_get xs p ≡ o → Some t ≡ option_map (λ x. x.stamp) o → stamps xs p end ≡ t ∷ stamps xs (p + 1) end
+    go None q e = cc
+    go (Some x) q e =
+        let same : x.stamp ≡ t = cc in
+        ap (map (λ (y : Insertion). y.stamp)) (between_at xs p end x h q) ∙ ap (λ s. s ∷ stamps xs (p + 1) end) same
 
 pub deletion_more : (site : ℕ) (made : List Operation) (clock clock' : List ℕ) (xs : List Insertion) (p end : ℕ) (t : Stamp) (op : Operation) (whole : List Operation)
     → p < end → Some t ≡ option_map (λ x. x.stamp) (slice_get xs p) → op ≡ record { site = site; clock = raised clock site; kind = Del t } → clock' ≡ op.clock
@@ -80,16 +68,11 @@ deletion_more site made clock clock' xs p end t op whole h at is counts so_far =
     one : deletion_run site clock (stamps xs p end) ≡ op ∷ deletion_run site clock' (stamps xs (p + 1) end)
     one = ap (deletion_run site clock) (stamps_at xs p end t h at) ∙ ap₂ (λ (x : Operation) (os : List Operation). x ∷ os) (sym is) (sym behind)
 
-take-none : (xs : List Insertion) (n : ℕ) → n ≡ 0 → take n xs ≡ []
-take-none [] zero e = refl
-take-none [] (suc n) e = refl
-take-none (x ∷ xs) n e = ap (λ k. take k (x ∷ xs)) e
-
 pub deletion_all : (site : ℕ) (made : List Operation) (clock : List ℕ) (xs : List Insertion) (p end : ℕ) (whole : List Operation)
     → end ≤ p → made ++ deletion_run site clock (stamps xs p end) ≡ whole → made ≡ whole
 deletion_all site made clock xs p end whole h so_far =
     sym (append-nil made)
-    ∙ ap (λ (ys : List Insertion). made ++ deletion_run site clock (map (λ x. x.stamp) ys)) (sym (take-none (drop p xs) (end - p) (omega (arith, h))))
+    ∙ ap (λ (ys : List Insertion). made ++ deletion_run site clock (map (λ x. x.stamp) ys)) (sym (take_none (drop p xs) (end - p) (omega (arith, h))))
     ∙ so_far
 
 length-insertion_run : (site : ℕ) (clock : List ℕ) (parent : Option Stamp) (cs : List ℕ) → length (insertion_run site clock parent cs) ≡ length cs

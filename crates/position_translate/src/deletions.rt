@@ -6,11 +6,11 @@ ghost use Rattle.opid.specs.Lawful.{IsLawful};
 ghost use Rattle.opid.specs.Asked.{deletion_run, asked_deletions};
 ghost use Rattle.position_translate.specs.Causes.{deletion_refusal};
 
-use crate::next::{MAX_COUNT, MAX_OPERATIONS, next_op};
+use crate::next::{MAX_COUNT, next_op};
 use causal_clock::{Clock, Op};
 use opid::{OpKind, Refusal, Site};
 use std::alloc::{AllocError, Global};
-use versions::Doc;
+use versions::{Doc, MAX_OPERATIONS};
 
 /// The operations by which the site deletes so many characters from the place of the version on: one deletion for
 /// each element that stands there, in their order, also of those that were deleted since. They stand behind the

@@ -7,11 +7,11 @@ ghost use Rattle.opid.specs.Lawful.{IsLawful};
 ghost use Rattle.opid.specs.Asked.{parent_at, insertion_run, asked_insertions, IsPlaced};
 ghost use Rattle.position_translate.specs.Causes.{insertion_refusal};
 
-use crate::next::{MAX_COUNT, MAX_OPERATIONS, next_op};
+use crate::next::{MAX_COUNT, next_op};
 use causal_clock::{Clock, Op};
 use opid::{OpKind, Refusal, Site, Stamp};
 use std::alloc::{AllocError, Global};
-use versions::Doc;
+use versions::{Doc, MAX_OPERATIONS};
 
 /// The operations by which the site puts the text in at the place of the version: one insertion for each character,
 /// the first behind the element before the place, each next one behind the one before it. They stand behind the

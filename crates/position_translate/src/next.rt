@@ -8,9 +8,6 @@ use opid::{OpKind, Site};
 /// At most so many operations are asked for at once.
 pub(crate) const MAX_COUNT: usize = 64;
 
-/// At most so many operations are in a log.
-pub(crate) const MAX_OPERATIONS: usize = 131_072;
-
 /// The site's operation after those that the clock counts.
 pub(crate) fn next_op(clock: &Clock, site: Site, kind: OpKind) -> Op
     requires { sum clock.now < MAX_SUM }

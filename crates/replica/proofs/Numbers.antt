@@ -1,9 +1,9 @@
 -- In a lawful log each site's operations are numbered from 1 without gaps, so that the rows of their places find each by its
 -- number.
-use Rattle.std.proofs.Common.{◌≡◌, ◌≢◌, ℕ, zero, suc, ◌+◌, ◌-◌, ◌<◌, ◌≤◌, ◌⊎◌, inl, inr, Bool, true, false, cond, ◌&&◌, eqb, eqb-true, eq-eqb, Option, Some, None, List, [], ◌∷◌, ◌++◌, length, set, replicate, refl, ap, ◌∙◌, sym, arith, get_or-set_other, get_or-set_same}
+use Rattle.std.proofs.Common.{◌≡◌, ◌≢◌, ℕ, zero, suc, ◌+◌, ◌-◌, ◌<◌, ◌≤◌, ◌⊎◌, inl, inr, Bool, true, false, cond, eq-eqb, Option, Some, None, List, [], ◌∷◌, ◌++◌, length, set, replicate, refl, ap, ◌∙◌, sym, arith, get_or-set_other, get_or-set_same}
 use Rattle.std.specs.Prelude.{◌==◌, slice_get, option_and_then}
 use Rattle.std.specs.Option.{option_or}
-use Rattle.std.proofs.lemmas.Bool.{cases_eq, cases_lt, false_from_ne_true}
+use Rattle.std.proofs.lemmas.Bool.{cases_eq, cases_lt, ne_eqb, and_from, and_left, and_right}
 use Rattle.std.proofs.lemmas.List.{length-append, length-set}
 use Rattle.std.proofs.lemmas.List.Folds.{find-append}
 use Rattle.std.proofs.lemmas.List.Sums.{sum_by-cons}
@@ -15,6 +15,7 @@ use Rattle.opid.specs.Lawful.{IsLawful, MayFollow}
 use Rattle.opid.proofs.Counts.{is_next-own, entry-clock_of}
 use Rattle.opid.proofs.Logs.{lawful_induction}
 use Rattle.opid.proofs.Walk.{append-nil}
+use Rattle.opid.proofs.Placing.{get-middle, get-within}
 use Rattle.holdback.specs.Offered.{with_number, is_same_number}
 use Rattle.replica.specs.Numbered.{row_at, places_from, places_of, AreNumbered}
 
@@ -22,15 +23,6 @@ slice_get-old : {X : Type 0} (xs : List X) (y : X) (k : ℕ) → k < length xs �
 slice_get-old [] y k l = absurd (omega arith)
 slice_get-old (x ∷ xs) y zero l = refl
 slice_get-old (x ∷ xs) y (suc k) l = slice_get-old xs y k (omega arith)
-
-slice_get-new : {X : Type 0} (xs : List X) (y : X) → slice_get (xs ++ y ∷ []) (length xs) ≡ Some y
-slice_get-new [] y = refl
-slice_get-new (x ∷ xs) y = slice_get-new xs y
-
-slice_get-is : {X : Type 0} (xs : List X) (k : ℕ) → k < length xs → (x : X) × (slice_get xs k ≡ Some x)
-slice_get-is [] k l = absurd (omega arith)
-slice_get-is (x ∷ xs) zero l = (x, refl)
-slice_get-is (x ∷ xs) (suc k) l = slice_get-is xs k (omega arith)
 
 -- one operation more
 places-push : (start site : ℕ) (log : List Operation) (x : Operation) → places_from start site (log ++ x ∷ []) ≡ places_from start site log ++ cond (x.site == site) ((start + length log) ∷ []) []
@@ -86,23 +78,10 @@ next_number log x m =
     let own : entry x.clock x.site ≡ entry (clock_of log) x.site + 1 = is_next-own x.site x.clock (clock_of log) m.ready in
     omega (arith, own, entry-clock_of log x.site m.site, length-places 0 x.site log)
 
-both : (b c : Bool) → b ≡ true → c ≡ true → (b && c) ≡ true
-both b c e f = cc
-
-differs : (a b : ℕ) → a ≢ b → eqb a b ≡ false
-differs a b d = false_from_ne_true (eqb a b) (λ q. d (eqb-true a b q))
-
-first_false : (b c : Bool) → b ≡ false → (b && c) ≡ false
-first_false b c e = ap (λ v. v && c) e
-
-second_false : (b c : Bool) → c ≡ false → (b && c) ≡ false
-second_false true c e = e
-second_false false c e = refl
-
 -- what was found stays found
 found-old : (log : List Operation) (x : Operation) (site k : ℕ) → k < length (places_of site log) → found (log ++ x ∷ []) site k ≡ found log site k
 found-old log x site k l =
-    let at = slice_get-is (places_of site log) k l in
+    let at = get-within (places_of site log) k l in
     let here : slice_get (places_of site (log ++ x ∷ [])) k ≡ Some at.0 =
     ap (λ ps. slice_get ps k) (places-push 0 site log x) ∙ kept (x.site == site) ∙ at.1 in
     ap (option_and_then (slice_get (log ++ x ∷ []))) here
@@ -131,8 +110,8 @@ found-push log x m ih site k =
 
     old : (t : Bool) → k < length (places_of site log) → option_or (found log site k) (last_one t) ≡ found (log ++ x ∷ []) site k
     old t l =
-        let at = slice_get-is (places_of site log) k l in
-        let y = slice_get-is log at.0 (place-within site log k at.0 (sym at.1)) in
+        let at = get-within (places_of site log) k l in
+        let y = get-within log at.0 (place-within site log k at.0 (sym at.1)) in
         let is : found log site k ≡ Some y.0 = ap (option_and_then (slice_get log)) at.1 ∙ y.1 in
         ap (λ o. option_or o (last_one t)) is ∙ sym is ∙ sym (found-old log x site k l)
 
@@ -145,8 +124,8 @@ found-push log x m ih site k =
     other : site ≢ x.site → (length (places_of site log) ≤ k) ⊎ (k < length (places_of site log)) → option_or (found log site k) (last_one (is_same_number (site, k + 1) (number_of x))) ≡ found (log ++ x ∷ []) site k
     other d (inr l) = old (is_same_number (site, k + 1) (number_of x)) l
     other d (inl l) =
-        let same : places_of site (log ++ x ∷ []) ≡ places_of site log = rows ∙ ap (λ b. places_of site log ++ cond b ((0 + length log) ∷ []) []) (differs x.site site (λ q. d (sym q))) ∙ append-nil (places_of site log) in
-        none (is_same_number (site, k + 1) (number_of x)) (first_false (site == x.site) (k + 1 == entry x.clock x.site) (differs site x.site d)) l
+        let same : places_of site (log ++ x ∷ []) ≡ places_of site log = rows ∙ ap (λ b. places_of site log ++ cond b ((0 + length log) ∷ []) []) (ne_eqb x.site site (λ q. d (sym q))) ∙ append-nil (places_of site log) in
+        none (is_same_number (site, k + 1) (number_of x)) (and_left (site == x.site) (k + 1 == entry x.clock x.site) (ne_eqb site x.site d)) l
         (found-past (log ++ x ∷ []) site k (omega (arith, l, ap (λ (ps : List ℕ). length ps) same)))
 
     own : site ≡ x.site → (length (places_of site log) ≤ k) ⊎ (k < length (places_of site log)) → option_or (found log site k) (last_one (is_same_number (site, k + 1) (number_of x))) ≡ found (log ++ x ∷ []) site k
@@ -161,13 +140,13 @@ found-push log x m ih site k =
 
         at : (k ≡ length (places_of site log)) ⊎ (k ≡ length (places_of site log) → ⊥) → option_or (found log site k) (last_one (is_same_number (site, k + 1) (number_of x))) ≡ found (log ++ x ∷ []) site k
         at (inl q) =
-            let same : is_same_number (site, k + 1) (number_of x) ≡ true = both (site == x.site) (k + 1 == entry x.clock x.site) (eq-eqb site x.site s) (eq-eqb (k + 1) (entry x.clock x.site) (omega (arith, q, number))) in
-            let placed : slice_get (places_of site (log ++ x ∷ [])) k ≡ Some (0 + length log) = ap (λ ps. slice_get ps k) longer ∙ ap (λ n. slice_get (places_of site log ++ (0 + length log) ∷ []) n) q ∙ slice_get-new (places_of site log) (0 + length log) in
+            let same : is_same_number (site, k + 1) (number_of x) ≡ true = and_from _ _ (eq-eqb site x.site s) (eq-eqb (k + 1) (entry x.clock x.site) (omega (arith, q, number))) in
+            let placed : slice_get (places_of site (log ++ x ∷ [])) k ≡ Some (0 + length log) = ap (λ ps. slice_get ps k) longer ∙ ap (λ n. slice_get (places_of site log ++ (0 + length log) ∷ []) n) q ∙ get-middle (places_of site log) (0 + length log) [] (length (places_of site log)) refl in
             let zero_more : 0 + length log ≡ length log = omega arith in
             ap (λ o. option_or o (last_one (is_same_number (site, k + 1) (number_of x)))) (found-past log site k l) ∙ ap last_one same
-            ∙ sym (ap (option_and_then (slice_get (log ++ x ∷ []))) placed ∙ ap (slice_get (log ++ x ∷ [])) zero_more ∙ slice_get-new log x)
+            ∙ sym (ap (option_and_then (slice_get (log ++ x ∷ []))) placed ∙ ap (slice_get (log ++ x ∷ [])) zero_more ∙ get-middle log x [] (length log) refl)
         at (inr d) =
-            none (is_same_number (site, k + 1) (number_of x)) (second_false (site == x.site) (k + 1 == entry x.clock x.site) (differs (k + 1) (entry x.clock x.site) (λ q. d (omega (arith, q, number))))) l
+            none (is_same_number (site, k + 1) (number_of x)) (and_right (site == x.site) (k + 1 == entry x.clock x.site) (ne_eqb (k + 1) (entry x.clock x.site) (λ q. d (omega (arith, q, number))))) l
             (found-past (log ++ x ∷ []) site k (omega (arith, l, d, ap (λ (ps : List ℕ). length ps) longer, length-append (places_of site log) ((0 + length log) ∷ []))))
 
     go : (site ≡ x.site) ⊎ (site ≡ x.site → ⊥) → option_or (found log site k) (last_one (is_same_number (site, k + 1) (number_of x))) ≡ found (log ++ x ∷ []) site k
@@ -194,7 +173,7 @@ pub with_number-zero : (log : List Operation) → IsLawful log → (site : ℕ) 
 with_number-zero = lawful_induction HasNoZero (λ site. refl) (λ log x l m ih site.
     find-append (λ y. is_same_number (site, 0) (number_of y)) log (x ∷ [])
     ∙ ap (λ o. option_or o (cond (is_same_number (site, 0) (number_of x)) (Some x) None)) (ih site)
-    ∙ ap (λ t. cond t (Some x) None) (second_false (site == x.site) (0 == entry x.clock x.site) (differs 0 (entry x.clock x.site) (λ q. omega (arith, q, next_number log x m)))))
+    ∙ ap (λ t. cond t (Some x) None) (and_right (site == x.site) (0 == entry x.clock x.site) (ne_eqb 0 (entry x.clock x.site) (λ q. omega (arith, q, next_number log x m)))))
 
 -- one more place in the row of the operation's site
 pub AreNumbered-push : (log : List Operation) (rows new : List (List ℕ)) (x : Operation) (site place : ℕ) → AreNumbered log rows → site ≡ x.site → site < 32 → place ≡ length log
@@ -216,7 +195,7 @@ AreNumbered-push log rows new x site place h s b p e = record {
     at k l (inr d) =
         get_or-set_other rows site k (row_at rows site ++ place ∷ []) [] d
         ∙ h.each k l
-        ∙ sym (places-push 0 k log x ∙ ap (λ t. places_of k log ++ cond t ((0 + length log) ∷ []) []) (differs x.site k (λ q. d (sym (s ∙ q)))) ∙ append-nil (places_of k log))
+        ∙ sym (places-push 0 k log x ∙ ap (λ t. places_of k log ++ cond t ((0 + length log) ∷ []) []) (ne_eqb x.site k (λ q. d (sym (s ∙ q)))) ∙ append-nil (places_of k log))
 
 blank-row : (n k : ℕ) → row_at (replicate n []) k ≡ []
 blank-row zero k = refl

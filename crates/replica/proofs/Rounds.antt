@@ -1,8 +1,6 @@
 -- What one round does, and that rounds which change nothing are the last.
-use Rattle.std.proofs.Common.{◌≡◌, ℕ, zero, suc, ◌+◌, ◌-◌, ◌<◌, ◌≤◌, true, false, Option, Some, None, length, refl, ap, ◌∙◌, sym, arith}
-use Rattle.std.specs.Prelude.{nat_le}
-use Rattle.std.proofs.lemmas.Bool.{cond-true, cond-false}
-use Rattle.std.proofs.lemmas.Bool.Decides.{nat_tests}
+use Rattle.std.proofs.Common.{◌≡◌, ℕ, zero, suc, ◌+◌, ◌-◌, ◌<◌, ◌≤◌, Option, Some, None, length, refl, ap, ◌∙◌, sym, arith}
+use Rattle.std.proofs.lemmas.Bool.{cond-true, cond-false, le-leb, lt-leb}
 use Rattle.opid.specs.declared.refusal.Refusal.{Refusal}
 use Rattle.opid.specs.Operations.{Operation}
 use Rattle.opid.specs.Delivery.{clock_of}
@@ -10,23 +8,17 @@ use Rattle.holdback.specs.Ready.{first_ready}
 use Rattle.replica.specs.Refused.{refusal_of}
 use Rattle.replica.specs.Settle.{Settling, appended_or_dropped, taken_out, round_with, round, rounds}
 
-full : (n : ℕ) → 131072 ≤ n → nat_le 131072 n ≡ true
-full n l = grind (arith, nat_tests)
-
-not_full : (n : ℕ) → n < 131072 → nat_le 131072 n ≡ false
-not_full n l = grind (arith, nat_tests)
-
 -- nothing changes where the log is full, or nothing is ready
 pub round-full : (s : Settling) → 131072 ≤ length s.log → round s ≡ s
-round-full s l = cond-true _ _ _ (full (length s.log) l)
+round-full s l = cond-true _ _ _ (le-leb 131072 (length s.log) l)
 
 pub round-none : (s : Settling) → length s.log < 131072 → first_ready (clock_of s.log) s.held ≡ None → round s ≡ s
-round-none s l e = cond-false _ _ _ (not_full (length s.log) l) ∙ ap (λ o. round_with o s) e
+round-none s l e = cond-false _ _ _ (lt-leb 131072 (length s.log) l) ∙ ap (λ o. round_with o s) e
 
 -- the first that is ready is appended, or dropped
 pub round-some : (s : Settling) (x : Operation) (r : Option Refusal) → length s.log < 131072 → first_ready (clock_of s.log) s.held ≡ Some x → refusal_of s.log x ≡ r
     → round s ≡ appended_or_dropped r x (taken_out s)
-round-some s x r l e f = cond-false _ _ _ (not_full (length s.log) l) ∙ ap (λ o. round_with o s) e ∙ ap (λ o. appended_or_dropped o x (taken_out s)) f
+round-some s x r l e f = cond-false _ _ _ (lt-leb 131072 (length s.log) l) ∙ ap (λ o. round_with o s) e ∙ ap (λ o. appended_or_dropped o x (taken_out s)) f
 
 -- rounds that change nothing
 pub rounds-stay : (n : ℕ) (s : Settling) → round s ≡ s → rounds n s ≡ s

@@ -1,34 +1,21 @@
 -- Operations that go behind a log one after another.
-use Rattle.std.proofs.Common.{◌≡◌, ℕ, zero, suc, ◌+◌, ◌-◌, ◌<◌, ◌≤◌, ◌⊎◌, inl, inr, Bool, true, false, Option, Some, None, List, [], ◌∷◌, ◌++◌, length, take, drop, get_or, refl, ap, ap₂, ◌∙◌, sym, subst, arith, append_assoc, add-one, drop-cons}
-use Rattle.std.specs.Prelude.{nat_le, not, slice_get, if◌then◌else◌}
-use Rattle.std.proofs.lemmas.Bool.{cond-false}
-use Rattle.std.proofs.lemmas.Bool.Decides.{nat_tests}
+use Rattle.std.proofs.Common.{◌≡◌, ℕ, ◌+◌, ◌<◌, ◌≤◌, ◌⊎◌, inl, inr, Some, None, List, [], ◌∷◌, ◌++◌, length, drop, get_or, ap, ◌∙◌, sym, subst, arith, append_assoc}
 use Rattle.std.proofs.lemmas.List.{append-nil, drop_all, length-append, length-drop}
-use Rattle.opid.specs.declared.kind.OpKind.{OpKind}
-use Rattle.opid.specs.declared.kind.OpKind.TheVariants.{Ins, Del}
-use Rattle.opid.specs.declared.stamp.Stamp.{Stamp}
 use Rattle.opid.specs.declared.refusal.Refusal.{Refusal}
-use Rattle.opid.specs.declared.refusal.Refusal.TheVariants.{Full, UnknownElement, NotOlder, Memory}
-use Rattle.opid.specs.Stamps.{is_before}
-use Rattle.opid.specs.Operations.{Operation, stamp_of, has_element}
-use Rattle.opid.specs.Lawful.{GoesOn, IsAllowed, IsLawful, MayFollow}
+use Rattle.opid.specs.declared.refusal.Refusal.TheVariants.{Memory}
+use Rattle.opid.specs.Operations.{Operation}
+use Rattle.opid.specs.Lawful.{IsLawful, MayFollow}
+use Rattle.opid.proofs.Gathered.{rest_at}
+use Rattle.opid.proofs.Logs.{goes_on_after}
 use Rattle.causal_clock.specs.Kinds.{IsOperation}
 use Rattle.replica.specs.Refused.{refusal_of}
 use Rattle.replica.proofs.Lawfully.{accepted-may_follow}
 
 -- ---- operations behind a log
 
-pub goes_on_after : (ops xs ys : List Operation) → GoesOn ops (xs ++ ys) → GoesOn (ops ++ xs) ys
-goes_on_after ops [] ys g = subst (λ r. GoesOn r ys) (sym (append-nil ops)) g
-goes_on_after ops (x ∷ xs) ys g = subst (λ r. GoesOn r ys) (append_assoc ops (x ∷ []) xs) (goes_on_after (ops ++ x ∷ []) xs ys g.1)
-
 -- the first of what may go behind a log may follow it
 first_may_follow : (log : List Operation) (x : Operation) (xs : List Operation) → IsLawful (log ++ x ∷ xs) → MayFollow log x
 first_may_follow log x xs l = (goes_on_after [] log (x ∷ xs) l).0
-
--- the operations that are left, of which this one is the first
-rest_at : {X : Type 0} (xs : List X) (n : ℕ) (x : X) → n < length xs → x ≡ get_or xs n x → drop n xs ≡ x ∷ drop (n + 1) xs
-rest_at xs n x h e = drop-cons xs n x h ∙ ap₂ (λ y ys. y ∷ ys) (sym e) (ap (λ k. drop k xs) (sym (add-one n)))
 
 pub next_may_follow : (first log ops : List Operation) (n : ℕ) (x : Operation) → IsLawful (first ++ ops) → n < length ops → x ≡ get_or ops n x → log ++ drop n ops ≡ first ++ ops → MayFollow log x
 next_may_follow first log ops n x l h e so_far =

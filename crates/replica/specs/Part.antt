@@ -1,4 +1,4 @@
--- A part of a log, as another replica asks for it.
+-- A part of a log, as another replica asks for it; the server's own.
 use Rattle.std.specs.Prelude.{ℕ, ◌==◌, ◌||◌, nat_lt, if◌then◌else◌, Result, Ok, Err, List, length, take, drop}
 use Rattle.opid.specs.declared.refusal.Refusal.{Refusal}
 use Rattle.opid.specs.declared.refusal.Refusal.TheVariants.{BadRange}

@@ -10,11 +10,12 @@ ghost use Rattle.replica.specs.Deliver.{claims_site, deliver, taken_by};
 ghost use Rattle.replica.specs.Kept.{settling_of, HasRoomFor, AreReserved};
 
 use crate::delivery::Delivery;
-use crate::log::{Log, MAX_OPERATIONS};
+use crate::log::Log;
 use crate::settle::{Tally, settle};
 use causal_clock::Op;
 use holdback::{Arrival, Held};
 use opid::{Refusal, Site};
+use versions::MAX_OPERATIONS;
 
 /// Whether the operation claims to be one of the site's own that isn't in its log.
 fn claims_site(site: Site, log: &Log, op: &Op) -> bool
@@ -59,7 +60,7 @@ fn integrate(log: &mut Log, held: &mut Held, room: usize, op: &Op) -> Result<Tal
     ensures lawful { IsLawful log.new.log }
 {
     if room <= held.len() {
-        let left = (MAX_OPERATIONS - log.doc().version()) as usize;
+        let left = MAX_OPERATIONS - log.doc().version() as usize;
         log.reserve(left.min(held.len() + 1))?;
     }
     log.append(op)?;

@@ -11,6 +11,8 @@ mod places;
 mod replica;
 mod settle;
 mod submissions;
+#[cfg(test)]
+mod tests;
 
 pub use delivery::Delivery;
 pub use replica::Replica;

@@ -12,10 +12,7 @@ use causal_clock::Op;
 use opid::{Refusal, Site};
 use std::alloc::Global;
 use std::marker::Model;
-use versions::Doc;
-
-/// At most so many operations are in a log.
-pub(crate) const MAX_OPERATIONS: u32 = 131_072;
+use versions::{Doc, MAX_OPERATIONS};
 
 /// A document, and where its log has the operations of each site.
 #[derive(Drop)]
@@ -85,7 +82,7 @@ impl Log {
         ensures lawful { IsLawful self.new.log }
     {
         let place = self.doc.version();
-        if place >= MAX_OPERATIONS {
+        if place as usize >= MAX_OPERATIONS {
             return Err(Refusal::Full);
         }
         let site = op.site();

@@ -12,7 +12,7 @@ use versions::Doc;
 const MAX_TOLD: u32 = 64;
 
 /// The operations of the log from a place on, at most `max`.
-#[tactic(auto, using(crate::proofs::Parts::part_of_end, crate::proofs::Parts::part_next))]
+#[tactic(auto, using(crate::proofs::Parts::part_of_end, opid::proofs::Gathered::gathered, opid::proofs::Gathered::gathered_all))]
 pub(crate) fn copy_part(alloc: Global, doc: &Doc, after: u32, max: u32) -> Result<Vec<Op>, Refusal>
     ensures ok { IfOk result (λ ops. part_of doc.now.log after max ≡ Ok ops.items) }
     ensures cause { IfErr result (λ e. (part_of doc.now.log after max ≡ Err e) ⊎ (IsOk (part_of doc.now.log after max) × (e ≡ Memory))) }

@@ -10,7 +10,7 @@ ghost use Rattle.replica.specs.Part.{part_of};
 
 use crate::deliver::deliver;
 use crate::delivery::Delivery;
-use crate::log::{Log, MAX_OPERATIONS};
+use crate::log::Log;
 use crate::part::copy_part;
 use crate::submissions::append_all;
 use causal_clock::Op;
@@ -19,7 +19,7 @@ use opid::{Refusal, Site};
 use position_translate::{delete_ops, insert_ops};
 use std::alloc::Global;
 use std::marker::Model;
-use versions::Doc;
+use versions::{Doc, MAX_OPERATIONS};
 
 /// The replica of a site: a lawful log of at most 131,072 operations, and at most 1,024 operations from elsewhere that
 /// are held back until their causal past is there, in order of arrival.
@@ -183,7 +183,7 @@ impl Replica {
         ensures err { OnErr result (self.new ≡ self.old) }
         ensures memory { IfErr result (λ e. e ≡ Memory) }
     {
-        let left = (MAX_OPERATIONS - self.version()) as usize;
+        let left = MAX_OPERATIONS - self.version() as usize;
         let more = MAX_HELD.min(n).saturating_sub(self.held());
         self.log.reserve(left.min(n))?;
         self.held.reserve(more)?;

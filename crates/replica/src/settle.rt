@@ -4,8 +4,9 @@ ghost use Rattle.opid.specs.Lawful.{IsLawful};
 ghost use Rattle.replica.specs.Settle.{round, settle};
 ghost use Rattle.replica.specs.Kept.{settling_of, HasRoomFor, start_of};
 
-use crate::log::{Log, MAX_OPERATIONS};
+use crate::log::Log;
 use holdback::Held;
+use versions::MAX_OPERATIONS;
 
 /// How many operations were integrated, and how many dropped.
 #[derive(Clone, Copy, Debug)]
@@ -30,7 +31,7 @@ fn round(log: &mut Log, held: &mut Held, tally: &mut Tally) -> bool
     ensures held { held.new.room ≡ held.old.room }
     ensures lawful { IsLawful log.new.log }
 {
-    if log.doc().version() >= MAX_OPERATIONS {
+    if log.doc().version() as usize >= MAX_OPERATIONS {
         return false;
     }
     match held.take_first_ready(&log.doc().clock()) {

@@ -3,7 +3,7 @@ ghost use Rattle.std.specs.Prelude.{◌≡◌, ◌≤◌, ◌+◌, ◌-◌, ◌+
 ghost use Rattle.opid.specs.declared.refusal.Refusal.TheVariants.{Memory};
 ghost use Rattle.opid.specs.Lawful.{IsLawful};
 
-use crate::log::{Log, MAX_OPERATIONS};
+use crate::log::Log;
 use causal_clock::Op;
 use opid::Refusal;
 

@@ -1,4 +1,5 @@
--- Why an edit may be refused: for its place, and an insertion also for want of memory.
+-- Why an edit may be refused: for its place, and an insertion also for want of memory;
+-- the server's own.
 use Rattle.std.specs.Prelude.{◌≡◌, ◌⊎◌}
 use Rattle.opid.specs.declared.refusal.Refusal.{Refusal}
 use Rattle.opid.specs.declared.refusal.Refusal.TheVariants.{BadPlace, Memory}

@@ -3,9 +3,9 @@ use Rattle.std.proofs.Common.{◌≡◌, ◌≢◌, ℕ, zero, suc, ◌+◌, ◌
 use Rattle.std.specs.Prelude.{nat_le}
 use Rattle.std.specs.List.{list_any}
 use Rattle.std.proofs.Math.ListN.{length-set}
-use Rattle.std.proofs.lemmas.Bool.{cond-true, cond-false, both_ways, false_from_ne_true, or_left, or_right, or_parts, cases_lt}
-use Rattle.std.proofs.lemmas.Bool.Decides.{nat_tests}
-use Rattle.std.proofs.lemmas.List.{length-append, take-append-le, get_or-set_same, get_or-set_other}
+use Rattle.std.proofs.Math.Bool.{or-false}
+use Rattle.std.proofs.lemmas.Bool.{cond-true, cond-false, both_ways, false_from_ne_true, or_left, or_right, or_parts, cases_lt, le-leb, lt-leb}
+use Rattle.std.proofs.lemmas.List.{length-append, take_all, take-append-le, get_or-set_same, get_or-set_other}
 use Rattle.std.proofs.lemmas.List.Folds.{list_any-append}
 use Rattle.opid.specs.declared.stamp.Stamp.{Stamp}
 use Rattle.opid.specs.declared.kind.OpKind.{OpKind}
@@ -21,12 +21,6 @@ use Rattle.versions.specs.declared.life.Life.{Life}
 use Rattle.versions.specs.Lives.{died_by, life_at, ended_if, ended, AreLives}
 
 -- ---- a log and its beginnings
-
-pub take-past : {X : Type 0} (xs : List X) (v : ℕ) → length xs ≤ v → take v xs ≡ xs
-take-past [] zero h = refl
-take-past [] (suc v) h = refl
-take-past (x ∷ xs) zero h = absurd (omega (arith, h))
-take-past (x ∷ xs) (suc v) h = ap (λ r. x ∷ r) (take-past xs v (omega (arith, h)))
 
 has_element-append : (a b : List Operation) (s : Stamp) → has_element a s ≡ true → has_element (a ++ b) s ≡ true
 has_element-append a b s h = ap (list_any (λ (z : Insertion). is_same s z.stamp)) (insertions-append a b) ∙ list_any-append (λ (z : Insertion). is_same s z.stamp) (insertions a) (insertions b) ∙ or_left _ _ h
@@ -46,7 +40,7 @@ AtVersion log x v = ((v ≤ length log) × (take v (log ++ x ∷ []) ≡ take v 
 
 at_version : (log : List Operation) (x : Operation) (v : ℕ) → AtVersion log x v
 at_version log x v = elim (cases_lt (length log) v) [
-  | inl l ↦ inr (l, take-past (log ++ x ∷ []) v (omega (arith, l, length-append log (x ∷ []))), take-past log v (omega (arith, l)))
+  | inl l ↦ inr (l, take_all v (log ++ x ∷ []) (omega (arith, l, length-append log (x ∷ []))), take_all v log (omega (arith, l)))
   | inr l ↦ inl (l, take-append-le v log (x ∷ []) l)
 ]
 
@@ -114,16 +108,6 @@ life_at-last [] l (suc k) h = absurd (omega (arith, h))
 life_at-last (m ∷ lives) l zero h = absurd (omega (arith, h))
 life_at-last (m ∷ lives) l (suc k) h = life_at-last lives l k (omega (arith, h))
 
-below : (m n : ℕ) → m ≤ n → nat_le m n ≡ true
-below m n h = grind (arith, nat_tests)
-
-above : (m n : ℕ) → n < m → nat_le m n ≡ false
-above m n h = grind (arith, nat_tests)
-
-or_none : (b : Bool) → (b || false) ≡ b
-or_none true = refl
-or_none false = refl
-
 pub insertions-more : (log : List Operation) (x : Operation) (o : Option Stamp) (c : ℕ) → x.kind ≡ Ins o c → insertions (log ++ x ∷ []) ≡ insertions log ++ element_at (stamp_of x) o c ∷ []
 insertions-more log x o c k = insertions-push log x ∙ ap (λ (d : OpKind). insertions log ++ inserted_by (stamp_of x) d) k
 
@@ -131,10 +115,10 @@ pub insertions-kept : (log : List Operation) (x : Operation) (t : Stamp) → x.k
 insertions-kept log x t k = insertions-push log x ∙ ap (λ (d : OpKind). insertions log ++ inserted_by (stamp_of x) d) k ∙ append-nil (insertions log)
 
 pub is_deleted-insertion : (log : List Operation) (x : Operation) (o : Option Stamp) (c : ℕ) (s : Stamp) → x.kind ≡ Ins o c → is_deleted (log ++ x ∷ []) s ≡ is_deleted log s
-is_deleted-insertion log x o c s k = is_deleted-push log x s ∙ ap (λ (d : OpKind). is_deleted log s || list_any (λ t. is_same s t) (targets_of d)) k ∙ or_none (is_deleted log s)
+is_deleted-insertion log x o c s k = is_deleted-push log x s ∙ ap (λ (d : OpKind). is_deleted log s || list_any (λ t. is_same s t) (targets_of d)) k ∙ or-false (is_deleted log s)
 
 pub is_deleted-deletion : (log : List Operation) (x : Operation) (t s : Stamp) → x.kind ≡ Del t → is_deleted (log ++ x ∷ []) s ≡ (is_deleted log s || is_same s t)
-is_deleted-deletion log x t s k = is_deleted-push log x s ∙ ap (λ (d : OpKind). is_deleted log s || list_any (λ t. is_same s t) (targets_of d)) k ∙ ap (λ b. is_deleted log s || b) (or_none (is_same s t))
+is_deleted-deletion log x t s k = is_deleted-push log x s ∙ ap (λ (d : OpKind). is_deleted log s || list_any (λ t. is_same s t) (targets_of d)) k ∙ ap (λ b. is_deleted log s || b) (or-false (is_same s t))
 
 -- the lives with one of an element that is born
 pub AreLives-insertion : (log : List Operation) (lives : List Life) (x : Operation) (o : Option Stamp) (c n : ℕ) → IsSound log → has_element log (stamp_of x) ≡ false → x.kind ≡ Ins o c → n ≡ length log + 1
@@ -165,7 +149,7 @@ AreLives-insertion log lives x o c n sound new k m a = record {
       where
         go : (t : Bool) → has_element log s ≡ t → (has_element log s || (is_same s (stamp_of x) || false)) ≡ true → (has_element log s ≡ true) ⊎ ((has_element log s ≡ false) × (s ≡ stamp_of x))
         go true q r = inl q
-        go false q r = inr (q, is_same-eq s (stamp_of x) (sym (or_none (is_same s (stamp_of x))) ∙ sym (ap (λ b. b || (is_same s (stamp_of x) || false)) q) ∙ r))
+        go false q r = inr (q, is_same-eq s (stamp_of x) (sym (or-false (is_same s (stamp_of x))) ∙ sym (ap (λ b. b || (is_same s (stamp_of x) || false)) q) ∙ r))
 
     place : (s : Stamp) → (has_element log s ≡ true) ⊎ ((has_element log s ≡ false) × (s ≡ stamp_of x))
         → ((has_element log s ≡ true) × (life_at (lives ++ record { born = n; died = None } ∷ []) (place_of s (insertions (log ++ x ∷ []))) ≡ life_at lives (place_of s (insertions log))))
@@ -183,8 +167,8 @@ AreLives-insertion log lives x o c n sound new k m a = record {
 
     since : (s : Stamp) → has_element (log ++ x ∷ []) s ≡ true → has_element log s ≡ false → (v : ℕ) → has_element (take v (log ++ x ∷ [])) s ≡ nat_le n v
     since s h q v = elim (at_version log x v) [
-      | inl b ↦ ap (λ r. has_element r s) b.1 ∙ no_element-take log v s q ∙ sym (above n v (omega (arith, m, b.0)))
-      | inr b ↦ ap (λ r. has_element r s) b.1 ∙ h ∙ sym (below n v (omega (arith, m, b.0)))
+      | inl b ↦ ap (λ r. has_element r s) b.1 ∙ no_element-take log v s q ∙ sym (lt-leb n v (omega (arith, m, b.0)))
+      | inr b ↦ ap (λ r. has_element r s) b.1 ∙ h ∙ sym (le-leb n v (omega (arith, m, b.0)))
     ]
 
 -- the lives once an element is deleted, if it wasn't before
@@ -202,16 +186,16 @@ AreLives-deletion log lives x t n there k m a = go (life_at lives (place_of t (i
     place s = ap (place_of s) (insertions-kept log x t k)
 
     not_target : (s : Stamp) → is_same s t ≡ false → is_deleted (log ++ x ∷ []) s ≡ is_deleted log s
-    not_target s q = is_deleted-deletion log x t s k ∙ ap (λ b. is_deleted log s || b) q ∙ or_none (is_deleted log s)
+    not_target s q = is_deleted-deletion log x t s k ∙ ap (λ b. is_deleted log s || b) q ∙ or-false (is_deleted log s)
 
     target : (s : Stamp) → is_same s t ≡ true → is_deleted (log ++ x ∷ []) s ≡ true
     target s q = is_deleted-deletion log x t s k ∙ or_right (is_deleted log s) _ q
 
     again : (d : ℕ) → (life_at lives (place_of t (insertions log))).died ≡ Some d → is_deleted log t ≡ true
-    again d q = sym (ap (λ r. is_deleted r t) (take-past log (d + length log) (omega arith))) ∙ sym (a.died t there (d + length log)) ∙ ap (died_by (d + length log)) q ∙ below d (d + length log) (omega arith)
+    again d q = sym (ap (λ r. is_deleted r t) (take_all (d + length log) log (omega arith))) ∙ sym (a.died t there (d + length log)) ∙ ap (died_by (d + length log)) q ∙ le-leb d (d + length log) (omega arith)
 
     first : (life_at lives (place_of t (insertions log))).died ≡ None → is_deleted log t ≡ false
-    first q = sym (ap (λ r. is_deleted r t) (take-past log (length log) (omega arith))) ∙ sym (a.died t there (length log)) ∙ ap (died_by (length log)) q
+    first q = sym (ap (λ r. is_deleted r t) (take_all (length log) log (omega arith))) ∙ sym (a.died t there (length log)) ∙ ap (died_by (length log)) q
 
     go : (o : Option ℕ) → (life_at lives (place_of t (insertions log))).died ≡ o → AreLives (log ++ x ∷ []) (ended_if o lives (place_of t (insertions log)) n)
     go (Some d) q = record {
@@ -260,8 +244,8 @@ AreLives-deletion log lives x t n there k m a = go (life_at lives (place_of t (i
             ap (λ (u : Stamp). died_by v (life_at (set lives (place_of t (insertions log)) (record { born = (life_at lives (place_of t (insertions log))).born; died = Some n })) (place_of u (insertions log))).died) same
             ∙ ap (λ (l : Life). died_by v l.died) at_target
             ∙ elim (at_version log x v) [
-              | inl w ↦ above n v (omega (arith, m, w.0)) ∙ sym (ap (λ r. is_deleted r s) w.1 ∙ not_deleted-take log v s (ap (is_deleted log) same ∙ first q))
-              | inr w ↦ below n v (omega (arith, m, w.0)) ∙ sym (ap (λ r. is_deleted r s) w.1 ∙ target s e)
+              | inl w ↦ lt-leb n v (omega (arith, m, w.0)) ∙ sym (ap (λ r. is_deleted r s) w.1 ∙ not_deleted-take log v s (ap (is_deleted log) same ∙ first q))
+              | inr w ↦ le-leb n v (omega (arith, m, w.0)) ∙ sym (ap (λ r. is_deleted r s) w.1 ∙ target s e)
             ]
         death s h v false e =
             ap (λ (l : Life). died_by v l.died) (elsewhere (place_of s (insertions log)) (λ r. both_ways _ e (subst (λ (u : Stamp). is_same s u ≡ true) (place_of-injective s t (insertions log) h there r) (is_same-refl s))))

@@ -5,7 +5,7 @@ use Rattle.std.specs.Prelude.{filter, slice_get}
 use Rattle.std.specs.List.{AllByRecursion as Each, list_any}
 use Rattle.std.proofs.lemmas.Bool.{cond-true, cond-false, both_ways, false_from_ne_true, or_right, or_left}
 use Rattle.std.proofs.lemmas.Bool.Decides.{nat_tests}
-use Rattle.std.proofs.lemmas.List.{length-map}
+use Rattle.std.proofs.lemmas.List.{length-map, take_all}
 use Rattle.std.proofs.lemmas.List.Folds.{list_any-append}
 use Rattle.std.proofs.lemmas.List.Sorted.{length_permutation}
 use Rattle.opid.specs.declared.stamp.Stamp.{Stamp}
@@ -21,12 +21,12 @@ use Rattle.opid.specs.Lawful.{IsSound}
 use Rattle.opid.proofs.Order.{is_same-eq, is_same-refl}
 use Rattle.opid.proofs.Walk.{append-nil}
 use Rattle.opid.proofs.Sound.{element_at, all-permutation, list_any-all, not_deleted-new}
+use Rattle.opid.proofs.Runs.{all-elements}
 use Rattle.rga_list.specs.Entries.{elem_of}
 use Rattle.rga_list.specs.Listed.{entry_for, listed}
 use Rattle.versions.specs.declared.life.Life.{Life}
 use Rattle.versions.specs.Lives.{died_by, life_at, shown_before, deletion_of, AreLives}
-use Rattle.versions.proofs.Versions.{all-elements}
-use Rattle.versions.proofs.Births.{take-past, place_of-injective, place_of-behind, insertions-more, is_deleted-insertion}
+use Rattle.versions.proofs.Births.{place_of-injective, place_of-behind, insertions-more, is_deleted-insertion}
 
 pub length-listed : (ops : List Operation) → IsSound ops → length (listed ops) ≡ length (insertions ops)
 length-listed ops h = length-map (all ops) (entry_for ops) ∙ length_permutation (insertions ops) (all ops) (all-permutation ops h)
@@ -69,10 +69,6 @@ shown_before-listed ops h s e d = go (all ops) (all-elements ops h)
             (subst (λ (u : Stamp). is_same s u ≡ true) (sym (place_of-injective x.stamp s (insertions ops) w.0 e (eqb-true (place_of x.stamp (insertions ops)) (place_of s (insertions ops)) b))) (is_same-refl s))))
             ∙ later (not (is_deleted ops x.stamp)) p ih
 
-or_none : (b : Bool) → (b || false) ≡ b
-or_none true = refl
-or_none false = refl
-
 -- the edit of an insertion
 pub edit-insertion : (log : List Operation) (x : Operation) (o : Option Stamp) (c : ℕ) → IsSound log → IsSound (log ++ x ∷ []) → has_element log (stamp_of x) ≡ false → x.kind ≡ Ins o c
     → changes.Ins (shown_before (length (listed log)) (listed (log ++ x ∷ []))) c ≡ edit_after log x
@@ -114,7 +110,7 @@ pub edit-deletion : (log : List Operation) (lives : List Life) (x : Operation) (
 edit-deletion log lives x t h a e k = go (life_at lives (place_of t (insertions log))).died refl ∙ ap (λ (d : OpKind). edit_of (stamp_of x) d (visible log) (visible (log ++ x ∷ []))) (sym k)
   where
     deleted : is_deleted log t ≡ died_by (length log) (life_at lives (place_of t (insertions log))).died
-    deleted = sym (ap (λ r. is_deleted r t) (take-past log (length log) (omega arith))) ∙ sym (a.died t e (length log))
+    deleted = sym (ap (λ r. is_deleted r t) (take_all (length log) log (omega arith))) ∙ sym (a.died t e (length log))
 
     seen : list_any (λ y. is_same t y.stamp) (visible log) ≡ not (is_deleted log t)
     seen = visible-has log t (all log) ∙ ap (λ b. b && not (is_deleted log t)) (list_any-all log h t ∙ e)
@@ -126,7 +122,7 @@ edit-deletion log lives x t h a e k = go (life_at lives (place_of t (insertions 
     go (Some d) q = sym (cond-false _ _ _ (seen ∙ ap not (gone d q)))
       where
         gone : (d : ℕ) → (life_at lives (place_of t (insertions log))).died ≡ Some d → is_deleted log t ≡ true
-        gone d q = sym (ap (λ r. is_deleted r t) (take-past log (d + length log) (omega arith))) ∙ sym (a.died t e (d + length log)) ∙ ap (died_by (d + length log)) q ∙ later d (length log)
+        gone d q = sym (ap (λ r. is_deleted r t) (take_all (d + length log) log (omega arith))) ∙ sym (a.died t e (d + length log)) ∙ ap (died_by (d + length log)) q ∙ later d (length log)
           where
             later : (d n : ℕ) → died_by (d + n) (Some d) ≡ true
             later d n = grind (arith, nat_tests)

@@ -1,10 +1,11 @@
 -- A document's parts after one more operation, and what its calls are told by them.
-use Rattle.std.proofs.Common.{◌≡◌, ℕ, zero, suc, ◌+◌, ◌<◌, ◌≤◌, Bool, true, false, cond, not, ◌||◌, map, Option, Some, None, List, [], ◌∷◌, ◌++◌, length, set, get_or, sum, refl, ap, ◌∙◌, sym, subst, arith, eqb, eqb-true, eq-eqb, inl, inr, ◌⊎◌}
+use Rattle.std.proofs.Common.{◌≡◌, ℕ, zero, suc, ◌+◌, ◌<◌, ◌≤◌, Bool, true, false, cond, not, map, Option, Some, None, List, [], ◌∷◌, ◌++◌, length, set, get_or, sum, refl, ap, ◌∙◌, sym, subst, arith, eqb, eqb-true, eq-eqb, inl, inr, ◌⊎◌}
 use mathlib.Core.Path.{ap₂}
 use Rattle.std.specs.Prelude.{nat_le, ◌==◌, if◌then◌else◌}
 use Rattle.std.specs.List.{AllByRecursion as Each, list_any, list_all}
 use Rattle.std.proofs.Math.ListN.{length-set}
-use Rattle.std.proofs.lemmas.Bool.{cond-true, cond-false, both_ways, or_cases, and_parts}
+use Rattle.std.proofs.Math.Bool.{or-false}
+use Rattle.std.proofs.lemmas.Bool.{cond-true, cond-false, both_ways, or_cases, and_parts, le-leb, lt-leb}
 use Rattle.std.proofs.lemmas.List.Folds.{list_any-append}
 use Rattle.std.proofs.lemmas.Bool.Decides.{nat_tests}
 use Rattle.std.proofs.lemmas.List.{length-append, get_or-set_same, get_or-set_other}
@@ -24,6 +25,7 @@ use Rattle.opid.specs.Edits.{place_of, edit_after}
 use Rattle.opid.specs.Lawful.{IsAllowed, IsRisingAt, MayFollow, IsLawful, IsSound}
 use Rattle.opid.proofs.Walk.{Each-append, Each-weaker}
 use Rattle.opid.proofs.Logs.{fresh, lawful_induction, IsSound-lawful, IsLawful-push}
+use Rattle.opid.proofs.Runs.{all-elements}
 use Rattle.opid.proofs.Counts.{clock_of-push, sum-clock_of}
 use Rattle.causal_clock.specs.Kinds.{IsOperation}
 use Rattle.rga_list.specs.Entries.{Entry, elem_of, has_stamp, IsAboveItsSite, parent_refusal, refusal_of as list_refusal}
@@ -34,24 +36,17 @@ use Rattle.versions.specs.Causes.{element_refusal, refusal_of}
 use Rattle.versions.specs.Sums.{last_sum_or, last_sum}
 use Rattle.versions.specs.Lives.{life_at, ended, shown_before, deletion_of, AreLives}
 use Rattle.versions.specs.Kept.{AreSums, IsDocument}
-use Rattle.versions.proofs.Versions.{all-elements}
 use Rattle.versions.proofs.Births.{AreLives-insertion, AreLives-deletion}
 use Rattle.versions.proofs.Changes.{length-listed, elem_of-listed, edit-insertion, edit-deletion, edits-push}
 
 -- ---- refusals
 
-below : (m n : ℕ) → m < n → nat_le n m ≡ false
-below m n h = grind (arith, nat_tests)
-
-not_below : (m n : ℕ) → n ≤ m → nat_le n m ≡ true
-not_below m n h = grind (arith, nat_tests)
-
 pub refusal-full : (log : List Operation) (x : Operation) → 131072 ≤ length log → Some Full ≡ refusal_of log x
-refusal-full log x h = sym (cond-true _ _ _ (not_below (length log) 131072 h))
+refusal-full log x h = sym (cond-true _ _ _ (le-leb 131072 (length log) h))
 
 -- what a log below the limit refuses
 pub refusal-few : (log : List Operation) (x : Operation) (k : OpKind) → length log < 131072 → x.kind ≡ k → element_refusal log (stamp_of x) k ≡ refusal_of log x
-refusal-few log x k h e = ap (element_refusal log (stamp_of x)) (sym e) ∙ sym (cond-false _ _ _ (below (length log) 131072 h))
+refusal-few log x k h e = ap (element_refusal log (stamp_of x)) (sym e) ∙ sym (cond-false _ _ _ (lt-leb 131072 (length log) h))
 
 -- whether an element is known, as the list tells it
 pub known : (log : List Operation) (entries : List Entry) (s : Stamp) (r b : Bool) → IsSound log → entries ≡ listed log → r ≡ has_stamp entries s → r ≡ b → has_element log s ≡ b
@@ -87,10 +82,6 @@ may_follow log x o r i a = record { site = o.site; width = o.width; ready = r; r
 
 -- ---- what the list is given
 
-or_none : (b : Bool) → (b || false) ≡ b
-or_none true = refl
-or_none false = refl
-
 insertions_fewer : (log : List Operation) → length (insertions log) ≤ length log
 insertions_fewer [] = omega arith
 insertions_fewer (x ∷ xs) = go x.kind (insertions_fewer xs)
@@ -109,7 +100,7 @@ above_site log x l r = over (all log) (Each-weaker (λ (y : Insertion). has_elem
       where
         here : (k : OpKind) → list_any (λ z. is_same s z.stamp) (inserted_by (stamp_of y) k) ≡ true → s.site ≡ x.site → s.sum < sum x.clock
         here (Ins o c) q e =
-            let same : s ≡ stamp_of y = is_same-eq s (stamp_of y) (sym (or_none (is_same s (stamp_of y))) ∙ q) in
+            let same : s ≡ stamp_of y = is_same-eq s (stamp_of y) (sym (or-false (is_same s (stamp_of y))) ∙ q) in
             omega (arith, r.0 (sym (ap (λ (t : Stamp). t.site) same) ∙ e), ap (λ (t : Stamp). t.sum) same)
         here (Del t) q e = cc
 
@@ -125,7 +116,7 @@ above_site log x l r = over (all log) (Each-weaker (λ (y : Insertion). has_elem
 pub list_accepts : (log : List Operation) (x : Operation) (o : Option Stamp) (c : ℕ) → IsLawful log → refusal_of log x ≡ None → x.kind ≡ Ins o c → list_refusal (listed log) o (stamp_of x) ≡ None
 list_accepts log x o c l a k =
     let both = accepted log x a in
-    cond-false _ _ _ (below (length (listed log)) 131072 (omega (arith, both.0, length-listed log (IsSound-lawful log l), insertions_fewer log)))
+    cond-false _ _ _ (lt-leb 131072 (length (listed log)) (omega (arith, both.0, length-listed log (IsSound-lawful log l), insertions_fewer log)))
     ∙ parent o (subst (IsAllowed log (stamp_of x)) k both.1)
   where
     parent : (o : Option Stamp) → IsAllowed log (stamp_of x) (Ins o c) → parent_refusal (listed log) o (stamp_of x) ≡ None

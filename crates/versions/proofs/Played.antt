@@ -1,10 +1,9 @@
 -- An operation's edit leads from the reading before it to the reading after it.
-use Rattle.std.proofs.Common.{◌≡◌, ℕ, zero, suc, ◌+◌, ◌<◌, ◌≤◌, Bool, true, false, cond, not, ◌&&◌, ◌||◌, Option, Some, None, List, [], ◌∷◌, ◌++◌, map, length, drop, refl, ap, ◌∙◌, sym, subst, arith}
+use Rattle.std.proofs.Common.{◌≡◌, ℕ, zero, suc, ◌+◌, Bool, true, false, cond, not, ◌&&◌, ◌||◌, Option, Some, None, List, [], ◌∷◌, ◌++◌, map, length, drop, refl, ap, ◌∙◌, sym, subst, arith}
 use mathlib.Core.Path.{ap₂}
-use Rattle.std.specs.Prelude.{filter, nat_le, nat_lt, if◌then◌else◌}
+use Rattle.std.specs.Prelude.{filter, if◌then◌else◌}
 use Rattle.std.specs.List.{AllByRecursion as Each, list_any}
-use Rattle.std.proofs.lemmas.Bool.{cond-true, cond-false}
-use Rattle.std.proofs.lemmas.Bool.Decides.{nat_tests}
+use Rattle.std.proofs.lemmas.Bool.{cond-true, cond-false, le-leb, lt-ltb}
 use Rattle.std.proofs.lemmas.List.{length-append, length-map, map-append, take_at, drop_at}
 use Rattle.std.proofs.lemmas.List.Elements.{filter_agree}
 use Rattle.opid.specs.declared.stamp.Stamp.{Stamp}
@@ -19,12 +18,11 @@ use Rattle.opid.specs.Splice.{apply}
 use Rattle.opid.specs.Edits.{place_of, deletion_edit, edit_after}
 use Rattle.opid.specs.Lawful.{AreApart, IsAllowed, IsLawful, IsSound, MayFollow}
 use Rattle.opid.proofs.Order.{is_same-eq, is_same-sym}
-use Rattle.opid.proofs.Walk.{walk}
+use Rattle.opid.proofs.Walk.{walk, Each-filter}
 use Rattle.opid.proofs.Rising.{HasParent}
 use Rattle.opid.proofs.Between.{Between, walk-between, Between-filter}
 use Rattle.opid.proofs.Sound.{op_at, element_at, list_any-all, AreApart-all, all-insertion, all-deletion, IsAllowed-has, not_deleted-new}
 use Rattle.opid.proofs.Logs.{fresh, IsSound-lawful}
-use Rattle.opid.proofs.Runs.{Each-filter}
 use Rattle.versions.proofs.Births.{place_of-behind, is_deleted-insertion, is_deleted-deletion}
 use Rattle.versions.proofs.Changes.{visible-has}
 
@@ -33,11 +31,8 @@ use Rattle.versions.proofs.Changes.{visible-has}
 -- a text with a character put in between two parts
 put_between : (a b : List ℕ) (c k : ℕ) → k ≡ length a → apply (a ++ b) (changes.Ins k c) ≡ Some (a ++ c ∷ b)
 put_between a b c k e =
-    cond-true _ _ _ (within k (length (a ++ b)) (omega (arith, e, length-append a b)))
+    cond-true _ _ _ (le-leb k (length (a ++ b)) (omega (arith, e, length-append a b)))
     ∙ ap₂ (λ (x y : List ℕ). Some (x ++ c ∷ y)) (take_at a b k (sym e)) (drop_at a b k (sym e))
-  where
-    within : (m n : ℕ) → m ≤ n → nat_le m n ≡ true
-    within m n h = grind (arith, nat_tests)
 
 lacks-front : (s : Stamp) (f b : List Insertion) → list_any (λ y. is_same s y.stamp) (f ++ b) ≡ false → list_any (λ y. is_same s y.stamp) f ≡ false
 lacks-front s [] b h = refl
@@ -133,12 +128,9 @@ parted t (x ∷ xs) a h = go (is_same t x.stamp) refl h (parted t xs a.1)
 -- a text with the character between two parts taken out
 taken_between : (a b : List ℕ) (c k : ℕ) → k ≡ length a → apply (a ++ c ∷ b) (changes.Del k) ≡ Some (a ++ b)
 taken_between a b c k e =
-    cond-true _ _ _ (within k (length (a ++ c ∷ b)) (omega (arith, e, length-append a (c ∷ b))))
+    cond-true _ _ _ (lt-ltb k (length (a ++ c ∷ b)) (omega (arith, e, length-append a (c ∷ b))))
     ∙ ap₂ (λ (x y : List ℕ). Some (x ++ y)) (take_at a (c ∷ b) k (sym e)) (behind a k e)
   where
-    within : (m n : ℕ) → m < n → nat_lt m n ≡ true
-    within m n h = grind (arith, nat_tests)
-
     behind : (a : List ℕ) (k : ℕ) → k ≡ length a → drop (suc k) (a ++ c ∷ b) ≡ b
     behind [] zero e = drop_at [] b 0 refl
     behind [] (suc k) e = absurd (omega (arith, e))

@@ -2,15 +2,12 @@
 use Rattle.std.proofs.Common.{◌≡◌, ◌≢◌, ℕ, zero, suc, ◌+◌, ◌<◌, ◌≤◌, Bool, true, false, cond, eqb, eqb-true, eq-eqb, Option, Some, None, List, [], ◌∷◌, ◌++◌, map, length, refl, ap, ◌∙◌, sym, arith, append_assoc}
 use Rattle.std.specs.Prelude.{IfSome, encode_utf8_all, encode_utf8, slice_get, option_map, if◌then◌else◌}
 use Rattle.std.proofs.lemmas.Bool.{cond-true, cond-false, false_from_ne_true}
+use Rattle.std.proofs.lemmas.List.{append-nil}
 use Rattle.opid.specs.declared.stamp.Stamp.{Stamp}
 use Rattle.rga_list.specs.Entries.{Entry, AreOfOwn, first_of, elem_after, entry_of}
 use Rattle.versions.specs.declared.life.Life.{Life}
 use Rattle.versions.specs.Lives.{is_alive, life_at, alive, shown_before}
 use Rattle.versions.proofs.Ways.{Way, Step, start, at_end, further, step_at}
-
-append-none : {X : Type 0} (xs : List X) → xs ++ [] ≡ xs
-append-none [] = refl
-append-none (x ∷ xs) = ap (λ r. x ∷ r) (append-none xs)
 
 -- those visible among the rest, by whether the first is
 alive-rest : (lives : List Life) (v elem : ℕ) (rest later : List Entry) (here : Entry) (t : Bool) → rest ≡ here ∷ later → here.elem ≡ elem → is_alive v (life_at lives elem) ≡ t
@@ -141,7 +138,7 @@ text_past entries lives v next next' count bytes bytes' elem o w a h m e k =
 pub text_end : (entries : List Entry) (lives : List Life) (v : ℕ) (next : Option ℕ) (count : ℕ) (bytes : List ℕ) → TextWay entries lives v next count bytes → length entries ≤ count
     → bytes ≡ encode_utf8_all (map (λ (e : Entry). e.ch) (alive lives v entries))
 text_end entries lives v next count bytes w h =
-    sym (w.left ∙ ap (λ (r : List Entry). bytes ++ encode_utf8_all (map (λ (y : Entry). y.ch) (alive lives v r))) (at_end entries next count w.way h) ∙ append-none bytes)
+    sym (w.left ∙ ap (λ (r : List Entry). bytes ++ encode_utf8_all (map (λ (y : Entry). y.ch) (alive lives v r))) (at_end entries next count w.way h) ∙ append-nil bytes)
 
 -- ---- how many that are shown stand before one
 

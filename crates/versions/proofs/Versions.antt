@@ -2,20 +2,18 @@
 use Rattle.std.proofs.Common.{◌≡◌, ℕ, zero, suc, Bool, true, false, cond, not, ◌&&◌, List, [], ◌∷◌, map, length, take, drop, refl, ap, ◌∙◌, sym, subst, take-append-drop}
 use mathlib.Core.Path.{ap₂}
 use Rattle.std.specs.Prelude.{filter, slice_get, option_map, Contains}
-use Rattle.std.specs.List.{AllByRecursion as Each, list_any}
+use Rattle.std.specs.List.{AllByRecursion as Each}
 use Rattle.std.proofs.lemmas.List.{length-map}
 use Rattle.std.proofs.lemmas.List.Elements.{Contains-append_left}
-use Rattle.opid.specs.Stamps.{is_same}
 use Rattle.opid.specs.Operations.{Operation, Insertion, insertions, has_element, is_deleted}
 use Rattle.opid.specs.Tree.{all}
 use Rattle.opid.specs.Reading.{visible_at, reading_at}
 use Rattle.opid.specs.Edits.{place_of}
-use Rattle.opid.specs.Lawful.{IsLawful, IsSound, IsPart}
+use Rattle.opid.specs.Lawful.{IsLawful, IsPart}
 use Rattle.opid.proofs.Walk.{Each-weaker}
-use Rattle.opid.proofs.Sound.{list_any-all}
 use Rattle.opid.proofs.Logs.{IsSound-lawful, IsLawful-take}
 use Rattle.opid.proofs.Orders.{visible-part}
-use Rattle.opid.proofs.Runs.{Each-member}
+use Rattle.opid.proofs.Runs.{all-elements}
 use Rattle.rga_list.specs.Entries.{Entry}
 use Rattle.rga_list.specs.Listed.{entry_for, listed}
 use Rattle.versions.specs.declared.life.Life.{Life}
@@ -35,12 +33,6 @@ filter-map p f (x ∷ xs) = go (p (f x)) (filter-map p f xs)
     go : (t : Bool) → filter p (map f xs) ≡ map f (filter (λ x. p (f x)) xs) → cond t (f x ∷ filter p (map f xs)) (filter p (map f xs)) ≡ map f (cond t (x ∷ filter (λ x. p (f x)) xs) (filter (λ x. p (f x)) xs))
     go true ih = ap (λ r. f x ∷ r) ih
     go false ih = ih
-
--- each of the elements in the one order is an element
-pub all-elements : (log : List Operation) → IsSound log → Each (λ x. has_element log x.stamp ≡ true) (all log)
-all-elements log h =
-    Each-weaker (λ (x : Insertion). list_any (λ z. is_same x.stamp z.stamp) (all log) ≡ true) (λ x. has_element log x.stamp ≡ true)
-    (λ x m. sym (list_any-all log h x.stamp) ∙ m) (all log) (Each-member (all log))
 
 -- the entries that are visible in a version
 pub alive-listed : (log : List Operation) (lives : List Life) (v : ℕ) → IsLawful log → AreLives log lives → alive lives v (listed log) ≡ map (entry_for log) (visible_at log v)

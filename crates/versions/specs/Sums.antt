@@ -1,4 +1,4 @@
--- The sum of each site's last operation in a log.
+-- The sum of each site's last operation in a log (Roh and others 2011: a site's stamps rise).
 use Rattle.std.specs.Prelude.{ℕ, ◌==◌, if◌then◌else◌, List, [], ◌∷◌, sum}
 use Rattle.opid.specs.Operations.{Operation}
 

@@ -1,5 +1,5 @@
 //! The text of a version.
-ghost use Rattle.std.specs.Prelude.{◌≡◌, encode_utf8_all, string_bytes, length};
+ghost use Rattle.std.specs.Prelude.{◌≡◌, encode_utf8_all, string_bytes};
 ghost use Rattle.std.specs.Str.{chars};
 
 use std::alloc::AllocError;
@@ -38,24 +38,19 @@ impl Characters {
         Characters { text }
     }
 
-    /// How many characters there are. Linear in the length.
-    pub fn len(&self) -> usize
-        ensures { result ≡ length self.now }
-    {
-        count_of(self.text.as_str())
-    }
-
-    /// The characters in UTF-8.
+    /// The characters in UTF-8. Constant time.
     pub fn as_str(&self) -> &str
         ensures bytes { result.now ≡ encode_utf8_all self.now }
         ensures value { chars result.now ≡ self.now }
     {
         self.text.as_str()
     }
-}
 
-fn count_of(text: &str) -> usize
-    ensures { result ≡ length (chars text.now) }
-{
-    text.chars().count()
+    /// The text. Takes no memory.
+    pub fn into_string(self) -> String
+        ensures { chars (string_bytes result) ≡ self }
+    {
+        let Characters { text } = self;
+        text
+    }
 }

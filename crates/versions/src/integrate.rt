@@ -23,7 +23,7 @@ use opid::{Edit, OpKind, Refusal, Stamp};
 use rga_list::Rga;
 
 /// At most so many operations are in a log.
-pub(crate) const MAX_OPERATIONS: usize = 131_072;
+pub const MAX_OPERATIONS: usize = 131_072;
 
 /// How many sites there are.
 pub(crate) const SITES: usize = 32;

@@ -12,6 +12,7 @@ mod scan;
 
 pub use characters::Characters;
 pub use doc::Doc;
+pub use integrate::MAX_OPERATIONS;
 
 #[cfg(test)]
 mod plain;
