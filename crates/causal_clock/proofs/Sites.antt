@@ -5,12 +5,7 @@ use Rattle.std.specs.List.{range_with_len, list_all}
 use Rattle.std.proofs.lemmas.Bool.{false_from_ne_true}
 use Rattle.std.proofs.lemmas.Bool.Decides.{nat_tests}
 use Rattle.opid.specs.Clocks.{sites, entry, covers_others}
-
-pub list_all-range : (f : ℕ → Bool) (a n : ℕ) → ((k : ℕ) → k < n → f (a + k) ≡ true) → list_all f (range_with_len a n) ≡ true
-list_all-range f a zero h = refl
-list_all-range f a (suc n) h =
-    ap (λ b. b && list_all f (range_with_len (a + 1) n)) (subst (λ k. f k ≡ true) (omega arith) (h 0 (omega arith)))
-    ∙ list_all-range f (a + 1) n (λ k l. let e : a + (k + 1) ≡ (a + 1) + k = omega arith in subst (λ j. f j ≡ true) e (h (k + 1) (omega arith)))
+use Rattle.opid.proofs.Counts.{each_site}
 
 and_false : (b : Bool) → (b && false) ≡ false
 and_false true = refl
@@ -31,7 +26,7 @@ pub covered : (own o : ℕ) (xs ys a b : List ℕ) → own ≡ o → xs ≡ a �
 unfolding sites
 covered own o xs ys a b e f g h =
     subst (λ v. true ≡ covers_others v a b) e (subst (λ v. true ≡ covers_others own v b) f (subst (λ v. true ≡ covers_others own xs v) g
-    (sym (list_all-range (λ k. k == own || nat_le (entry xs k) (entry ys k)) 0 32 (λ k l. let e : k ≡ 0 + k = omega arith in subst (λ j. (j == own || nat_le (entry xs j) (entry ys j)) ≡ true) e (h k l))))))
+    (sym (each_site (λ k. k == own || nat_le (entry xs k) (entry ys k)) 0 32 (λ k l. let e : k ≡ 0 + k = omega arith in subst (λ j. (j == own || nat_le (entry xs j) (entry ys j)) ≡ true) e (h k l))))))
 
 pub not_covered : (own o : ℕ) (xs ys a b : List ℕ) (k : ℕ) → own ≡ o → xs ≡ a → ys ≡ b → k < 32 → (k ≡ own → ⊥) → entry ys k < entry xs k → false ≡ covers_others o a b
 unfolding sites

@@ -78,7 +78,7 @@ at_site p a zero i h b = absurd (omega (arith, b))
 at_site p a (suc n) zero h b = subst (λ j. p j ≡ true) (omega arith) (and_parts (p a) (list_all p (range_with_len (a + 1) n)) h).0
 at_site p a (suc n) (suc i) h b = subst (λ j. p j ≡ true) (omega arith) (at_site p (a + 1) n i (and_parts (p a) (list_all p (range_with_len (a + 1) n)) h).1 (omega (arith, b)))
 
-each_site : (p : ℕ → Bool) (a n : ℕ) → ((i : ℕ) → i < n → p (a + i) ≡ true) → list_all p (range_with_len a n) ≡ true
+pub each_site : (p : ℕ → Bool) (a n : ℕ) → ((i : ℕ) → i < n → p (a + i) ≡ true) → list_all p (range_with_len a n) ≡ true
 each_site p a zero f = refl
 each_site p a (suc n) f = both (p a) _ (subst (λ j. p j ≡ true) (omega arith) (f 0 (omega arith))) (each_site p (a + 1) n (λ i b. subst (λ j. p j ≡ true) (omega arith) (f (suc i) (omega (arith, b)))))
   where

@@ -10,7 +10,7 @@ use Rattle.rga_list.specs.Rows.{find_id, AreRising, IsGreatest}
 eqb-self : (a : ℕ) → eqb a a ≡ true
 eqb-self a = eq-eqb a a refl
 
-eqb-differs : (a b : ℕ) → (a ≡ b → ⊥) → eqb a b ≡ false
+pub eqb-differs : (a b : ℕ) → (a ≡ b → ⊥) → eqb a b ≡ false
 eqb-differs a b d = false_from_ne_true (eqb a b) (λ e. d (eqb-true a b e))
 
 Each-push : {X : Type 0} (P : X → Type 0) (xs : List X) (y : X) → Each P xs → P y → Each P (xs ++ y ∷ [])

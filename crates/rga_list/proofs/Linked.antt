@@ -67,7 +67,7 @@ pub map-agree : (f g : ℕ → Entry) (xs : List ℕ) → Each (λ i. f i ≡ g 
 map-agree f g [] h = refl
 map-agree f g (x ∷ xs) h = ap₂ (λ (v : Entry) w. v ∷ w) h.0 (map-agree f g xs h.1)
 
-map-append : (f : ℕ → Entry) (xs ys : List ℕ) → map f (xs ++ ys) ≡ map f xs ++ map f ys
+pub map-append : (f : ℕ → Entry) (xs ys : List ℕ) → map f (xs ++ ys) ≡ map f xs ++ map f ys
 map-append f [] ys = refl
 map-append f (x ∷ xs) ys = ap (λ r. f x ∷ r) (map-append f xs ys)
 

@@ -1,5 +1,5 @@
 -- What is read along the linked order: elements by stamp and by number, and the one after each.
-use Rattle.std.proofs.Common.{◌≡◌, ◌≢◌, ℕ, suc, ◌<◌, ◌≤◌, ◌⊎◌, inl, inr, Bool, true, false, cond, ◌||◌, eqb, eqb-true, eq-eqb, Option, Some, None, List, [], ◌∷◌, map, length, refl, ap, ◌∙◌, sym, subst, arith, get_or, IfSome}
+use Rattle.std.proofs.Common.{◌≡◌, ◌≢◌, ℕ, suc, ◌<◌, ◌≤◌, ◌⊎◌, inl, inr, Bool, true, false, cond, ◌||◌, eqb, eq-eqb, Option, Some, None, List, [], ◌∷◌, map, length, refl, ap, ◌∙◌, sym, subst, arith, get_or, IfSome}
 use Rattle.std.specs.List.{AllByRecursion as Each}
 use Rattle.std.proofs.lemmas.Bool.{cases_eq, cond-true, cond-false, false_from_ne_true, both_ways}
 use Rattle.std.proofs.lemmas.List.{get_or_default}
@@ -10,11 +10,8 @@ use Rattle.rga_list.specs.declared.links.Node.{Node}
 use Rattle.rga_list.specs.Entries.{Entry, has_stamp, elem_of, entry_of, first_of, elem_after, next_of, IsAboveItsSite, IsGreatestOf}
 use Rattle.rga_list.specs.Rows.{Row, find_id, IsGreatest}
 use Rattle.rga_list.specs.Links.{blank, node_at, order_of, entry_at, entries_of, Leads, IsOneOf, IsLinked, row_at, named, AreNamed, IsList}
-use Rattle.rga_list.proofs.Identifiers.{Each-found, found-Each}
+use Rattle.rga_list.proofs.Identifiers.{eqb-differs, Each-found, found-Each}
 use Rattle.rga_list.proofs.Linked.{Leads-within}
-
-eqb-differs : (a b : ℕ) → (a ≡ b → ⊥) → eqb a b ≡ false
-eqb-differs a b d = false_from_ne_true (eqb a b) (λ e. d (eqb-true a b e))
 
 -- every place of the order is within
 pub order-within : (nodes : List Node) (first : Option ℕ) → IsLinked nodes first → Each (λ i. i < length nodes) (order_of nodes first)

@@ -10,7 +10,7 @@ use Rattle.opid.proofs.Order.{is_same-eq, is_same-sym}
 use Rattle.rga_list.specs.declared.links.Node.{Node}
 use Rattle.rga_list.specs.Entries.{Entry, stand, stand_after, placed}
 use Rattle.rga_list.specs.Links.{blank, node_at, order_of, entry_at, entries_of, Leads, AreOnce, IsOneOf, IsLinked, AreApart, Walked, StopsAt, Ends, last_of}
-use Rattle.rga_list.proofs.Linked.{Leads-join, Leads-split, Leads-within, Leads-at_head, Leads-behind, put_between}
+use Rattle.rga_list.proofs.Linked.{Leads-join, Leads-split, Leads-within, Leads-at_head, Leads-behind, put_between, map-append}
 
 -- where the walk starts: at the head, or behind the parent, which has a smaller stamp
 abbrev pub Starts : List Node → Option ℕ → Stamp → Option Stamp → Option ℕ → Option ℕ → Type 0
@@ -99,10 +99,6 @@ stand_after-found p x nodes [] k r a e = cond-true _ _ _ e
 stand_after-found p x nodes (i ∷ is) k r a e =
     cond-false _ _ _ (subst (λ v. is_same v (node_at nodes i).stamp ≡ false) (sym (is_same-eq p (node_at nodes k).stamp e)) (is_same-sym (node_at nodes k).stamp (node_at nodes i).stamp ∙ missed (node_at nodes i).stamp nodes is k r a.0))
     ∙ ap (λ v. entry_at nodes i ∷ v) (stand_after-found p x nodes is k r a.1 e)
-
-map-append : (f : ℕ → Entry) (xs ys : List ℕ) → map f (xs ++ ys) ≡ map f xs ++ map f ys
-map-append f [] ys = refl
-map-append f (x ∷ xs) ys = ap (λ r. f x ∷ r) (map-append f xs ys)
 
 last_of-append : (b : Option ℕ) (xs ys : List ℕ) → last_of b (xs ++ ys) ≡ last_of (last_of b xs) ys
 last_of-append b [] ys = refl

@@ -2,7 +2,7 @@
 use Rattle.std.proofs.Common.{◌≡◌, ℕ, suc, ◌+◌, Bool, true, false, cond, not, ◌||◌, Option, Some, None, List, [], ◌∷◌, ◌++◌, map, length, refl, ap, ◌∙◌, sym, subst, arith}
 use mathlib.Core.Path.{ap₂}
 use Rattle.std.specs.List.{AllByRecursion as Each, list_any}
-use Rattle.std.proofs.lemmas.Bool.{cond-true, cond-false, or_left, or_right, or_parts}
+use Rattle.std.proofs.lemmas.Bool.{cond-true, cond-false, or_parts}
 use Rattle.std.proofs.lemmas.List.Sorted.{length_permutation}
 use Rattle.opid.specs.declared.stamp.Stamp.{Stamp}
 use Rattle.opid.specs.declared.kind.OpKind.TheVariants.{Ins, Del}
@@ -13,6 +13,7 @@ use Rattle.opid.specs.Edits.{place_of}
 use Rattle.opid.specs.Lawful.{IsAllowed, IsSound, AreApart}
 use Rattle.opid.proofs.Order.{is_same-refl, is_same-sym}
 use Rattle.opid.proofs.Walk.{walk, Each-append, Each-weaker, append-nil, stand as stand_among, stand_after as stand_after_among}
+use Rattle.opid.proofs.Runs.{all-elements}
 use Rattle.opid.proofs.Sound.{op_at, element_at, insertions-push, is_deleted-push, all-permutation, list_any-all, not_deleted-new, all-insertion, all-deletion, IsAllowed-push, IsSound-push}
 use Rattle.rga_list.specs.Entries.{Entry, stand, stand_after, placed, has_stamp, IsAboveItsSite, parent_refusal, hidden}
 use Rattle.rga_list.specs.Listed.{entry_for, listed}
@@ -47,18 +48,6 @@ has_stamp-listed ops h s = go (all ops) ∙ list_any-all ops h s
     go : (xs : List Insertion) → has_stamp (map (entry_for ops) xs) s ≡ list_any (λ x. is_same s x.stamp) xs
     go [] = refl
     go (x ∷ xs) = ap (λ r. is_same s x.stamp || r) (go xs)
-
--- each of a list's elements is in the list
-each_there : (xs : List Insertion) → Each (λ y. list_any (λ z. is_same y.stamp z.stamp) xs ≡ true) xs
-each_there [] = tt
-each_there (x ∷ xs) = (
-  or_left _ _ (is_same-refl x.stamp),
-  Each-weaker (λ y. list_any (λ z. is_same y.stamp z.stamp) xs ≡ true) (λ y. list_any (λ z. is_same y.stamp z.stamp) (x ∷ xs) ≡ true) (λ y h. or_right (is_same y.stamp x.stamp) _ h) xs (each_there xs),
-)
-
-all-elements : (ops : List Operation) → IsSound ops → Each (λ y. has_element ops y.stamp ≡ true) (all ops)
-all-elements ops h =
-    Each-weaker (λ y. list_any (λ z. is_same y.stamp z.stamp) (all ops) ≡ true) (λ y. has_element ops y.stamp ≡ true) (λ y k. sym (list_any-all ops h y.stamp) ∙ k) (all ops) (each_there (all ops))
 
 -- a place among the insertions stays when more arrive
 place_of-append : (s : Stamp) (xs ys : List Insertion) → list_any (λ x. is_same s x.stamp) xs ≡ true → place_of s (xs ++ ys) ≡ place_of s xs
