@@ -7,14 +7,11 @@ ghost use Rattle.causal_clock.specs.Kinds.{IsClock};
 ghost use Rattle.causal_clock.specs.Listing.{IsListing, clock_with};
 
 use crate::op::Op;
-use opid::{Refusal, Site};
+use opid::{Refusal, SITES, Site};
 use std::marker::Model;
 
 /// The greatest sum of a clock, as a log has at most so many operations.
 pub const MAX_SUM: u32 = 131_072;
-
-/// How many sites there are.
-const SITES: usize = 32;
 
 /// For each of 32 sites, how many of its operations are known. The counts' sum is at most 131,072.
 #[derive(Clone, Copy, Debug, PartialEq, Eq)]

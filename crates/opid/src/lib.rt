@@ -13,5 +13,5 @@ pub mod worked;
 pub use edit::Edit;
 pub use kind::OpKind;
 pub use refusal::Refusal;
-pub use site::Site;
+pub use site::{SITES, Site};
 pub use stamp::Stamp;

@@ -5,6 +5,9 @@ ghost use Rattle.opid.specs.declared.refusal.Refusal.TheVariants.{BadSite};
 use crate::refusal::Refusal;
 use std::marker::Model;
 
+/// How many sites there are. Each has a number below it.
+pub const SITES: usize = 32;
+
 /// The number of a site, 0 to 31: whoever makes operations has one of its own.
 #[derive(Clone, Copy, Debug, PartialEq, Eq, PartialOrd, Ord)]
 pub struct Site {

@@ -4,13 +4,10 @@ ghost use Rattle.std.specs.List.{AllByRecursion};
 ghost use Rattle.opid.specs.declared.refusal.Refusal.TheVariants.{Memory};
 ghost use Rattle.replica.specs.Numbered.{row_at};
 
-use opid::{Refusal, Site};
+use opid::{Refusal, SITES, Site};
 use std::alloc::Global;
 use std::array;
 use std::marker::Model;
-
-/// How many sites there are.
-const SITES: usize = 32;
 
 /// The places of one site's operations, in rising order.
 #[derive(Drop)]

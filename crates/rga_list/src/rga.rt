@@ -12,16 +12,13 @@ ghost use Rattle.rga_list.specs.Listed.{listed};
 
 use crate::links::{Elem, Node, after, link, walk};
 use crate::table::SiteTable;
-use opid::{Refusal, Site, Stamp};
+use opid::{Refusal, SITES, Site, Stamp};
 use std::alloc::Global;
 use std::array;
 use std::marker::Model;
 
 /// The most elements of a list.
 pub const LIMIT: usize = 131_072;
-
-/// How many sites there are.
-const SITES: usize = 32;
 
 /// Where an element was put in: the element itself, and the one right before it (`None`: it is the first).
 #[derive(Clone, Copy, Debug, PartialEq, Eq)]

@@ -1,4 +1,5 @@
--- What the calls of a counted reader or writer do to the bytes that it has left or holds, and how the numbers of failures rise.
+-- What the calls of a counted reader or writer do to the bytes that it has left or holds, and how the numbers of failures rise;
+-- the server's own.
 use Rattle.std.specs.Prelude.{◌≡◌, ℕ, ◌<◌, ◌≤◌, List, ◌++◌, length, take, Bool, true, false, Option, None, Some, Result, Ok, Err, ◌+◌}
 use Rattle.rgatext.specs.declared.engine.ServeFault.{ServeFault}
 use Rattle.rgatext.specs.declared.engine.ServeFault.TheVariants.{Read, Write, Memory}

@@ -1,4 +1,4 @@
--- Bytes cut at LF, which is the byte 10.
+-- Bytes cut at LF, which is the byte 10: the server's own channel.
 use Rattle.std.specs.Prelude.{◌≢◌, ◌==◌, ℕ, List, [], ◌∷◌, ◌++◌, if◌then◌else◌, All}
 use Rattle.std.specs.List.{onto_first}
 

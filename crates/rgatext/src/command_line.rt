@@ -12,7 +12,8 @@ use std::alloc::{AllocError, Global};
 /// The plan that the words ask for, of which the first is the program's own name.
 ///
 /// `lines` serves standard input; `--site N` gives the room's site, 0 to 31, or 0 where it isn't given. `--help` and
-/// `help`, also after `lines`, are answered by `Help`; all other words by `Words`.
+/// `help`, also after `lines`, are answered by `Help`; all other words by `Words`, which says what is wrong with them;
+/// want of memory by `Memory`. Takes time and memory in proportion to the words.
 pub fn plan(alloc: Global, words: &[String]) -> Result<Plan, PlanFault>
     ensures planned { IfOk result (λ made. Asks (subcommand_of rgatext (map string_bytes words.now)) made) }
     ensures refused { IfErr result (Refuses (fault_of rgatext (map string_bytes words.now))

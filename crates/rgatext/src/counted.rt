@@ -15,7 +15,7 @@ pub struct Counted<T> {
 }
 
 impl<T> Counted<T> {
-    /// Counts the failures of a reader or writer, from 0 on.
+    /// Counts the failures of a reader or writer, from 0 on. Constant time.
     pub fn new(inner: T) -> Self
         ensures inner { result.inner ≡ inner }
         ensures none_failed { result.failures ≡ 0 }
@@ -27,14 +27,14 @@ impl<T> Counted<T> {
         }
     }
 
-    /// How many calls failed, or wrote 0 bytes.
+    /// How many calls failed, or wrote 0 bytes. Constant time.
     pub fn failures(&self) -> u64
         ensures { result ≡ self.now.failures }
     {
         self.failures
     }
 
-    /// The reader or writer.
+    /// The reader or writer. Constant time.
     pub fn into_inner(self) -> T
         ensures { result ≡ self.inner }
     {
@@ -50,7 +50,8 @@ impl<T> Counted<T> {
 impl<R: Read> Counted<R> {
     /// One read: how many bytes it gave, 0 at the end alone, or `None` where it failed.
     ///
-    /// After 2^64 - 1 reads each further one fails, and is counted: so a reader that never ends is left at last.
+    /// After 2^64 - 1 reads each further one fails, and is counted: so a reader that never ends is left at last. Takes
+    /// the time of one call of the reader.
     pub fn read(&mut self, buf: &mut [u8]) -> Option<usize>
         requires room { 0 < length buf.old }
         requires few_failed { self.old.failures < 2 ^ 63 }
@@ -74,7 +75,8 @@ impl<R: Read> Counted<R> {
 }
 
 impl<W: Write> Counted<W> {
-    /// One write: how many bytes it took, or `None` where it failed or took none.
+    /// One write: how many bytes it took, or `None` where it failed or took none. Takes the time of one call of the
+    /// writer.
     pub fn write(&mut self, buf: &[u8]) -> Option<usize>
         requires few_failed { self.old.failures < 2 ^ 63 }
         ensures took { WriteTook (W.contents self.old.inner) (W.contents self.new.inner) result buf.now }
@@ -94,7 +96,8 @@ impl<W: Write> Counted<W> {
         }
     }
 
-    /// Writes all the bytes, in one call where the writer takes them whole. `false` where a call failed.
+    /// Writes all the bytes, in one call where the writer takes them whole. `false` where a call failed or took none:
+    /// then some of the bytes may be written. Makes at most as many calls as there are bytes.
     pub fn write_all(&mut self, bytes: &[u8]) -> bool
         requires few_failed { self.old.failures < 2 ^ 63 }
         ensures wrote { WroteAll (W.contents self.old.inner) (W.contents self.new.inner) result bytes.now }

@@ -1,7 +1,7 @@
 //! The line engine: a reply line for each line of the input, over any desk, reader and writer.
 ghost use Rattle.std.specs.Prelude.{◌≡◌, ℕ, ◌+◌, ◌^◌, ◌<◌, ◌≤◌, List, [], ◌++◌, ◌∷◌, true, MatchResult, MatchBool, IfOk, IfErr, OnOk, OnErr, IsOk, IsTrue, IsErrOf, Ok, Err};
 ghost use Rattle.std.specs.Io.KnownBytes.{Appends, Consumes, IsAtEnd, Keeps};
-ghost use Rattle.opid.specs.declared.refusal.Refusal.TheVariants.{TooLong};
+ghost use Rattle.opid.specs.declared.refusal.Refusal.TheVariants.{TooLong, Memory as NoMemory};
 ghost use Rattle.room.specs.declared.reply.Reply.TheVariants.{No};
 ghost use Rattle.wire_json.specs.Text.{text};
 ghost use Rattle.rgatext.specs.Lines.{ended};
@@ -15,7 +15,7 @@ use crate::fixed::refusal_line;
 use crate::window::{Next, Window, next_line};
 use opid::Refusal;
 use room::{Desk, DeskFault, Reply};
-use std::alloc::{AllocError, Global};
+use std::alloc::Global;
 use std::io::{Read, Write};
 use thiserror::Error;
 use wire_json::{read_request, write_reply};
@@ -53,8 +53,9 @@ impl Line {
 }
 
 // The line for a reply.
-fn reply_line(alloc: Global, reply: &Reply) -> Result<Line, AllocError>
-    ensures { IfOk result (λ made. line_bytes made ≡ ended (text reply.now)) }
+fn reply_line(alloc: Global, reply: &Reply) -> Result<Line, Refusal>
+    ensures line { IfOk result (λ made. line_bytes made ≡ ended (text reply.now)) }
+    ensures memory { IfErr result (λ e. e ≡ NoMemory) }
 {
     if let Reply::No(why) = reply {
         return Ok(Line::Fixed(refusal_line(*why)));
@@ -65,8 +66,9 @@ fn reply_line(alloc: Global, reply: &Reply) -> Result<Line, AllocError>
 }
 
 // The line for what the desk answered.
-fn told(alloc: Global, done: Result<Reply, DeskFault>) -> Result<Line, AllocError>
-    ensures { IfOk result (λ made. line_bytes made ≡ ended (text (reply_of done))) }
+fn told(alloc: Global, done: Result<Reply, DeskFault>) -> Result<Line, Refusal>
+    ensures line { IfOk result (λ made. line_bytes made ≡ ended (text (reply_of done))) }
+    ensures memory { IfErr result (λ e. e ≡ NoMemory) }
 {
     match done {
         Ok(reply) => reply_line(alloc, &reply),
@@ -76,10 +78,11 @@ fn told(alloc: Global, done: Result<Reply, DeskFault>) -> Result<Line, AllocErro
 }
 
 // What is written for one line. An `Err` is for want of memory; what the desk did stays.
-fn answer<D: Desk>(alloc: Global, desk: &mut D, line: &[u8]) -> Result<Line, AllocError>
+fn answer<D: Desk>(alloc: Global, desk: &mut D, line: &[u8]) -> Result<Line, Refusal>
     requires ready { D.ready desk.old }
     ensures ready { D.ready desk.new }
     ensures answered { (text : List ℕ) × Answers D.step D.fault desk.old line.now text desk.new × IfOk result (λ made. line_bytes made ≡ ended text) }
+    ensures memory { IfErr result (λ e. e ≡ NoMemory) }
 {
     match read_request(alloc, line) {
         Ok(call) => {

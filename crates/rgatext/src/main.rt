@@ -7,6 +7,8 @@ mod command_line;
 mod conversations;
 mod counted;
 mod engine;
+#[cfg(test)]
+mod exchanges;
 mod fixed;
 mod plan;
 mod play;

@@ -15,7 +15,7 @@ impl Plan {
     ghost use Rattle.std.specs.Prelude.{◌≡◌};
     ghost use Rattle.rgatext.specs.Played.{site_of};
 
-    /// The site of the room that is served.
+    /// The site of the room that is served. Constant time.
     pub fn site(self) -> Site
         ensures { result ≡ site_of self }
     {

@@ -21,6 +21,10 @@ pub enum Stop {
 }
 
 /// Runs the plan from the reader to the writer. `lines` serves an empty room of its site.
+///
+/// After an `Err` the engine met the fault that it tells, as `serve_lines` says: a read or a write failed, or memory
+/// was refused. Takes the time of the engine and of the calls that the lines ask for, and memory for the engine's
+/// buffer and for the room.
 pub fn play<R: Read, W: Write>(
     alloc: Global,
     plan: &Plan,

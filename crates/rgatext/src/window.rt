@@ -9,9 +9,7 @@ use memchr::memchr;
 use std::alloc::{AllocError, Global};
 use std::io::Read;
 use std::marker::Model;
-
-// The longest line that is served, in bytes, without its LF.
-const LIMIT: usize = 65_536;
+use wire_json::MAX_REQUEST_BYTES;
 
 // The buffer has room for a longest line and as much again, so that each read is of a large block.
 const ROOM: usize = 131_072;
@@ -114,7 +112,7 @@ fn moved_start(buf: &mut Vec<u8>, start: usize, len: usize) -> usize
     ensures size { length buf.new.items ≡ 131072 }
     ensures room { result + len < 131072 }
 {
-    if start + len <= LIMIT {
+    if start + len <= MAX_REQUEST_BYTES {
         return start;
     }
     buf.copy_within(start..start + len, 0);
@@ -157,14 +155,14 @@ pub(crate) fn next_line<R: Read>(window: &mut Window, input: &mut Counted<R>) ->
     let mut seen = 0;
     'lines: loop {
         if let Some(at) = find_end(window.bytes(), seen) {
-            if at <= LIMIT {
+            if at <= MAX_REQUEST_BYTES {
                 return Some(Next::Line(at));
             }
             window.advance(at + 1);
             return Some(Next::Long);
         }
         seen = window.len();
-        if seen > LIMIT {
+        if seen > MAX_REQUEST_BYTES {
             window.clear();
             return skip_line(window, input);
         }

@@ -1,6 +1,5 @@
 pub mod Histories
 pub mod Accepted
-pub mod Gathered
 pub mod Handing
 pub mod Replied
 pub mod Playing

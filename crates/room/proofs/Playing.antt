@@ -11,7 +11,7 @@ use Rattle.opid.specs.Lawful.{GoesOn, IsLawful}
 use Rattle.opid.proofs.Logs.{IsLawful-push, IsLawful-take}
 use Rattle.versions.proofs.Played.{edit-leads}
 use Rattle.versions.proofs.Changes.{edits-length}
-use Rattle.replica.proofs.Submitted.{goes_on_after}
+use Rattle.opid.proofs.Logs.{goes_on_after}
 
 drop-edits : (ops xs : List Operation) (i : ℕ) → drop i (edits_from ops xs) ≡ edits_from (ops ++ take i xs) (drop i xs)
 drop-edits ops [] zero = refl

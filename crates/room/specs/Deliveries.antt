@@ -1,4 +1,5 @@
--- Operations from elsewhere that are handed over one after another: each is delivered, whatever became of those before.
+-- Operations from elsewhere that are handed over one after another: each is delivered, whatever became of those before
+-- (Roh and others 2011).
 use Rattle.std.specs.Prelude.{ℕ, Result, Ok, Err, List, [], ◌∷◌}
 use Rattle.opid.specs.declared.refusal.Refusal.{Refusal}
 use Rattle.opid.specs.Operations.{Operation}

@@ -1,4 +1,5 @@
--- Histories: the calls that a room recorded with their tickets, and lists of calls one after another.
+-- Histories: the calls that a room recorded with their tickets, and lists of calls one after another. They are the
+-- server's own.
 use Rattle.std.specs.Prelude.{◌≡◌, ℕ, ◌+◌, ◌^◌, ◌<◌, ◌≤◌, if◌then◌else◌, List, [], ◌∷◌, ◌++◌, length, take, Result, Ok, Err}
 use Rattle.std.specs.declared.alloc.AllocError.{AllocError}
 use Rattle.room.specs.declared.desk.DeskFault.{DeskFault}

@@ -1,6 +1,6 @@
 -- A room as a sequential machine: what it answers to a call in a state, and the state after it. The place of an
 -- insertion or of a deletion is one of the version that it names; what is asked for by it goes behind the whole log.
--- Operations from elsewhere are delivered one after another.
+-- Operations from elsewhere are delivered one after another. The table is the server's own.
 use Rattle.std.specs.Prelude.{ℕ, Bool, ◌+◌, ◌-◌, nat_lt, min, is_some, if◌then◌else◌, Option, Some, None, Result, Ok, Err, List, [], ◌++◌, length, take, drop}
 use Rattle.opid.specs.declared.refusal.Refusal.{Refusal}
 use Rattle.opid.specs.declared.refusal.Refusal.TheVariants.{NoSession, TooManySessions, BadCount, HistoryFull}

@@ -6,12 +6,26 @@ use crate::operations::Operations;
 use std::alloc::AllocError;
 use versions::Characters;
 
-/// A call. A place counts characters (Unicode scalar values).
+/// A call. A place counts characters (Unicode scalar values). An element is a character that was ever put in, deleted or
+/// not.
+///
+/// Where several refusals hold, the call gets the first of them in the order below. `HistoryFull` is where 1,048,576
+/// calls are recorded; it takes one step. The costs leave out what a vector or table moves where it grows.
 #[derive(Debug, Drop)]
 pub enum Call {
-    /// Opens a session.
+    /// Opens a session. Refused with `HistoryFull`, and with `TooManySessions` where 64 are there, in one step. Takes a
+    /// step for each element.
     Join,
-    /// Session `s`, as its submission number `n`, puts the characters `x` in at place `k` of version `v`.
+    /// Session `s`, as its submission number `n`, puts the characters `x` in at place `k` of version `v`. Its last
+    /// accepted submission again is answered as before, whatever `v`, `k` and `x` are.
+    ///
+    /// Refused with `HistoryFull`; `NoSession`; `BadNumber` where `n` is neither the session's next number nor its last
+    /// accepted one; `BadVersion` where `v` is below the session's first version or above its sent one; `BadText` where
+    /// `x` has no character or more than 64; `BadPlace` where `k` is above the version's length; and `Full` where the log
+    /// would exceed 131,072 operations.
+    ///
+    /// Takes a look-up of the session for a repeat and for what is refused up to `BadVersion`, and a step for each
+    /// character for `BadText`. Otherwise linear in the number of elements, for the place and again for each character.
     Ins {
         s: u32,
         n: u32,
@@ -19,7 +33,15 @@ pub enum Call {
         k: u32,
         x: Characters,
     },
-    /// Session `s`, as its submission number `n`, deletes `c` characters from place `k` of version `v` on.
+    /// Session `s`, as its submission number `n`, deletes `c` characters from place `k` of version `v` on. Its last
+    /// accepted submission again is answered as before, whatever `v`, `k` and `c` are.
+    ///
+    /// Refused with `HistoryFull`; `NoSession`, `BadNumber` and `BadVersion` as for `Ins`; `BadCount` where `c` is 0 or
+    /// above 64; `BadPlace` where `k` plus `c` is above the version's length; and `Full` where the log would exceed
+    /// 131,072 operations.
+    ///
+    /// Takes a look-up of the session for a repeat and for what is refused up to `BadCount`. Otherwise linear in the
+    /// number of elements, for the version's length and again for each deletion.
     Del {
         s: u32,
         n: u32,
@@ -27,24 +49,39 @@ pub enum Call {
         k: u32,
         c: u32,
     },
-    /// Session `s`, which has version `have`, asks for the edits since, at most `max` of them.
+    /// Session `s`, which has version `have`, asks for the edits since, at most `max` of them. Refused with
+    /// `HistoryFull`; `NoSession`; `BadCount` where `max` is 0 or above 64; and `BadHave` where `have` is below the
+    /// session's first version or above its sent one. Takes two look-ups of the session, and a step for each edit.
     Pull {
         s: u32,
         have: u32,
         max: u32,
     },
-    /// Ends session `s`.
+    /// Ends session `s`. Refused with `HistoryFull` and with `NoSession`. Takes a look-up of the session, and a step for
+    /// each of at most 63 others.
     Leave {
         s: u32,
     },
-    /// Asks for the operations of the log from number `after` on, at most `max` of them.
+    /// Asks for the operations of the log from number `after` on, at most `max` of them. Refused with `HistoryFull`, and
+    /// with `BadRange` where `after` is above the log's length, or `max` is 0 or above 64. Takes a step for each
+    /// operation that is told.
     Ops {
         after: u32,
         max: u32,
     },
-    /// Hands over operations from elsewhere.
+    /// Hands over operations from elsewhere, which are taken in one after another, whatever became of those before.
+    /// Refused with `HistoryFull`, and with `BadCount` where there are none or more than 64.
+    ///
+    /// The outcome of each is `Took`, `Kept`, `Again`, or `No` with the first of these: `OwnSite` where it claims to be
+    /// one of the room's own that the room never made; `Conflict` where another operation with its number is integrated
+    /// or held back; `HoldFull` where its causal past isn't there and 1,024 are held back; and where its past is there,
+    /// `Full` with 131,072 operations, `NotRising` where its sum isn't above that of its site's last operation,
+    /// `UnknownElement` where its parent or target is no element, `NotOlder` where its parent's stamp isn't smaller.
+    ///
+    /// Takes at most two passes over what is held back for each operation that is handed over, one more for each that
+    /// leaves it, and for each that is integrated steps linear in the number of elements.
     Put(Operations),
-    /// Asks for the newest version and its text.
+    /// Asks for the newest version and its text. Refused with `HistoryFull`. Takes a step for each element.
     Read,
 }
 

@@ -18,15 +18,12 @@ use crate::reserved::push_reserved;
 use causal_clock::Op;
 use opid::{Edit, Refusal};
 use replica::Replica;
-use session_outbox::{Sessions, Submission};
+use session_outbox::{MAX_EDITS, Sessions, Submission};
 use std::alloc::{AllocError, Global};
 use versions::{Characters, Doc};
 
 /// At most so many operations are handed over at once.
-const MAX_OPERATIONS: usize = 64;
-
-/// At most so many edits are sent at once.
-const MAX_EDITS: u32 = 64;
+const MAX_HANDED_OVER: usize = 64;
 
 /// Carries out a call that is recorded.
 pub(crate) fn perform(
@@ -53,18 +50,20 @@ pub(crate) fn perform(
     }
 }
 
-/// Opens a session. Takes a step for each element.
+/// Opens a session. Takes a step for each element, and one where too many are there.
 fn join(replica: &Replica, outbox: &mut Sessions) -> Result<Reply, AllocError>
     requires { outbox.old.next_number < 4294967295 }
     ensures does { IfOk result (λ reply. Does replica.now outbox.old Join reply replica.now outbox.new) }
     ensures numbers { outbox.new.next_number ≤ outbox.old.next_number + 1 }
     ensures err { OnErr result (outbox.new ≡ outbox.old) }
 {
+    if outbox.is_full() {
+        return Ok(Reply::No(Refusal::TooManySessions));
+    }
     let v = replica.version();
     let x = reading(replica.doc())?;
     match outbox.join(v) {
         Ok(s) => Ok(Reply::Joined { s, v, x }),
-        Err(Refusal::TooManySessions) => Ok(Reply::No(Refusal::TooManySessions)),
         Err(_) => Err(AllocError),
     }
 }
@@ -201,7 +200,7 @@ fn put(alloc: Global, replica: &mut Replica, ops: &Operations) -> Result<Reply, 
 {
     let ops = ops.as_slice();
     let count = ops.len();
-    if count == 0 || count > MAX_OPERATIONS {
+    if count == 0 || count > MAX_HANDED_OVER {
         return Ok(Reply::No(Refusal::BadCount));
     }
     let mut outcomes = Vec::with_capacity(alloc, count)?;

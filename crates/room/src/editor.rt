@@ -57,8 +57,8 @@ impl Editor {
     /// editor's version are played, and all else changes nothing. Linear in the text for each edit.
     ///
     /// Refused with `BadPlace` where an edit lies outside the text, which no room's reply does, and with `Memory`. Then
-    /// the edits before the refused one were played, and the version is theirs: the editor is in step with its room
-    /// still, and pulls again from there.
+    /// a beginning of its edits was played, and the version is theirs: the editor is in step with its room still, and
+    /// pulls again from there.
     pub fn follow(&mut self, reply: &Reply) -> Result<(), Refusal>
         ensures ok { OnOk result (with_reply reply.now self.old ≡ Some self.new) }
         ensures cause { IfErr result (λ e. ((e ≡ BadPlace) × (with_reply reply.now self.old ≡ None)) ⊎ (e ≡ Memory)) }

@@ -69,6 +69,7 @@ impl Machine {
         ensures site { self.now.site < 32 }
         ensures placed { (c : Call) → PlacesInsertion self.now c }
     {
+        // Their contracts bring that the log is lawful, and that the site is below 32.
         let _ = self.replica.version();
         let _ = self.replica.site().number();
         self.count < MAX_CALLS

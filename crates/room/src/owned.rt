@@ -15,7 +15,7 @@ pub struct RoomDesk {
 }
 
 impl RoomDesk {
-    /// A desk over the room.
+    /// A desk over the room. Constant time.
     pub fn new(room: Room) -> RoomDesk
         requires { mark room.history ≤ 2 ^ 61 }
         ensures { result.room ≡ room }
@@ -30,7 +30,7 @@ impl RoomDesk {
         &self.room
     }
 
-    /// The room again.
+    /// The room again. Constant time.
     pub fn into_room(self) -> Room
         ensures { result ≡ self.room }
     {

@@ -23,6 +23,6 @@ pub enum Reply {
     Put(Outcomes),
     /// The newest version is `v`, and reads `x`.
     Text { v: u32, x: Characters },
-    /// The call was refused and changed nothing.
+    /// The call was refused, and changed nothing but that it was recorded. With `HistoryFull` it wasn't recorded either.
     No(Refusal),
 }

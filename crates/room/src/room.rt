@@ -38,7 +38,7 @@ impl Room {
     ghost use Rattle.room.specs.History.{state_of, mark, IsLegal, called, ran, Runs, PlacesInsertion};
     ghost use Rattle.room.specs.Convergence.{EditorsConverge, EditorsKeepUp};
 
-    /// The room of a site with an empty document. Takes no memory.
+    /// The room of a site with an empty document. Constant time; takes no memory.
     pub fn new(alloc: Global, site: Site) -> Room
         ensures { result ≡ record { opening = empty_room site; history = []; state = empty_room site } }
     {
@@ -60,6 +60,7 @@ impl Room {
         ensures editors_converge { EditorsConverge self.now }
         ensures editors_keep_up { EditorsKeepUp self.now }
     {
+        // Its contract brings that the log is lawful, and that at most 1,048,576 calls are counted.
         let _ = self.machine.may_record();
         &self.history
     }
@@ -78,12 +79,14 @@ impl Room {
         ensures value { result ≡ mark self.now.history }
         ensures legal { IsLegal self.now.history }
     {
+        // Its contract brings that at most 1,048,576 calls are counted.
         let _ = self.machine.may_record();
         self.mark
     }
 
     /// Answers a call, and records it under its ticket, refused or not; only where 1,048,576 calls are recorded it
-    /// answers `HistoryFull` and records nothing. An error is for want of memory, and changes nothing.
+    /// answers `HistoryFull` and records nothing. An error is for want of memory, and changes nothing. The refusals of
+    /// each call, in their order, and its cost are told at `Call`; recording takes one step.
     pub fn call(&mut self, ticket: u64, call: Call) -> Result<Reply, AllocError>
         requires least { mark self.old.history ≤ ticket }
         requires most { ticket < 2 ^ 62 }
@@ -98,6 +101,8 @@ impl Room {
         ensures editors_keep_up { EditorsKeepUp self.new }
     {
         let result = self.record(ticket, call);
+
+        // Its contract brings that the log is lawful, and what editors make of the replies.
         let _ = self.history();
         result
     }
@@ -122,7 +127,8 @@ impl Room {
     }
 
     /// Answers calls one after another, under tickets from `mark()` on. After an error, which is for want of memory,
-    /// the replies are those of a beginning of the calls, and the room is where these leave it.
+    /// the replies are those of a beginning of the calls, and the room is where these leave it. Takes the steps of
+    /// `call` for each, and a step for each character or operation in a call, which is copied.
     pub fn run(&mut self, calls: &[Call], replies: &mut Vec<Reply>) -> Result<(), AllocError>
         requires { mark self.old.history ≤ 2 ^ 61 }
         ensures runs { Runs self.old calls.now replies.old.items result replies.new.items self.new }
@@ -130,6 +136,8 @@ impl Room {
         ensures editors_keep_up { EditorsKeepUp self.new }
     {
         let result = self.answer_each(calls, replies);
+
+        // Its contract brings what editors make of the replies.
         let _ = self.history();
         result
     }

@@ -1,4 +1,4 @@
--- What a session is answered: the checks of each call by cases, in their order.
+-- What a session is answered: the checks of each call by cases, in their order, which is the server's own.
 use Rattle.std.specs.Prelude.{ℕ, ◌+◌, ◌==◌, ◌||◌, ◌&&◌, nat_lt, min, if◌then◌else◌, Option, Some, None, Result, Ok, Err, List, length}
 use Rattle.opid.specs.declared.refusal.Refusal.{Refusal}
 use Rattle.opid.specs.declared.refusal.Refusal.TheVariants.{NoSession, TooManySessions, BadNumber, BadVersion, BadCount, BadHave, Memory}

@@ -1,4 +1,4 @@
--- How the sessions are kept: a map from each one's number to its facts.
+-- How the sessions are kept: a map from each one's number to its facts; no public clause cites this.
 use Rattle.std.specs.Prelude.{ℕ, List, map}
 use Rattle.session_outbox.specs.declared.facts.Facts.{Facts}
 use Rattle.session_outbox.specs.Sessions.{Session}

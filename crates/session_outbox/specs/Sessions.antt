@@ -1,4 +1,4 @@
--- The sessions of a server's document in order of joining, and the changes of one of them.
+-- The sessions of a server's document in order of joining, and the changes of one of them. They are the server's own.
 use Rattle.std.specs.Prelude.{ℕ, ◌+◌, ◌<◌, ◌==◌, if◌then◌else◌, max, Option, MatchOption, List, [], ◌∷◌, ◌++◌, find}
 
 -- a session: its number, the version that it joined at, the newest one that it was sent, the number of its last accepted

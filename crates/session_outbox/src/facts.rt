@@ -7,7 +7,7 @@ use crate::submission::Submission;
 use opid::Refusal;
 
 /// At most so many edits are sent by one pull.
-const MAX_EDITS: u32 = 64;
+pub const MAX_EDITS: u32 = 64;
 
 /// The facts of a session.
 #[derive(Clone, Copy)]

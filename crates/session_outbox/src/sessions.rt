@@ -1,5 +1,5 @@
 //! The sessions of a server's document, each by the number that it got when it joined.
-ghost use Rattle.std.specs.Prelude.{◌≡◌, ◌≤◌, ◌<◌, ◌↔◌, false, is_some, length, None, Some, Ok, IsOk, IsSome, IfOk, IfErr, OnOk, OnErr};
+ghost use Rattle.std.specs.Prelude.{◌≡◌, ◌≤◌, ◌<◌, ◌↔◌, false, not, nat_lt, is_some, length, None, Some, Ok, IsOk, IsSome, IfOk, IfErr, OnOk, OnErr};
 ghost use Rattle.std.specs.Option.{option_map};
 ghost use Rattle.opid.specs.declared.refusal.Refusal.TheVariants.{NoSession};
 ghost use Rattle.session_outbox.specs.declared.submission.Submission.TheVariants.{New};
@@ -53,7 +53,7 @@ fn take_out(facts: &mut IndexMap<u32, Facts>, s: u32) -> bool
 #[derive(Drop)]
 pub struct Sessions {
     facts: IndexMap<u32, Facts>,
-    next_number: u32,
+    next_number: u64,
 }
 
 impl Model for Sessions {
@@ -82,7 +82,7 @@ impl Sessions {
     /// twice, so fewer than 4,294,967,295 may have been given before. A look-up, and memory where the table grows.
     /// Refused with `TooManySessions` where 64 are there, and with `Memory` where memory was refused.
     pub fn join(&mut self, version: u32) -> Result<u32, Refusal>
-        requires { self.old.next_number < u32.MAX }
+        requires { self.old.next_number ≤ u32.MAX }
         ensures number { IfOk result (λ s. s ≡ self.old.next_number) }
         ensures fresh { IfOk result (λ s. session_with s self.old.sessions ≡ None) }
         ensures next { OnOk result (self.new ≡ after_join version self.old) }
@@ -90,10 +90,10 @@ impl Sessions {
         ensures cause { IfErr result (λ e. e ≡ join_refusal self.old.sessions) }
         ensures err { OnErr result (self.new ≡ self.old) }
     {
-        if self.len() >= MAX_SESSIONS {
+        if self.is_full() {
             return Err(Refusal::TooManySessions);
         }
-        let number = self.next_number;
+        let number = self.next_number as u32;
         let facts = Facts {
             first: version,
             sent: version,
@@ -176,5 +176,12 @@ impl Sessions {
         ensures numbered { AreNumbered 0 self.now.next_number self.now.sessions }
     {
         self.facts.len()
+    }
+
+    /// Whether 64 sessions are there, so that `join` refuses a further one. Takes one step.
+    pub fn is_full(&self) -> bool
+        ensures { result ≡ not (nat_lt (length self.now.sessions) 64) }
+    {
+        self.len() >= MAX_SESSIONS
     }
 }

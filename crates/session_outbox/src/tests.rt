@@ -28,10 +28,12 @@ fn sixty_four_at_a_time(rt: HostRuntime) -> Result<(), Fail> {
         assert_eq!(rt; sessions.join(0)?, expected);
     }
     assert_eq!(rt; sessions.len(), 64);
+    assert!(rt; sessions.is_full());
     assert_eq!(rt; sessions.join(0).err(), Some(Refusal::TooManySessions));
     sessions.leave(1)?;
     assert_eq!(rt; sessions.leave(1).err(), Some(Refusal::NoSession));
     assert_eq!(rt; sessions.len(), 63);
+    assert!(rt; !sessions.is_full());
     assert_eq!(rt; sessions.join(0)?, 65);
     assert_eq!(rt; sessions.pull(64, 0, 1, 0)?, (0, 0));
     Ok(())

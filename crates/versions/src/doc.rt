@@ -12,12 +12,12 @@ ghost use Rattle.versions.specs.Causes.{refusal_of};
 ghost use Rattle.versions.specs.Sums.{last_sum};
 
 use crate::characters::Characters;
-use crate::integrate::{MAX_OPERATIONS, SITES, integrate, refusal_of};
+use crate::integrate::{MAX_OPERATIONS, integrate, refusal_of};
 use crate::life::Life;
 use crate::reserved::{make_room, reserve_each};
 use crate::scan::{count_in, stamp_in, text_in};
 use causal_clock::{Clock, Op};
-use opid::{Edit, Refusal, Site, Stamp};
+use opid::{Edit, Refusal, SITES, Site, Stamp};
 use rga_list::Rga;
 use std::alloc::Global;
 use std::marker::Model;

@@ -19,14 +19,11 @@ use crate::life::Life;
 use crate::reserved::push_reserved;
 use crate::scan::place_of;
 use causal_clock::{Clock, Op};
-use opid::{Edit, OpKind, Refusal, Stamp};
+use opid::{Edit, OpKind, Refusal, SITES, Stamp};
 use rga_list::Rga;
 
 /// At most so many operations are in a log.
 pub const MAX_OPERATIONS: usize = 131_072;
-
-/// How many sites there are.
-pub(crate) const SITES: usize = 32;
 
 /// Why the operation is refused, memory apart.
 pub(crate) fn refusal_of(ops: &[Op], list: &Rga, op: &Op) -> Option<Refusal>

@@ -15,5 +15,5 @@ mod writing;
 pub use laws::{different_operations, different_replies, operations_read_back};
 pub use operation_values::write_op;
 pub use operations::read_op;
-pub use reading::read_request;
+pub use reading::{MAX_REQUEST_BYTES, read_request};
 pub use writing::write_reply;

@@ -30,7 +30,7 @@ fn ops_of(alloc: Global, text: &str) -> Result<Vec<Op>, Refusal> {
 
 fn written(alloc: Global, text: &str) -> Result<String, Refusal> {
     let op = op_of(alloc, text)?;
-    Ok(write_op(alloc, &op)?)
+    write_op(alloc, &op)
 }
 
 #[test]

@@ -1,27 +1,27 @@
 //! Writing operation objects.
-ghost use Rattle.std.specs.Prelude.{◌≡◌, ◌<◌, IfOk, string_bytes};
+ghost use Rattle.std.specs.Prelude.{◌≡◌, ◌<◌, IfOk, IfErr, string_bytes};
+ghost use Rattle.opid.specs.declared.refusal.Refusal.TheVariants.{Memory};
 ghost use Rattle.serde_json.specs.View.{view, items_view};
 ghost use Rattle.opid.specs.Clocks.{entry};
 ghost use Rattle.wire_json.specs.Text.{op_text};
 ghost use Rattle.wire_json.specs.Written.{each_data, two_data, pair_data, pairs_data, stamp_data, parent_data, insertion_data, deletion_data, op_data};
 
 use causal_clock::{Clock, Op};
-use opid::{OpKind, Site, Stamp};
+use opid::{OpKind, Refusal, SITES, Site, Stamp};
 use serde_json::{Value, json, push};
 use std::alloc::{AllocError, Global};
-
-/// How many sites there are.
-const SITES: u8 = 32;
 
 /// The one text of an operation: a compact JSON object with the keys that `read_op` asks for, in the order of their
 /// bytes, with no line feed.
 ///
-/// Its clock is told by the entries that aren't 0, by rising sites. Takes time and memory in proportion to the text.
-pub fn write_op(alloc: Global, op: &Op) -> Result<String, AllocError>
-    ensures { IfOk result (λ s. string_bytes s ≡ op_text op.now) }
+/// Its clock is told by the entries that aren't 0, by rising sites. Refused with `Memory`. Takes time and memory in
+/// proportion to the text.
+pub fn write_op(alloc: Global, op: &Op) -> Result<String, Refusal>
+    ensures text { IfOk result (λ s. string_bytes s ≡ op_text op.now) }
+    ensures memory { IfErr result (λ e. e ≡ Memory) }
 {
     let value = op_value(alloc, op)?;
-    value.to_string(alloc)
+    Ok(value.to_string(alloc)?)
 }
 
 /// The JSON values of operations, in their order.
@@ -81,7 +81,7 @@ fn clock_values(alloc: Global, clock: &Clock) -> Result<Vec<Value>, AllocError>
     ensures { IfOk result (λ list. items_view list.items ≡ pairs_data clock.now) }
 {
     let mut list = Vec::new(alloc);
-    for number in 0..SITES {
+    for number in 0..SITES as u8 {
         let count = count_of(clock, number);
         if count > 0 {
             let value = two_value(alloc, u32::from(number), count)?;

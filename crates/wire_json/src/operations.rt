@@ -12,12 +12,9 @@ ghost use Rattle.wire_json.specs.Given.{Tells, Gives};
 use crate::offer::{Offer, OfferedKind, SitedOffer};
 use crate::reading::{check_keys, number_in, read_number, read_text};
 use causal_clock::{Clock, Op};
-use opid::{OpKind, Refusal, Site, Stamp};
+use opid::{OpKind, Refusal, SITES, Site, Stamp};
 use serde_json::Value;
 use std::alloc::Global;
-
-/// How many sites there are.
-const SITES: usize = 32;
 
 /// The operation that a JSON value tells.
 ///

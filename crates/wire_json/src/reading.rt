@@ -13,8 +13,8 @@ use room::{Call, Characters, Operations};
 use serde_json::{Map, Value};
 use std::alloc::Global;
 
-/// The most bytes that a request has.
-const MAX_BYTES: usize = 65_536;
+/// The most bytes that a request has, without the LF that ends its line.
+pub const MAX_REQUEST_BYTES: usize = 65_536;
 
 /// The call that a request's bytes ask for.
 ///
@@ -28,7 +28,7 @@ pub fn read_request(alloc: Global, bytes: &[u8]) -> Result<Call, Refusal>
     ensures asked { Gives same result (request bytes.now) }
     ensures too_long { 65536 < length bytes.now → result ≡ Err TooLong }
 {
-    if bytes.len() > MAX_BYTES {
+    if bytes.len() > MAX_REQUEST_BYTES {
         return Err(Refusal::TooLong);
     }
     let value = read_value(alloc, bytes)?;

@@ -1,7 +1,7 @@
 //! Requests and replies as lines show them.
 use crate::{read_request, write_reply};
 use opid::{Edit, Refusal};
-use room::{Call, Characters, Edits, Reply};
+use room::{Call, Characters, Edits, Outcome, Outcomes, Reply};
 use std::alloc::{AllocError, Global};
 use std::test::Fail;
 
@@ -17,6 +17,26 @@ fn is_read(alloc: Global, bytes: &[u8]) -> bool {
     matches!(&read_request(alloc, bytes), Ok(Call::Read))
 }
 
+fn is_part(alloc: Global, bytes: &[u8], wanted: (u32, u32)) -> bool {
+    match &read_request(alloc, bytes) {
+        Ok(Call::Ops { after, max }) => (*after, *max) == wanted,
+        _ => false,
+    }
+}
+
+// How a reply tells the operations that a request hands over.
+fn retold(alloc: Global, bytes: &[u8]) -> Result<String, Refusal> {
+    match read_request(alloc, bytes)? {
+        Call::Put(ops) => write_reply(alloc, &Reply::Ops { from: 7, ops }),
+        _ => Err(Refusal::UnknownKind),
+    }
+}
+
+fn told(alloc: Global, outcomes: &[Outcome]) -> Result<String, Refusal> {
+    let outcomes = Outcomes::new(outcomes.to_vec(alloc)?);
+    write_reply(alloc, &Reply::Put(outcomes))
+}
+
 // A request after this many spaces.
 fn spaced(alloc: Global, spaces: usize, request: &[u8]) -> Result<Vec<u8>, AllocError> {
     let mut bytes = vec![in alloc; b' '; spaces]?;
@@ -25,7 +45,7 @@ fn spaced(alloc: Global, spaces: usize, request: &[u8]) -> Result<Vec<u8>, Alloc
 }
 
 #[test]
-fn reads_each_kind(rt: HostRuntime) -> Result<(), Fail> {
+fn reads_a_join_a_read_and_an_insertion(rt: HostRuntime) -> Result<(), Fail> {
     let alloc = rt.alloc();
     assert!(rt; is_join(alloc, b"{\"t\":\"join\"}"));
     assert!(rt; is_read(alloc, b" { \"t\" : \"read\" }\r"));
@@ -57,6 +77,22 @@ fn reads_a_deletion_a_pull_and_a_leave(rt: HostRuntime) -> Result<(), Fail> {
         Call::Leave { s } => assert_eq!(rt; *s, 4_294_967_295),
         _ => assert!(rt; false),
     }
+    Ok(())
+}
+
+#[test]
+fn reads_a_part_of_the_log(rt: HostRuntime) {
+    let alloc = rt.alloc();
+    assert!(rt; is_part(alloc, b"{\"t\":\"ops\",\"after\":0,\"max\":64}", (0, 64)));
+}
+
+#[test]
+fn retells_the_operations_of_a_put(rt: HostRuntime) -> Result<(), Fail> {
+    let put =
+        b"{\"t\":\"put\",\"ops\":[{\"c\":[[1,1]],\"k\":\"i\",\"p\":null,\"s\":1,\"x\":\"b\"},{\"c\":[[1,2]],\"k\":\"d\",\"s\":1,\"t\":[1,0]}]}";
+    let wanted =
+        "{\"from\":7,\"ops\":[{\"c\":[[1,1]],\"k\":\"i\",\"p\":null,\"s\":1,\"x\":\"b\"},{\"c\":[[1,2]],\"k\":\"d\",\"s\":1,\"t\":[1,0]}],\"r\":\"ops\"}";
+    assert!(rt; retold(rt.alloc(), put)?.as_str() == wanted);
     Ok(())
 }
 
@@ -124,7 +160,7 @@ fn has_at_most_65536_bytes(rt: HostRuntime) -> Result<(), Fail> {
 }
 
 #[test]
-fn writes_each_reply(rt: HostRuntime) -> Result<(), Fail> {
+fn writes_joined_ok_text_and_no(rt: HostRuntime) -> Result<(), Fail> {
     let alloc = rt.alloc();
     let empty = || Characters::new(String::new(alloc));
     let x = empty();
@@ -160,6 +196,19 @@ fn writes_edits_and_that_a_session_left(rt: HostRuntime) -> Result<(), Fail> {
     assert!(rt; none.as_str() == "{\"es\":[],\"from\":0,\"r\":\"edits\"}");
     let left = write_reply(alloc, &Reply::Left)?;
     assert!(rt; left.as_str() == "{\"r\":\"left\"}");
+    Ok(())
+}
+
+#[test]
+fn writes_what_became_of_operations(rt: HostRuntime) -> Result<(), Fail> {
+    let outcomes = [
+        Outcome::Took(1, 0),
+        Outcome::Kept,
+        Outcome::Again,
+        Outcome::No(Refusal::Conflict),
+    ];
+    let wanted = "{\"os\":[[\"took\",1,0],[\"kept\"],[\"again\"],[\"no\",17]],\"r\":\"put\"}";
+    assert!(rt; told(rt.alloc(), &outcomes)?.as_str() == wanted);
     Ok(())
 }
 

@@ -1,6 +1,7 @@
 //! Writing a reply.
-ghost use Rattle.std.specs.Prelude.{◌≡◌, IfOk, string_bytes, encode_utf8_all};
+ghost use Rattle.std.specs.Prelude.{◌≡◌, IfOk, IfErr, string_bytes, encode_utf8_all};
 ghost use Rattle.serde_json.specs.View.{view, items_view};
+ghost use Rattle.opid.specs.declared.refusal.Refusal.TheVariants.{Memory};
 ghost use Rattle.wire_json.specs.Text.{text};
 ghost use Rattle.wire_json.specs.Written.{joined_data, ok_data, edit_data, each_data, edits_data, left_data, part_data, outcome_data, put_data, text_data, no_data, data_of};
 
@@ -13,12 +14,13 @@ use std::alloc::{AllocError, Global};
 
 /// The one text of a reply: a compact JSON object, its keys in the order of their bytes, with no line feed.
 ///
-/// Takes time and memory in proportion to the text.
-pub fn write_reply(alloc: Global, reply: &Reply) -> Result<String, AllocError>
-    ensures { IfOk result (λ s. string_bytes s ≡ text reply.now) }
+/// Refused with `Memory`. Takes time and memory in proportion to the text.
+pub fn write_reply(alloc: Global, reply: &Reply) -> Result<String, Refusal>
+    ensures text { IfOk result (λ s. string_bytes s ≡ text reply.now) }
+    ensures memory { IfErr result (λ e. e ≡ Memory) }
 {
     let value = value_of(alloc, reply)?;
-    value.to_string(alloc)
+    Ok(value.to_string(alloc)?)
 }
 
 fn value_of(alloc: Global, reply: &Reply) -> Result<Value, AllocError>

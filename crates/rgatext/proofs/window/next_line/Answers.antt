@@ -3,8 +3,8 @@ use Rattle.std.proofs.Common.{arith, ◌<◌, length}
 use Rattle.rgatext.proofs.Reading.{long_skipped}
 use Rattle.rgatext.proofs.window.next_line.Goals as goal
 
-pub returns-then-seen-gt-LIMIT-clause-cuts : goal.returns-then-seen-gt-LIMIT-clause-cuts
-returns-then-seen-gt-LIMIT-clause-cuts g c =
+pub returns-then-seen-gt-MAX_REQUEST_BYTES-clause-cuts : goal.returns-then-seen-gt-MAX_REQUEST_BYTES-clause-cuts
+returns-then-seen-gt-MAX_REQUEST_BYTES-clause-cuts g c =
     let i = c.lines.invariant in
     let long : 65536 < length c.lines.window = omega arith in
     long_skipped (g.R.Read.remaining c.args.input.now.inner) (g.R.Read.remaining c.lines.input.inner) (g.R.Read.remaining c.skip_line.new.input.inner)

@@ -2,7 +2,7 @@ use Rattle.std.proofs.Common.{◌≡◌, ◌∷◌, [], Some, ap, arith, length,
 use Rattle.std.specs.Prelude.{slice_get}
 use Rattle.std.proofs.lemmas.List.{length-append}
 use Rattle.opid.specs.Edits.{edits}
-use Rattle.room.proofs.Gathered.{gathered}
+use Rattle.opid.proofs.Gathered.{gathered}
 use Rattle.room.proofs.calls.add_edits.Goals as goal
 
 pub loop-version-preserved : goal.loop-version-preserved
