@@ -13,13 +13,9 @@ pub(crate) struct Client {
     replies: Vec<Reply>,
 }
 
-fn reads(editor: &Editor, text: &Characters) -> bool {
-    editor
-        .text()
-        .characters()
-        .iter()
-        .copied()
-        .eq(text.as_str().chars())
+// Whether the editor has the text.
+pub(crate) fn shows(editor: &Editor, text: &str) -> bool {
+    editor.text().characters().iter().copied().eq(text.chars())
 }
 
 impl Client {
@@ -47,7 +43,7 @@ impl Client {
     // Whether the editor has what the room reads at the editor's version.
     pub(crate) fn is_in_step(&self, desk: &RoomDesk) -> Result<bool, Fail> {
         let text = desk.room().replica().doc().reading(self.version())?;
-        Ok(reads(&self.editor, &text))
+        Ok(shows(&self.editor, text.as_str()))
     }
 
     // Submits, and counts an accepted submission.
@@ -166,6 +162,6 @@ impl Client {
             self.pull(desk, 64)?;
             self.receive_last()?;
         }
-        Ok(reads(&self.editor, text))
+        Ok(shows(&self.editor, text.as_str()))
     }
 }

@@ -2,8 +2,9 @@
 ghost use Rattle.std.specs.Prelude.{◌≤◌, ◌^◌};
 ghost use Rattle.room.specs.History.{mark};
 
+use crate::client::shows;
 use crate::fixtures::{accepts, empty_desk, empty_room, insertion, reads, refuses};
-use crate::{Call, Desk, Reply, Room, RoomDesk};
+use crate::{Call, Characters, Desk, Editor, Reply, Room, RoomDesk};
 use opid::{Edit, Refusal};
 use std::alloc::Global;
 use std::test::Fail;
@@ -184,5 +185,56 @@ fn leaves_once(desk: &mut RoomDesk) -> Result<bool, Fail> {
 fn a_session_leaves_once(rt: HostRuntime) -> Result<(), Fail> {
     let mut desk = empty_desk(rt.alloc(), 0)?;
     assert!(rt; leaves_once(&mut desk)?);
+    Ok(())
+}
+
+// The editor is given the reply.
+fn follows(desk: &mut RoomDesk, editor: &mut Editor, call: Call) -> Result<(), Fail> {
+    let reply = desk.call(call)?;
+    editor.follow(&reply)?;
+    Ok(())
+}
+
+fn follows_insertion(
+    alloc: Global,
+    desk: &mut RoomDesk,
+    editor: &mut Editor,
+    n: u32,
+    v: u32,
+    k: u32,
+    x: &str,
+) -> Result<(), Fail> {
+    let x = Characters::new(String::from_str(alloc, x)?);
+    follows(desk, editor, Call::Ins { s: 1, n, v, k, x })
+}
+
+// Puts `abc` in, pulls two of the three edits, puts `X` in behind the first, and pulls the rest.
+fn falls_behind(alloc: Global, desk: &mut RoomDesk, editor: &mut Editor) -> Result<bool, Fail> {
+    follows(desk, editor, Call::Join)?;
+    follows_insertion(alloc, desk, editor, 1, 0, 0, "abc")?;
+    follows(
+        desk,
+        editor,
+        Call::Pull {
+            s: 1,
+            have: 0,
+            max: 2,
+        },
+    )?;
+    let behind = shows(editor, "ab") && editor.version() == 2;
+    follows_insertion(alloc, desk, editor, 2, 2, 1, "X")?;
+    follows(desk, editor, pull(2))?;
+    Ok(behind && shows(editor, "aXbc") && editor.version() == 4)
+}
+
+fn catches_up(alloc: Global, editor: &mut Editor) -> Result<bool, Fail> {
+    let mut desk = empty_desk(alloc, 0)?;
+    falls_behind(alloc, &mut desk, editor)
+}
+
+#[test]
+fn an_editor_falls_behind_and_catches_up(rt: HostRuntime) -> Result<(), Fail> {
+    let mut editor = Editor::new(rt.alloc());
+    assert!(rt; catches_up(rt.alloc(), &mut editor)?);
     Ok(())
 }
