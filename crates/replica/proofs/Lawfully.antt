@@ -78,7 +78,7 @@ accepted-may_follow log x o l m =
 -- ---- settling
 
 -- what is held has one fewer, and the others are still operations
-fewer : (clock : List ℕ) (held : List Operation) (x : Operation) → first_ready clock held ≡ Some x → length (without_first_ready clock held) + 1 ≡ length held
+pub fewer : (clock : List ℕ) (held : List Operation) (x : Operation) → first_ready clock held ≡ Some x → length (without_first_ready clock held) + 1 ≡ length held
 fewer clock held x e = let f = first_ready-Some clock held x e in omega (arith, ap (λ (v : List Operation). length v) f.held_is, ap (λ (v : List Operation). length v) f.others_are, length-append f.before (x ∷ f.after), length-append f.before f.after)
 
 nothing_held : (clock : List ℕ) (held : List Operation) → length held ≤ 0 → NoneReady clock held

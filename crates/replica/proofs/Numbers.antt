@@ -197,13 +197,13 @@ AreNumbered-push log rows new x site place h s b p e = record {
         ∙ h.each k l
         ∙ sym (places-push 0 k log x ∙ ap (λ t. places_of k log ++ cond t ((0 + length log) ∷ []) []) (ne_eqb x.site k (λ q. d (sym (s ∙ q)))) ∙ append-nil (places_of k log))
 
-blank-row : (n k : ℕ) → row_at (replicate n []) k ≡ []
-blank-row zero k = refl
-blank-row (suc n) zero = refl
-blank-row (suc n) (suc k) = blank-row n k
+row_at-blank : (n k : ℕ) → row_at (replicate n []) k ≡ []
+row_at-blank zero k = refl
+row_at-blank (suc n) zero = refl
+row_at-blank (suc n) (suc k) = row_at-blank n k
 
 pub AreNumbered-none : AreNumbered [] (replicate 32 [])
-AreNumbered-none = record { width = refl; each = λ site l. blank-row 32 site }
+AreNumbered-none = record { width = refl; each = λ site l. row_at-blank 32 site }
 
 pub with_number-row : (log : List Operation) (rows : List (List ℕ)) (number : ℕ × ℕ) → IsLawful log → AreNumbered log rows → number.0 < 32 → 0 < number.1
     → with_number number log ≡ option_and_then (slice_get log) (slice_get (row_at rows number.0) (number.1 - 1))

@@ -25,7 +25,7 @@ first_accepted (Err e) r h = cc
 first_accepted (Ok (Repeat a b)) r h = cc
 first_accepted (Ok New) r h = unless_accepted r h
 
-at_most : (m k : ℕ) → nat_lt m k ≡ false → k ≤ m
+pub at_most : (m k : ℕ) → nat_lt m k ≡ false → k ≤ m
 at_most m k h = grind (arith, nat_tests)
 
 -- what is not refused is within the version that it names

@@ -1,5 +1,5 @@
 -- An editor that is given replies of its session, in any order, reads what the room reads at the editor's version.
-use Rattle.std.proofs.Common.{◌≡◌, ℕ, ◌+◌, ◌-◌, ◌<◌, ◌≤◌, Bool, true, false, cond, Option, Some, None, Ok, Err, List, [], ◌∷◌, ◌++◌, length, take, drop, refl, ap, ◌∙◌, sym, subst, arith, append_assoc, nat_eq, inl, inr}
+use Rattle.std.proofs.Common.{◌≡◌, ℕ, ◌+◌, ◌-◌, ◌<◌, ◌≤◌, Bool, true, false, cond, Option, Some, None, Ok, Err, List, [], ◌∷◌, ◌++◌, length, take, drop, refl, ap, ◌∙◌, sym, subst, arith, append_assoc, nat_eq, inl, inr, eq-eqb}
 use mathlib.Core.Path.{ap₂}
 use Rattle.std.specs.Prelude.{min, max, nat_lt, MatchOption, if◌then◌else◌, option_map, option_and_then, ◌==◌, ◌||◌}
 use Rattle.std.specs.List.{AllByRecursion as Each}
@@ -27,9 +27,10 @@ use Rattle.room.specs.History.{state_of}
 use Rattle.room.specs.Kept.{IsRoom}
 use Rattle.room.specs.Editor.{Editor, with_edits, with_reply, editor_from, editor, IsInStep}
 use Rattle.room.specs.Convergence.{given_to, WasGiven, or_before, last_known, EditorsConverge}
+use Rattle.room.proofs.Accepted.{at_most}
 use Rattle.room.proofs.Handing.{Extends, Extends-refl, hand_over-extends}
 use Rattle.room.proofs.Playing.{plays, edits-stay, reading-stays, length-between}
-use Rattle.room.proofs.Running.{IsWithin, IsRunning, IsRunning-empty, IfThere, IfThere-changed, IfThere-without, IfThere-joined, next-running}
+use Rattle.room.proofs.Running.{within_max, min_within, IsWithin, IsRunning, IsRunning-empty, IfThere, IfThere-changed, IfThere-without, IfThere-joined, next-running}
 
 -- ---- a reply that fits a log and a session
 
@@ -104,10 +105,7 @@ accepted-since S (Ins t n v k x) s w r h = (h.0, IfThere-changed (Descends w) s 
 accepted-since S (Del t n v k c) s w r h = (h.0, IfThere-changed (Descends w) s t (after_submission (length S.log) (length S.log + c)) S.outbox.sessions (λ u. refl) (λ u d. d) h.1)
 accepted-since S (Pull t have most) s w r h =
     let to = min (have + most) (length S.log) in
-    (h.0, IfThere-changed (Descends w) s t (sent_to to) S.outbox.sessions (λ u. refl) (λ u d. (d.0, below_max w.sent u.sent to d.1)) h.1)
-  where
-    below_max : (a b c : ℕ) → a ≤ b → a ≤ max b c
-    below_max a b c h = grind (arith, nat_tests)
+    (h.0, IfThere-changed (Descends w) s t (sent_to to) S.outbox.sessions (λ u. refl) (λ u d. (d.0, within_max w.sent u.sent to d.1)) h.1)
 accepted-since S (Leave t) s w r h = (h.0, IfThere-without (Descends w) s t 0 S.outbox.next_number S.outbox.sessions r.numbered h.1)
 accepted-since S (Ops after most) s w r h = h
 accepted-since S (Put ops) s w r h = h
@@ -168,10 +166,7 @@ IsTelling (replies.Text v x) = ⊥
 IsTelling (replies.No e) = ⊥
 
 pub joined-there : (s : ℕ) (ws : List Session) (w : Session) → session_with s ws ≡ None → s ≡ w.number → session_with s (ws ++ w ∷ []) ≡ Some w
-joined-there s [] w n e = cond-true (nat_eq s w.number) (Some w) None (ap (nat_eq s) (sym e) ∙ same s)
-  where
-    same : (n : ℕ) → nat_eq n n ≡ true
-    same n = grind (arith, nat_tests)
+joined-there s [] w n e = cond-true (nat_eq s w.number) (Some w) None (eq-eqb s w.number e)
 joined-there s (v ∷ ws) w n e = by (nat_eq s v.number) n (joined-there s ws w)
   where
     by : (d : Bool) → cond d (Some v) (session_with s ws) ≡ None → (session_with s ws ≡ None → s ≡ w.number → session_with s (ws ++ w ∷ []) ≡ Some w)
@@ -215,16 +210,10 @@ pulled (Some w) have most version h = go (most == 0 || nat_lt 64 most) (nat_lt h
     go true b d p q h = cc
     go false true d p q h = cc
     go false false true p q h = cc
-    go false false false p q h = (w, refl, not_below have w.first p, not_below w.sent have q)
-      where
-        not_below : (m n : ℕ) → nat_lt m n ≡ false → n ≤ m
-        not_below m n h = grind (arith, nat_tests)
+    go false false false p q h = (w, refl, at_most have w.first p, at_most w.sent have q)
 
 pub min-above : (a b c : ℕ) → a ≤ b → a ≤ min (a + c) b
 min-above a b c h = grind (arith, nat_tests)
-
-pub min-below : (a b : ℕ) → min a b ≤ b
-min-below a b = grind (arith, nat_tests)
 
 max-right : (a b : ℕ) → b ≤ max a b
 max-right a b = grind (arith, nat_tests)
@@ -258,7 +247,7 @@ accepted-told S (Pull n have most) s r a g t = go (pulled (session_with n S.outb
     go (w, e, f, l) =
         let inside : IsWithin (length S.log) w = there-holds (IsWithin (length S.log)) n S.outbox.sessions w r.within e in
         let above : have ≤ to = min-above have (length S.log) most (omega (arith, l, inside.1)) in
-        let below : to ≤ length S.log = min-below (have + most) (length S.log) in
+        let below : to ≤ length S.log = min_within (have + most) (length S.log) in
         let size : length (edits_between S.log have to) ≡ to - have = length-between S.log have to above below in
         record {
           facts = sent_to to w;

@@ -1,5 +1,5 @@
 -- Operations that are handed over one after another.
-use Rattle.std.proofs.Common.{◌≡◌, ℕ, zero, suc, ◌+◌, ◌-◌, ◌<◌, ◌≤◌, ◌⊎◌, inl, inr, Bool, true, false, cond, Option, Some, None, Result, Ok, Err, List, [], ◌∷◌, ◌++◌, length, drop, get_or, refl, ap, ◌∙◌, sym, arith, append_assoc, add-one, drop-cons}
+use Rattle.std.proofs.Common.{◌≡◌, ℕ, zero, suc, ◌+◌, ◌-◌, ◌<◌, ◌≤◌, ◌⊎◌, inl, inr, Bool, true, false, Option, Some, None, Result, Ok, Err, List, [], ◌∷◌, ◌++◌, length, drop, get_or, refl, ap, ◌∙◌, sym, arith, append_assoc, add-one, drop-cons}
 use mathlib.Core.Path.{ap₂}
 use Rattle.std.specs.Prelude.{nat_le, nat_lt, if◌then◌else◌, IfOk, IfErr, OnErr}
 use Rattle.std.proofs.lemmas.List.{append-nil, length-append, drop_all}
@@ -7,7 +7,6 @@ use Rattle.opid.specs.declared.refusal.Refusal.{Refusal}
 use Rattle.opid.specs.declared.refusal.Refusal.TheVariants.{OwnSite, HoldFull, Memory}
 use Rattle.opid.specs.Operations.{Operation}
 use Rattle.opid.specs.Delivery.{clock_of, is_ready}
-use Rattle.opid.specs.Clocks.{is_next}
 use Rattle.holdback.specs.Offered.{look_for}
 use Rattle.holdback.specs.Ready.{first_ready, without_first_ready}
 use Rattle.replica.specs.declared.delivery.Delivery.{Delivery}
@@ -15,6 +14,7 @@ use Rattle.replica.specs.declared.delivery.Delivery.TheVariants.{Took, Kept, Aga
 use Rattle.replica.specs.Refused.{refusal_of}
 use Rattle.replica.specs.Settle.{Settling, appended_or_dropped, taken_out, round_with, round, rounds, settle}
 use Rattle.replica.specs.Deliver.{Contents, Delivered, unchanged, hold, integrate, deliver_new, deliver_found, claims_site, deliver, taken_by}
+use Rattle.replica.proofs.Lawfully.{fewer}
 use Rattle.room.specs.declared.outcome.Outcome.{Outcome}
 use Rattle.room.specs.Deliveries.{Handed, outcome_of, hand_over}
 
@@ -117,14 +117,6 @@ deliver-refused site log held x e = by (claims_site site log x)
 
 -- ---- how many are held
 
-taken_out-length : (clock : List ℕ) (held : List Operation) (x : Operation) → first_ready clock held ≡ Some x → length (without_first_ready clock held) + 1 ≡ length held
-taken_out-length clock [] x h = cc
-taken_out-length clock (y ∷ ys) x h = by (is_next y.site y.clock clock) h (taken_out-length clock ys x)
-  where
-    by : (b : Bool) → cond b (Some y) (first_ready clock ys) ≡ Some x → (first_ready clock ys ≡ Some x → length (without_first_ready clock ys) + 1 ≡ length ys) → length (if b then ys else y ∷ without_first_ready clock ys) + 1 ≡ suc (length ys)
-    by true e ih = omega arith
-    by false e ih = omega (arith, ih e)
-
 round-held : (s : Settling) → length (round s).held + (round s).taken ≤ length s.held + s.taken
 round-held s = by (nat_le 131072 (length s.log)) (first_ready (clock_of s.log) s.held) refl
   where
@@ -136,7 +128,7 @@ round-held s = by (nat_le 131072 (length s.log)) (first_ready (clock_of s.log) s
     by : (b : Bool) (o : Option Operation) → first_ready (clock_of s.log) s.held ≡ o → length (if b then s else round_with o s).held + (if b then s else round_with o s).taken ≤ length s.held + s.taken
     by true o e = omega arith
     by false None e = omega arith
-    by false (Some x) e = appended (refusal_of s.log x) x (taken_out-length (clock_of s.log) s.held x e)
+    by false (Some x) e = appended (refusal_of s.log x) x (fewer (clock_of s.log) s.held x e)
 
 rounds-held : (n : ℕ) (s : Settling) → length (rounds n s).held + (rounds n s).taken ≤ length s.held + s.taken
 rounds-held zero s = omega arith

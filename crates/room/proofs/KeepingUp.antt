@@ -1,5 +1,5 @@
 -- An editor that is given each reply of its session once, in order, has the version that the session was sent.
-use Rattle.std.proofs.Common.{◌≡◌, ℕ, ◌+◌, ◌-◌, ◌<◌, ◌≤◌, Bool, true, false, cond, Option, Some, None, Ok, Err, List, [], ◌∷◌, ◌++◌, length, refl, ap, ◌∙◌, sym, subst, arith, nat_eq}
+use Rattle.std.proofs.Common.{◌≡◌, ℕ, ◌+◌, ◌-◌, ◌<◌, ◌≤◌, Bool, true, false, cond, Option, Some, None, Ok, Err, List, [], ◌∷◌, ◌++◌, length, refl, ap, ◌∙◌, sym, subst, arith, nat_eq, eq-eqb}
 use Rattle.std.specs.Prelude.{min, max, MatchOption, if◌then◌else◌, option_map, option_and_then}
 use Rattle.std.proofs.lemmas.Bool.{eqb-true, cond-true, cond-false}
 use Rattle.std.proofs.lemmas.Bool.Decides.{nat_tests}
@@ -27,8 +27,8 @@ use Rattle.room.specs.Editor.{Editor, empty_editor, with_edits, with_reply, edit
 use Rattle.room.specs.Convergence.{given_to, or_before, last_known, is_session, replies_to, NamesVersion, after_call, PullsInStep, EditorsKeepUp}
 use Rattle.room.proofs.Handing.{Extends, hand_over-extends}
 use Rattle.room.proofs.Playing.{plays, reading-stays, length-between}
-use Rattle.room.proofs.Running.{IsWithin, IsRunning, IsRunning-empty, gone, next-running}
-use Rattle.room.proofs.Converging.{there-holds, there-below, joined-there, changed-there, pulled, min-above, min-below, state_of-extends}
+use Rattle.room.proofs.Running.{min_within, IsWithin, IsRunning, IsRunning-empty, gone, next-running}
+use Rattle.room.proofs.Converging.{there-holds, there-below, joined-there, changed-there, pulled, min-above, state_of-extends}
 
 -- the editor has what session s was sent, and reads it while the session is there
 abbrev pub KeepsUp : Option Session → Option Session → List Operation → ℕ → ℕ → Option Editor → Type 0
@@ -198,19 +198,16 @@ pull-keeps s t have most S before E run l a names k = by (nat_eq t s) refl
         let keeps : (F.version ≡ w.sent) × (F.text ≡ reading_at S.log F.version) = subst (λ o. KeepsUp o before S.log S.outbox.next_number s (Some F)) here k in
         let inside : IsWithin (length S.log) w = there-holds (IsWithin (length S.log)) t S.outbox.sessions w run.within there in
         let above : have ≤ to = min-above have (length S.log) most (omega (arith, m, inside.1)) in
-        let size : length es ≡ to - have = length-between S.log have to above (min-below (have + most) (length S.log)) in
+        let size : length es ≡ to - have = length-between S.log have to above (min_within (have + most) (length S.log)) in
         let now : session_with s (change_session t (sent_to to) S.outbox.sessions) ≡ Some (sent_to to w) =
         ap (λ m. session_with m (change_session t (sent_to to) S.outbox.sessions)) (sym e) ∙ changed-there t (sent_to to) w S.outbox.sessions (λ u. refl) there in
         let played : play F.text es ≡ Some (reading_at S.log (have + (to - have))) = ap (λ x. play x es) (keeps.1 ∙ ap (reading_at S.log) at) ∙ plays S.log have (to - have) l in
         let yes : with_edits have es F ≡ Some (record { text = reading_at S.log (have + (to - have)); version = F.version + length es }) =
-        cond-true (nat_eq have F.version) _ _ (ap (nat_eq have) at ∙ same have) ∙ ap (option_map (λ x. let G : Editor = record { text = x; version = F.version + length es } in G)) played in
+        cond-true (nat_eq have F.version) _ _ (eq-eqb have F.version (sym at)) ∙ ap (option_map (λ x. let G : Editor = record { text = x; version = F.version + length es } in G)) played in
         subst (λ o. KeepsUp o (known s S before) S.log S.outbox.next_number s (with_edits have es F)) (sym now)
         (subst (KeepsUp (Some (sent_to to w)) (known s S before) S.log S.outbox.next_number s) (sym yes)
         (omega (arith, size, at, above, whole w.sent to (omega (arith, keeps.0, at, above))), ap (reading_at S.log) (omega (arith, size, at))))
       where
-        same : (n : ℕ) → nat_eq n n ≡ true
-        same n = grind (arith, nat_tests)
-
         whole : (m n : ℕ) → m ≤ n → max m n ≡ n
         whole m n h = grind (arith, nat_tests)
 

@@ -102,13 +102,13 @@ IfThere-joined P s w (v ∷ ws) b h = by (nat_eq s v.number) h (IfThere-joined P
 
 -- ---- a call
 
-within_max : (a b c : ℕ) → a ≤ b → a ≤ max b c
+pub within_max : (a b c : ℕ) → a ≤ b → a ≤ max b c
 within_max a b c h = grind (arith, nat_tests)
 
 max_within : (a b c : ℕ) → a ≤ c → b ≤ c → max a b ≤ c
 max_within a b c h k = grind (arith, nat_tests)
 
-min_within : (a b : ℕ) → min a b ≤ b
+pub min_within : (a b : ℕ) → min a b ≤ b
 min_within a b = grind (arith, nat_tests)
 
 IsWithin-more : (m n : ℕ) → m ≤ n → (w : Session) → IsWithin m w → IsWithin n w

@@ -27,7 +27,7 @@ use Rattle.wire_json.proofs.Back.{op_back}
 abbrev AreSmall : List (ℕ × ℕ) → Type 0
 AreSmall ps = Each (λ p. (p.0 < 2 ^ 32) × (p.1 < 2 ^ 32)) ps
 
-small : (n : ℕ) → n < 2 ^ 32 → n < 2 ^ 64
+pub small : (n : ℕ) → n < 2 ^ 32 → n < 2 ^ 64
 small n h = omega arith
 
 -- ---- each number is a number

@@ -1,5 +1,5 @@
 -- The texts of replies, by serde_json's words.
-use Rattle.std.proofs.Common.{◌≡◌, ◌<◌, ◌≤◌, ◌^◌, ◌==◌, ℕ, List, [], ◌∷◌, ◌++◌, map, codes, cond, false, Some, decimal, refl, sym, ap, ap₂, ◌∙◌, arith, lit<, lit≤}
+use Rattle.std.proofs.Common.{◌≡◌, ◌<◌, ◌≤◌, ◌^◌, ℕ, List, [], ◌∷◌, ◌++◌, map, codes, false, Some, decimal, refl, sym, ap, ap₂, ◌∙◌, arith, lit<, lit≤}
 use Rattle.std.specs.Prelude.{IsTrue, encode_utf8_all}
 use Rattle.std.specs.Str.{all_scalars, chars}
 use Rattle.std.specs.List.{AllByRecursion}
@@ -23,8 +23,9 @@ use Rattle.room.specs.declared.reply.Reply.TheVariants.{Joined, Ok, Edits, Left,
 use Rattle.opid.specs.Operations.{Operation}
 use Rattle.room.specs.declared.outcome.Outcome as outcome
 use Rattle.room.specs.declared.outcome.Outcome.TheVariants as outcomes
+use Rattle.opid.proofs.Told.{number_of-injective}
 use Rattle.wire_json.proofs.OperationTexts.{op_compact, op_no_float}
-use Rattle.wire_json.proofs.Read.{different as one_text, op_numbers, op_depth}
+use Rattle.wire_json.proofs.Read.{different as one_text, small, op_numbers, op_depth}
 use Rattle.wire_json.specs.Text.{IsInRange, IsEditInRange, IsOperationInRange, IsOutcomeInRange, op_text, outcome_text, quote, text, listed, edit_text}
 use Rattle.wire_json.proofs.ListTexts.{regroup_3, regroup_5, regroup_7, list_compact}
 use Rattle.wire_json.specs.Written.{data_of, op_data, outcome_data, edit_data, each_data}
@@ -118,9 +119,6 @@ number_small SiteUsed = lit< tt
 number_small BadSnapshot = lit< tt
 number_small TooLong = lit< tt
 
-small : (n : ℕ) → n < 2 ^ 32 → n < 2 ^ 64
-small n h = omega arith
-
 edit_numbers : (es : List edit.Edit) → AllByRecursion IsEditInRange es → ItemsHaveNumbers (items_outline (each_data edit_data es))
 edit_numbers [] h = tt
 edit_numbers (Ins k c ∷ es) h = ((tt, (IsNumber-decimal k h.0.0, (tt, tt))), edit_numbers es h.1)
@@ -182,45 +180,6 @@ back r h = ap document (sym (print-outline (data_of r) ∙ compact r)) ∙ docum
 one_tree : (a b : reply.Reply) → IsInRange a → IsInRange b → text a ≡ text b → outline (data_of a) ≡ outline (data_of b)
 one_tree a b h k e = let p = sym (back a h) ∙ ap document e ∙ back b k in cc
 
--- the refusal with a number
-of_number : ℕ → Refusal
-of_number n = cond (n == 1) BadJson (cond (n == 2) BadField (cond (n == 3) UnknownKind (cond (n == 4) NoRoom (cond (n == 5) NoSession (cond (n == 6) TooManySessions (cond (n == 7) BadNumber (cond (n == 8) BadVersion (cond (n == 9) BadPlace (cond (n == 10) BadText (cond (n == 11) BadCount (cond (n == 12) Full (cond (n == 13) HistoryFull (cond (n == 14) BadSite (cond (n == 15) BadClock (cond (n == 16) OwnSite (cond (n == 17) Conflict (cond (n == 18) HoldFull (cond (n == 19) NotRising (cond (n == 20) UnknownElement (cond (n == 21) NotOlder (cond (n == 22) BadHave (cond (n == 23) BadRange (cond (n == 24) Busy (cond (n == 25) Worn (cond (n == 26) Memory (cond (n == 27) SiteUsed (cond (n == 28) BadSnapshot TooLong)))))))))))))))))))))))))))
-
-of_number_of : (why : Refusal) → of_number (number_of why) ≡ why
-unfolding of_number
-of_number_of BadJson = refl
-of_number_of BadField = refl
-of_number_of UnknownKind = refl
-of_number_of NoRoom = refl
-of_number_of NoSession = refl
-of_number_of TooManySessions = refl
-of_number_of BadNumber = refl
-of_number_of BadVersion = refl
-of_number_of BadPlace = refl
-of_number_of BadText = refl
-of_number_of BadCount = refl
-of_number_of Full = refl
-of_number_of HistoryFull = refl
-of_number_of BadSite = refl
-of_number_of BadClock = refl
-of_number_of OwnSite = refl
-of_number_of Conflict = refl
-of_number_of HoldFull = refl
-of_number_of NotRising = refl
-of_number_of UnknownElement = refl
-of_number_of NotOlder = refl
-of_number_of BadHave = refl
-of_number_of BadRange = refl
-of_number_of Busy = refl
-of_number_of Worn = refl
-of_number_of Memory = refl
-of_number_of SiteUsed = refl
-of_number_of BadSnapshot = refl
-of_number_of TooLong = refl
-
-same_refusal : (a b : Refusal) → number_of a ≡ number_of b → a ≡ b
-same_refusal a b h = sym (of_number_of a) ∙ ap of_number h ∙ of_number_of b
-
 -- characters have one spelling in UTF-8
 same_characters : (x y : List ℕ) → IsTrue (all_scalars x) → IsTrue (all_scalars y) → encode_utf8_all x ≡ encode_utf8_all y → x ≡ y
 same_characters x y h k e = sym (chars-encodes x h) ∙ ap chars e ∙ chars-encodes y k
@@ -254,7 +213,7 @@ one_outcome (outcomes.Took t d) (outcomes.Took u f) h k e =
     let same_taken = decimal_injective t u (small t h.0) (small u k.0) (cc) in
     let same_dropped = decimal_injective d f (small d h.1) (small f k.1) (cc) in
     cc
-one_outcome (outcomes.No x) (outcomes.No y) h k e = ap outcomes.No (same_refusal x y (decimal_injective (number_of x) (number_of y) (number_small x) (number_small y) (cc)))
+one_outcome (outcomes.No x) (outcomes.No y) h k e = ap outcomes.No (number_of-injective x y (decimal_injective (number_of x) (number_of y) (number_small x) (number_small y) (cc)))
 one_outcome outcomes.Kept outcomes.Kept h k e = refl
 one_outcome outcomes.Again outcomes.Again h k e = refl
 one_outcome (outcomes.Took t d) outcomes.Kept h k e = cc
@@ -295,7 +254,7 @@ one_reply (Text v x) (Text w y) h k e =
     let same_x = same_characters x y h.1 k.1 (cc) in
     cc
 one_reply (No p) (No q) h k e =
-    ap No (same_refusal p q (decimal_injective (number_of p) (number_of q) (number_small p) (number_small q) (cc)))
+    ap No (number_of-injective p q (decimal_injective (number_of p) (number_of q) (number_small p) (number_small q) (cc)))
 one_reply (Joined s v x) (Ok i j) h k e = cc
 one_reply (Joined s v x) (Edits i fs) h k e = cc
 one_reply (Joined s v x) Left h k e = cc
