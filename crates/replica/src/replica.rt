@@ -57,6 +57,31 @@ impl Replica {
         }
     }
 
+    /// The replica of a site whose log is these operations, and which holds nothing back. Takes the steps of an append
+    /// for each. Refused with `Memory`.
+    pub fn over(alloc: Global, site: Site, ops: &[Op]) -> Result<Replica, Refusal>
+        requires lawful { IsLawful ops.now }
+        requires few { length ops.now ≤ MAX_OPERATIONS }
+        ensures ok { IfOk result (λ r. r ≡ record { site = site; log = ops.now; held = []; room = 0 }) }
+        ensures memory { IfErr result (λ e. e ≡ Memory) }
+    {
+        let mut replica = Replica::new(alloc, site);
+        append_all(&mut replica.log, ops)?;
+        Ok(replica)
+    }
+
+    /// The replica of a site whose log is that of a document with no memory reserved, and which holds nothing back.
+    /// Takes a step for each operation. Refused with `Memory`.
+    pub fn over_doc(alloc: Global, site: Site, doc: Doc) -> Result<Replica, Refusal>
+        requires { doc.room ≡ 0 }
+        ensures ok { IfOk result (λ r. r ≡ record { site = site; log = doc.log; held = []; room = 0 }) }
+        ensures memory { IfErr result (λ e. e ≡ Memory) }
+    {
+        let mut replica = Replica::new(alloc, site);
+        replica.log = Log::over(alloc, doc)?;
+        Ok(replica)
+    }
+
     /// The site.
     pub fn site(&self) -> Site
         ensures { result ≡ self.now.site }
