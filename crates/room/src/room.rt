@@ -1,6 +1,8 @@
 //! The room: the machine with the history of the calls that it recorded.
-ghost use Rattle.std.specs.Prelude.{◌≡◌, ◌+◌, ◌^◌, ◌<◌, ◌≤◌, [], length, IfOk, OnOk, OnErr, Result};
+ghost use Rattle.std.specs.Prelude.{◌≡◌, ◌+◌, ◌^◌, ◌<◌, ◌≤◌, ◌↔◌, [], length, IfOk, OnOk, OnErr, Result};
 ghost use Rattle.opid.specs.Lawful.{IsLawful};
+ghost use Rattle.opid.specs.declared.refusal.Refusal.TheVariants.{HistoryFull};
+ghost use Rattle.room.specs.declared.reply.Reply.TheVariants.{No};
 
 use crate::call::Call;
 use crate::machine::Machine;
@@ -18,6 +20,7 @@ pub struct Room {
     machine: Machine,
     history: Vec<(u64, Call)>,
     mark: u64,
+    opened: usize,
 }
 
 impl Model for Room {
@@ -25,16 +28,15 @@ impl Model for Room {
 
     ghost Value = { Account };
 
-    ghost use Rattle.room.specs.Machine.{empty_room};
-    ghost use Rattle.room.specs.Kept.{IsRoom};
+    ghost use Rattle.room.specs.Kept.{opening_of, IsRoom};
 
-    ghost view = { λ r. record { opening = empty_room r.machine.site; history = r.history.items; state = r.machine } };
+    ghost view = { λ r. record { opening = opening_of r.opened r.machine; history = r.history.items; state = r.machine } };
 
-    ghost invariant = { λ r. IsRoom r.machine r.history.items r.mark };
+    ghost invariant = { λ r. IsRoom r.opened r.machine r.history.items r.mark };
 }
 
 impl Room {
-    ghost use Rattle.room.specs.Machine.{State, empty_room, answer};
+    ghost use Rattle.room.specs.Machine.{State, empty_room, room_over, answer};
     ghost use Rattle.room.specs.History.{state_of, mark, IsLegal, called, ran, Runs, PlacesInsertion};
     ghost use Rattle.room.specs.Convergence.{EditorsConverge, EditorsKeepUp};
 
@@ -42,10 +44,20 @@ impl Room {
     pub fn new(alloc: Global, site: Site) -> Room
         ensures { result ≡ record { opening = empty_room site; history = []; state = empty_room site } }
     {
+        Room::over(alloc, Replica::new(alloc, site))
+    }
+
+    /// The room of a replica that holds nothing back, opened over its log. Constant time; takes no memory.
+    pub fn over(alloc: Global, replica: Replica) -> Room
+        requires { replica.held ≡ [] }
+        ensures { result ≡ record { opening = room_over replica.site replica.log; history = []; state = room_over replica.site replica.log } }
+    {
+        let opened = replica.version() as usize;
         Room {
-            machine: Machine::new(alloc, site),
+            machine: Machine::over(alloc, replica),
             history: Vec::new(alloc),
             mark: 0,
+            opened,
         }
     }
 
@@ -54,7 +66,9 @@ impl Room {
         ensures value { result.now ≡ self.now.history }
         ensures legal { IsLegal self.now.history }
         ensures replays { state_of self.now.opening self.now.history ≡ self.now.state }
+        ensures counted { self.now.state.count ≡ length self.now.history }
         ensures lawful { IsLawful self.now.state.log }
+        ensures short { length (state_of self.now.opening self.now.history).log ≤ 131072 }
 
         // What editors make of the replies of their sessions is what the room reads.
         ensures editors_converge { EditorsConverge self.now }
@@ -62,6 +76,7 @@ impl Room {
     {
         // Its contract brings that the log is lawful, and that at most 1,048,576 calls are counted.
         let _ = self.machine.may_record();
+        let _ = self.machine.replica().version();
         &self.history
     }
 
@@ -93,7 +108,10 @@ impl Room {
         ensures answered { IfOk result (λ reply. reply ≡ answer self.old.state call) }
         ensures called { OnOk result (self.new ≡ called self.old ticket call) }
         ensures err { OnErr result (self.new ≡ self.old) }
+        ensures full { IfOk result (λ reply. (reply ≡ No HistoryFull) ↔ (length self.old.history ≡ 1048576)) }
+        ensures legal { IsLegal self.new.history }
         ensures lawful { IsLawful self.new.state.log }
+        ensures short { length (state_of self.new.opening self.new.history).log ≤ 131072 }
         ensures placed { PlacesInsertion self.old.state call }
 
         // What editors make of the replies of their sessions is what the room reads.
@@ -108,12 +126,14 @@ impl Room {
     }
 
     /// Answers a call and records it, as `call` tells.
+    #[tactic(auto, using(crate::proofs::Full::full_answer))]
     fn record(&mut self, ticket: u64, call: Call) -> Result<Reply, AllocError>
         requires least { mark self.old.history ≤ ticket }
         requires most { ticket < 2 ^ 62 }
         ensures answered { IfOk result (λ reply. reply ≡ answer self.old.state call) }
         ensures called { OnOk result (self.new ≡ called self.old ticket call) }
         ensures err { OnErr result (self.new ≡ self.old) }
+        ensures full { IfOk result (λ reply. (reply ≡ No HistoryFull) ↔ (length self.old.history ≡ 1048576)) }
         ensures placed { PlacesInsertion self.old.state call }
     {
         if !self.machine.may_record() {
