@@ -3,6 +3,7 @@
 
 mod laws;
 mod offer;
+mod opening;
 #[cfg(test)]
 mod operation_tests;
 mod operation_values;
@@ -13,7 +14,8 @@ mod tests;
 mod writing;
 
 pub use laws::{different_operations, different_replies, operations_read_back};
+pub use opening::read_open;
 pub use operation_values::write_op;
-pub use operations::read_op;
-pub use reading::{MAX_REQUEST_BYTES, read_request};
+pub use operations::{read_list, read_op};
+pub use reading::{MAX_REQUEST_BYTES, check_keys, read_number, read_request, read_value};
 pub use writing::write_reply;
