@@ -14,7 +14,7 @@ use Rattle.session_outbox.specs.Sessions.{session_with}
 use Rattle.session_outbox.specs.Answers.{submission_of}
 use Rattle.room.specs.declared.call.Call.{Call}
 use Rattle.room.specs.Machine.{State, Finding, check, first_of, unless}
-use Rattle.room.specs.History.{PlacesInsertion}
+use Rattle.room.specs.History.{Account, IsConsistent, PlacesInsertion}
 
 unless_accepted : (r : Option Refusal) → unless r ≡ Ok New → r ≡ None
 unless_accepted None h = refl
@@ -45,3 +45,6 @@ accepted_is_placed S l b c s n v k x e a =
     let here : first_of (submission_of (session_with s S.outbox.sessions) n v) (insertion_refusal S.log v k x) ≡ Ok New = subst (λ (d : Call). check S d ≡ Ok New) e a in
     asked_insertions-placed S.log S.site v k x l b
     (insertion_within S.log v k x (first_accepted (submission_of (session_with s S.outbox.sessions) n v) (insertion_refusal S.log v k x) here))
+
+pub consistent_places : (room : Account) (c : Call) → IsConsistent room → PlacesInsertion room.state c
+consistent_places room c r = accepted_is_placed room.state r.lawful r.site c

@@ -7,7 +7,7 @@ use Rattle.room.specs.declared.call.Call.{Call}
 use Rattle.room.specs.declared.call.Call.TheVariants.{Join, Ins, Del, Pull, Leave, Ops, Put, Read}
 use Rattle.room.specs.declared.reply.Reply.{Reply}
 use Rattle.room.specs.declared.reply.Reply.TheVariants as replies
-use Rattle.room.specs.Machine.{State, answer, next}
+use Rattle.room.specs.Machine.{State, may_record, answer, next}
 use Rattle.room.specs.History.{Account}
 use Rattle.room.specs.Editor.{Editor, empty_editor, with_reply, editor, IsInStep}
 
@@ -33,9 +33,13 @@ given_to (Ops after most) r = None
 given_to (Put ops) r = None
 given_to Read r = None
 
--- on these calls, from this state on, session s was given the reply
+-- In a full history the calls of session s are refused, and none is recorded.
+abbrev pub WasRefused : ℕ → State → Reply → Type 0
+WasRefused s S r = (may_record S ≡ false) × (c : Call) × (r ≡ answer S c) × (given_to c r ≡ Some s)
+
+-- on these calls, from this state on, session s was given the reply, or a refusal once no call is recorded any more
 abbrev pub WasGiven : ℕ → State → List (ℕ × Call) → Reply → Type 0
-WasGiven s S [] r = ⊥
+WasGiven s S [] r = WasRefused s S r
 WasGiven s S (e ∷ es) r = ((r ≡ answer S e.1) × (given_to e.1 r ≡ Some s)) ⊎ WasGiven s (next S e.1) es r
 
 abbrev pub or_before : Option Session → Option Session → Option Session

@@ -43,11 +43,13 @@ editor_from E (r ∷ rs) = option_and_then (λ F. editor_from F rs) (with_reply 
 abbrev pub editor : List Reply → Option Editor
 editor rs = editor_from empty_editor rs
 
--- the editor reads the version of the log that it says it has, which is from the session's first to its sent one
+-- The editor reads the version of the log that it says it has, which is from the session's first to its sent one; and
+-- these are versions of the log.
 pub record IsInStep (log : List Operation) (w : Session) (E : Editor) : Type 0 where
   pub reads : E.text ≡ reading_at log E.version
   pub first : w.first ≤ E.version
   pub sent : E.version ≤ w.sent
+  pub within : w.sent ≤ length log
 
 -- a beginning of the reply's edits was played, or nothing at all
 abbrev pub FollowsPart : Reply → Editor → Editor → Type 0

@@ -1,11 +1,10 @@
 //! The room: the machine with the history of the calls that it recorded.
-ghost use Rattle.std.specs.Prelude.{◌≡◌, ◌+◌, ◌^◌, ◌<◌, ◌≤◌, ◌↔◌, [], length, IfOk, OnOk, OnErr, Result};
-ghost use Rattle.opid.specs.Lawful.{IsLawful};
+ghost use Rattle.std.specs.Prelude.{◌≡◌, ◌+◌, ◌^◌, ◌<◌, ◌≤◌, ◌↔◌, [], true, length, IfOk, OnOk, OnErr, Result};
 ghost use Rattle.opid.specs.declared.refusal.Refusal.TheVariants.{HistoryFull};
 ghost use Rattle.room.specs.declared.reply.Reply.TheVariants.{No};
 
 use crate::call::Call;
-use crate::machine::Machine;
+use crate::machine::{MAX_CALLS, Machine};
 use crate::reply::Reply;
 use crate::reserved::push_reserved;
 use opid::{Refusal, Site};
@@ -36,9 +35,10 @@ impl Model for Room {
 }
 
 impl Room {
-    ghost use Rattle.room.specs.Machine.{State, empty_room, room_over, answer};
-    ghost use Rattle.room.specs.History.{state_of, mark, IsLegal, called, ran, Runs, PlacesInsertion};
+    ghost use Rattle.room.specs.Machine.{State, empty_room, room_over, may_record, answer};
+    ghost use Rattle.room.specs.History.{mark, called, ran, IsConsistent, Runs, PlacesInsertion, StepsRoom};
     ghost use Rattle.room.specs.Convergence.{EditorsConverge, EditorsKeepUp};
+    ghost use Rattle.room.specs.Intention.{KeepsIntentions, OnlyGrows};
 
     /// The room of a site with an empty document. Constant time; takes no memory.
     pub fn new(alloc: Global, site: Site) -> Room
@@ -52,6 +52,7 @@ impl Room {
         requires { replica.held ≡ [] }
         ensures { result ≡ record { opening = room_over replica.site replica.log; history = []; state = room_over replica.site replica.log } }
     {
+        prove!(replica.site().number() < 32);
         let opened = replica.version() as usize;
         Room {
             machine: Machine::over(alloc, replica),
@@ -62,21 +63,17 @@ impl Room {
     }
 
     /// The recorded calls, each with its ticket. Constant time.
+    #[tactic(auto, using(crate::proofs::Rooms::of_rooms))]
     pub fn history(&self) -> &[(u64, Call)]
         ensures value { result.now ≡ self.now.history }
-        ensures legal { IsLegal self.now.history }
-        ensures replays { state_of self.now.opening self.now.history ≡ self.now.state }
-        ensures counted { self.now.state.count ≡ length self.now.history }
-        ensures lawful { IsLawful self.now.state.log }
-        ensures short { length (state_of self.now.opening self.now.history).log ≤ 131072 }
+        ensures consistent { IsConsistent self.now }
 
-        // What editors make of the replies of their sessions is what the room reads.
+        // What editors make of the replies of their sessions is what the room reads, and what they asked for stays.
         ensures editors_converge { EditorsConverge self.now }
         ensures editors_keep_up { EditorsKeepUp self.now }
+        ensures keeps_intentions { KeepsIntentions self.now }
+        ensures only_grows { OnlyGrows self.now }
     {
-        // Its contract brings that the log is lawful, and that at most 1,048,576 calls are counted.
-        let _ = self.machine.may_record();
-        let _ = self.machine.replica().version();
         &self.history
     }
 
@@ -91,38 +88,34 @@ impl Room {
 
     /// The least ticket that may follow: the last recorded one plus one, or 0. Constant time.
     pub fn mark(&self) -> u64
-        ensures value { result ≡ mark self.now.history }
-        ensures legal { IsLegal self.now.history }
+        ensures { result ≡ mark self.now.history }
     {
-        // Its contract brings that at most 1,048,576 calls are counted.
-        let _ = self.machine.may_record();
         self.mark
     }
 
     /// Answers a call, and records it under its ticket, refused or not; only where 1,048,576 calls are recorded it
-    /// answers `HistoryFull` and records nothing. An error is for want of memory, and changes nothing. The refusals of
-    /// each call, in their order, and its cost are told at `Call`; recording takes one step.
+    /// answers `HistoryFull` and records nothing. An error is for want of memory, where the call would have been
+    /// recorded, and changes nothing. The refusals of each call, in their order, and its cost are told at `Call`;
+    /// recording takes one step.
+    #[tactic(auto, using(crate::proofs::Rooms::of_rooms))]
     pub fn call(&mut self, ticket: u64, call: Call) -> Result<Reply, AllocError>
         requires least { mark self.old.history ≤ ticket }
         requires most { ticket < 2 ^ 62 }
         ensures answered { IfOk result (λ reply. reply ≡ answer self.old.state call) }
         ensures called { OnOk result (self.new ≡ called self.old ticket call) }
         ensures err { OnErr result (self.new ≡ self.old) }
+        ensures memory { OnErr result (may_record self.old.state ≡ true) }
         ensures full { IfOk result (λ reply. (reply ≡ No HistoryFull) ↔ (length self.old.history ≡ 1048576)) }
-        ensures legal { IsLegal self.new.history }
-        ensures lawful { IsLawful self.new.state.log }
-        ensures short { length (state_of self.new.opening self.new.history).log ≤ 131072 }
         ensures placed { PlacesInsertion self.old.state call }
+        ensures consistent { IsConsistent self.new }
 
-        // What editors make of the replies of their sessions is what the room reads.
+        // What editors make of the replies of their sessions is what the room reads, and what they asked for stays.
         ensures editors_converge { EditorsConverge self.new }
         ensures editors_keep_up { EditorsKeepUp self.new }
+        ensures keeps_intentions { KeepsIntentions self.new }
+        ensures only_grows { OnlyGrows self.new }
     {
-        let result = self.record(ticket, call);
-
-        // Its contract brings that the log is lawful, and what editors make of the replies.
-        let _ = self.history();
-        result
+        self.record(ticket, call)
     }
 
     /// Answers a call and records it, as `call` tells.
@@ -133,8 +126,10 @@ impl Room {
         ensures answered { IfOk result (λ reply. reply ≡ answer self.old.state call) }
         ensures called { OnOk result (self.new ≡ called self.old ticket call) }
         ensures err { OnErr result (self.new ≡ self.old) }
+        ensures memory { OnErr result (may_record self.old.state ≡ true) }
         ensures full { IfOk result (λ reply. (reply ≡ No HistoryFull) ↔ (length self.old.history ≡ 1048576)) }
-        ensures placed { PlacesInsertion self.old.state call }
+        ensures before { IsConsistent self.old }
+        ensures consistent { IsConsistent self.new }
     {
         if !self.machine.may_record() {
             return Ok(Reply::No(Refusal::HistoryFull));
@@ -146,32 +141,36 @@ impl Room {
         Ok(reply)
     }
 
+    /// Answers a call under the least ticket that may follow, as `call` tells.
+    pub(crate) fn step(&mut self, call: Call) -> Result<Reply, AllocError>
+        requires { mark self.old.history ≤ 2 ^ 61 + length self.old.history }
+        ensures steps { IfOk result (λ reply. StepsRoom self.old call reply self.new) }
+        ensures err { OnErr result (self.new ≡ self.old) }
+        ensures in_range { mark self.new.history ≤ 2 ^ 61 + length self.new.history }
+        ensures consistent { IsConsistent self.new }
+    {
+        let ticket = self.mark;
+        self.call(ticket, call)
+    }
+
     /// Answers calls one after another, under tickets from `mark()` on. After an error, which is for want of memory,
     /// the replies are those of a beginning of the calls, and the room is where these leave it. Takes the steps of
     /// `call` for each, and a step for each character or operation in a call, which is copied.
+    #[tactic(auto, using(crate::proofs::Rooms::of_rooms))]
     pub fn run(&mut self, calls: &[Call], replies: &mut Vec<Reply>) -> Result<(), AllocError>
         requires { mark self.old.history ≤ 2 ^ 61 }
         ensures runs { Runs self.old calls.now replies.old.items result replies.new.items self.new }
+        ensures consistent { IsConsistent self.new }
         ensures editors_converge { EditorsConverge self.new }
         ensures editors_keep_up { EditorsKeepUp self.new }
+        ensures keeps_intentions { KeepsIntentions self.new }
+        ensures only_grows { OnlyGrows self.new }
     {
-        let result = self.answer_each(calls, replies);
-
-        // Its contract brings what editors make of the replies.
-        let _ = self.history();
-        result
-    }
-
-    /// Answers calls one after another, as `run` tells.
-    fn answer_each(&mut self, calls: &[Call], replies: &mut Vec<Reply>) -> Result<(), AllocError>
-        requires { mark self.old.history ≤ 2 ^ 61 }
-        ensures { Runs self.old calls.now replies.old.items result replies.new.items self.new }
-    {
+        prove!(self.history.len() <= MAX_CALLS as usize);
         for call in calls {
             replies.reserve(1)?;
             let copy = call.clone()?;
-            let ticket = self.mark();
-            let reply = self.call(ticket, copy)?;
+            let reply = self.step(copy)?;
             push_reserved(replies, reply);
         }
         Ok(())

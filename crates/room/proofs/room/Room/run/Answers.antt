@@ -1,4 +1,4 @@
-use Rattle.std.proofs.Common.{◌≡◌, ◌+◌, ◌^◌, ◌<◌, ◌≤◌, ◌++◌, ◌∷◌, [], ℕ, length, take, get_or, List, ap, ◌∙◌, subst, sym, append_assoc}
+use Rattle.std.proofs.Common.{refl, ◌≡◌, ◌+◌, ◌^◌, ◌<◌, ◌≤◌, ◌++◌, ◌∷◌, [], ℕ, length, take, get_or, List, ap, ◌∙◌, subst, sym, append_assoc}
 use mathlib.Core.Path.{ap₂}
 use Rattle.std.proofs.lemmas.List.{take_more}
 use Rattle.room.specs.declared.call.Call.{Call}
@@ -6,7 +6,8 @@ use Rattle.room.specs.declared.reply.Reply.{Reply}
 use Rattle.room.specs.Machine.{State, answer}
 use Rattle.room.specs.History.{Account, mark, called, ran, answers, after}
 use Rattle.room.proofs.Histories.{mark-within, ran-push, ran-state, answers-push}
-use Rattle.room.proofs.room.Room.answer_each.Goals as goal
+use Rattle.room.proofs.Intentions.{keeps_intentions}
+use Rattle.room.proofs.room.Room.run.Goals as goal
 
 -- one more call
 goes_on : (first room new : Account) (calls : List Call) (i : ℕ) (c copy : Call) (reply : Reply) (before replies more : List Reply) (t : ℕ) → i < length calls → c ≡ get_or calls i c → copy ≡ c
@@ -26,8 +27,21 @@ goes_on first room new calls i c copy reply before replies more t b e p w a r m 
 
 pub loop-call-preserved : goal.loop-call-preserved
 loop-call-preserved c =
-    let on = goes_on c.args.self.now c.loop-call.self c.call.new.self c.args.calls.now c.loop-call.call-index c.call-item.result c.in_ok-copy.copy c.in_ok-reply.reply
-    c.args.replies.now.items c.reserve.new.self.items c.push_reserved.new.items.items c.mark-ticket.result
-    c.loop-call-test.true c.call-item.is c.in_ok-copy.ensures.cases c.loop-call.invariant.within (c.reserve.ensures.items ∙ c.loop-call.invariant.answered) c.loop-call.invariant.room
-    c.mark-ticket.ensures.value c.in_ok-reply.ensures.answered c.in_ok-reply.ensures.called c.push_reserved.ensures.items in
-    record { within = on.0; answered = on.1; room = on.2 }
+    let on = goes_on c.args.self.now c.loop-call.self c.step.new.self c.args.calls.now c.loop-call.call-index c.call-item.result c.in_ok-copy.copy c.in_ok-reply.reply
+    c.args.replies.now.items c.reserve.new.self.items c.push_reserved.new.items.items (mark c.loop-call.self.history)
+    c.loop-call-test.true c.call-item.is c.in_ok-copy.ensures.cases c.loop-call.invariant.within
+    (c.reserve.ensures.items ∙ c.loop-call.invariant.answered) c.loop-call.invariant.room
+    refl c.in_ok-reply.ensures.steps.answered c.in_ok-reply.ensures.steps.called c.push_reserved.ensures.items in
+    record { within = on.0; consistent = c.in_ok-reply.ensures.consistent; answered = on.1; room = on.2 }
+
+pub returns-in_err-reserve-clause-keeps_intentions : goal.returns-in_err-reserve-clause-keeps_intentions
+returns-in_err-reserve-clause-keeps_intentions c = keeps_intentions c.loop-call.self c.loop-call.invariant.consistent
+
+pub returns-in_err-copy-clause-keeps_intentions : goal.returns-in_err-copy-clause-keeps_intentions
+returns-in_err-copy-clause-keeps_intentions c = keeps_intentions c.loop-call.self c.loop-call.invariant.consistent
+
+pub returns-in_err-reply-clause-keeps_intentions : goal.returns-in_err-reply-clause-keeps_intentions
+returns-in_err-reply-clause-keeps_intentions c = keeps_intentions c.step.new.self c.in_err-reply.ensures.consistent
+
+pub returns-clause-keeps_intentions : goal.returns-clause-keeps_intentions
+returns-clause-keeps_intentions c = keeps_intentions c.loop-call.self c.loop-call.invariant.consistent

@@ -1,0 +1,176 @@
+-- What an accepted submission asked for stays in the log where it was put, and stands at its place.
+use Rattle.std.proofs.Common.{◌≡◌, ℕ, zero, suc, ◌+◌, ◌-◌, ◌<◌, ◌≤◌, Bool, true, false, Option, Some, None, Ok, Err, List, [], ◌∷◌, ◌++◌, length, take, drop, refl, ap, ◌∙◌, sym, subst, arith, append_assoc}
+use Rattle.std.specs.Prelude.{nat_lt, slice_get, if◌then◌else◌}
+use Rattle.std.proofs.lemmas.List.{take_at, drop_at, length-append}
+use Rattle.opid.specs.declared.refusal.Refusal.{Refusal}
+use Rattle.opid.specs.declared.refusal.Refusal.TheVariants.{BadVersion, BadPlace, Full, HistoryFull}
+use Rattle.opid.specs.Operations.{Operation, insertions}
+use Rattle.opid.specs.Reading.{visible, visible_at}
+use Rattle.opid.specs.Lawful.{IsLawful}
+use Rattle.opid.specs.Asked.{asked_insertions, asked_deletions, IsPlaced}
+use Rattle.opid.proofs.Logs.{IsLawful-take}
+use Rattle.opid.proofs.Placing.{asked_insertions-placed}
+use Rattle.position_translate.specs.Causes.{is_bad_count, insertion_refusal, deletion_refusal}
+use Rattle.position_translate.proofs.Asking.{length-asked_insertions, length-asked_deletions}
+use Rattle.session_outbox.specs.declared.submission.Submission.TheVariants.{New}
+use Rattle.session_outbox.specs.Sessions.{session_with}
+use Rattle.session_outbox.specs.Answers.{submission_of}
+use Rattle.room.specs.declared.call.Call.{Call}
+use Rattle.room.specs.declared.call.Call.TheVariants.{Join, Ins, Del, Pull, Leave, Ops, Put, Read}
+use Rattle.room.specs.declared.reply.Reply.{Reply}
+use Rattle.room.specs.declared.reply.Reply.TheVariants as replies
+use Rattle.room.specs.Machine.{State, Finding, check, first_of, found_answer, found_next, accepted_answer, accepted_next, counted, recorded_answer, recorded_next, may_record, answer, next}
+use Rattle.room.specs.History.{Account, state_of, IsConsistent}
+use Rattle.room.specs.Intention.{asked_by, StandsAsked, IsAccepted, IsKept, state_before, KeepsIntentions, OnlyGrows}
+use Rattle.room.proofs.Accepted.{first_accepted, at_most}
+use Rattle.room.proofs.Handing.{Extends}
+use Rattle.room.proofs.Histories.{next-site}
+use Rattle.room.proofs.Converging.{state_of-extends}
+
+-- ---- along a history
+
+-- the log after a call of a history is a beginning of the log at its end
+next-grows : (S : State) (h : List (ℕ × Call)) (i : ℕ) (e : ℕ × Call) → slice_get h i ≡ Some e
+    → Extends (next (state_of S (take i h)) e.1).log (state_of S h).log
+next-grows S [] i e q = absurd cc
+next-grows S (x ∷ h) zero e q =
+    let same : x ≡ e = cc in subst (λ (y : ℕ × Call). Extends (next S y.1).log (state_of (next S x.1) h).log) same (state_of-extends (next S x.1) h)
+next-grows S (x ∷ h) (suc i) e q = next-grows (next S x.1) h i e q
+
+-- and so is the log before it
+before-grows : (S : State) (h : List (ℕ × Call)) (i : ℕ) → Extends (state_of S (take i h)).log (state_of S h).log
+before-grows S [] zero = state_of-extends S []
+before-grows S [] (suc i) = state_of-extends S []
+before-grows S (x ∷ h) zero = state_of-extends S (x ∷ h)
+before-grows S (x ∷ h) (suc i) = before-grows (next S x.1) h i
+
+any-site : (S : State) (c : Call) → (next S c).site ≡ S.site
+any-site S c = by (may_record S) refl
+  where
+    by : (b : Bool) → may_record S ≡ b → (next S c).site ≡ S.site
+    by true e = next-site S c e
+    by false e = ap (λ (b : Bool). (if b then counted (recorded_next S c) else S).site) e
+
+history-site : (S : State) (h : List (ℕ × Call)) → (state_of S h).site ≡ S.site
+history-site S [] = refl
+history-site S (e ∷ h) = history-site (next S e.1) h ∙ any-site S e.1
+
+before-site : (S : State) (h : List (ℕ × Call)) (i : ℕ) → (state_of S (take i h)).site ≡ (state_of S h).site
+before-site S h i = history-site S (take i h) ∙ sym (history-site S h)
+
+-- a beginning of a lawful log is lawful
+lawful_begins : (log longer : List Operation) → Extends log longer → IsLawful longer → IsLawful log
+lawful_begins log longer (more, e) l =
+    subst IsLawful (ap (take (length log)) e ∙ take_at log more (length log) refl) (IsLawful-take longer (length log) l)
+
+-- ---- one submission
+
+-- what is not refused has none of the causes
+none-version : (e f : Refusal) (a b c d : Bool) → (if a then Some e else if b then Some f else if c then Some BadPlace else if d then Some Full else None) ≡ None → a ≡ false
+none-version e f true b c d h = cc
+none-version e f false b c d h = refl
+
+none-place : (e f : Refusal) (a b c d : Bool) → (if a then Some e else if b then Some f else if c then Some BadPlace else if d then Some Full else None) ≡ None → c ≡ false
+none-place e f true b c d h = cc
+none-place e f false true c d h = cc
+none-place e f false false true d h = cc
+none-place e f false false false d h = refl
+
+-- an accepted submission: the versions that it is answered with, its operations at the end of the log, and their place
+record Goes (S : State) (c : Call) (start end : ℕ) : Type 0 where
+  from : start ≡ length S.log
+  to : end ≡ length S.log + length (asked_by S.site S.log c)
+  grown : (accepted_next S c).log ≡ S.log ++ asked_by S.site S.log c
+  placed : (more : List Operation) → StandsAsked (S.log ++ more) c (asked_by S.site S.log c)
+
+-- a place in a version that is there is its place in any longer log
+placed-longer : (log more xs : List Operation) (v k : ℕ) → v ≤ length log → IsPlaced log v k xs → IsPlaced (log ++ more) v k xs
+placed-longer log more xs v k b p =
+    subst (λ (l : List Operation). visible (l ++ xs) ≡ take k (visible l) ++ insertions xs ++ drop k (visible l)) (sym (take-within log more v b)) p
+  where
+    take-within : (log more : List Operation) (v : ℕ) → v ≤ length log → take v (log ++ more) ≡ take v log
+    take-within [] [] zero b = refl
+    take-within [] (x ∷ more) zero b = refl
+    take-within [] more (suc v) b = absurd (omega (arith, b))
+    take-within (x ∷ log) more zero b = refl
+    take-within (x ∷ log) more (suc v) b = ap (λ l. x ∷ l) (take-within log more v (omega (arith, b)))
+
+accepted-goes : (S : State) (c : Call) (start end : ℕ) → IsLawful S.log → S.site < 32 → check S c ≡ Ok New → accepted_answer S c ≡ replies.Ok start end → Goes S c start end
+accepted-goes S Join start end l b a e = absurd cc
+accepted-goes S (Ins s n v k x) start end l b a e =
+    let none : insertion_refusal S.log v k x ≡ None = first_accepted (submission_of (session_with s S.outbox.sessions) n v) (insertion_refusal S.log v k x) a in
+    let version : v ≤ length S.log = at_most (length S.log) v (none-version _ _ _ _ _ _ none) in
+    let place : k ≤ length (visible_at S.log v) = at_most (length (visible_at S.log v)) k (none-place _ _ _ (is_bad_count (length x)) _ _ none) in
+    let size : length (asked_insertions S.log S.site v k x) ≡ length x = length-asked_insertions S.log (asked_insertions S.log S.site v k x) S.site v k x refl in
+    let start_is : length S.log ≡ start = cc e in
+    let end_is : length S.log + length x ≡ end = cc e in
+    record {
+      from = sym start_is;
+      to = omega (arith, end_is, size);
+      grown = refl;
+      placed = λ more. placed-longer S.log more (asked_insertions S.log S.site v k x) v k version (asked_insertions-placed S.log S.site v k x l b place);
+    }
+accepted-goes S (Del s n v k c) start end l b a e =
+    let none : deletion_refusal S.log v k c ≡ None = first_accepted (submission_of (session_with s S.outbox.sessions) n v) (deletion_refusal S.log v k c) a in
+    let place : k + c ≤ length (visible_at S.log v) = at_most (length (visible_at S.log v)) (k + c) (none-place _ _ _ (is_bad_count c) _ _ none) in
+    let size : length (asked_deletions S.log S.site v k c) ≡ c = length-asked_deletions S.log (asked_deletions S.log S.site v k c) S.site v k c place refl in
+    let start_is : length S.log ≡ start = cc e in
+    let end_is : length S.log + c ≡ end = cc e in
+    record { from = sym start_is; to = omega (arith, end_is, size); grown = refl; placed = λ more. tt }
+accepted-goes S (Pull s have max) start end l b a e = absurd cc
+accepted-goes S (Leave s) start end l b a e = absurd cc
+accepted-goes S (Ops after most) start end l b a e = absurd cc
+accepted-goes S (Put ops) start end l b a e = absurd cc
+accepted-goes S Read start end l b a e = absurd cc
+
+-- the same of a call that may not be recorded
+goes : (S : State) (c : Call) (start end : ℕ) → IsLawful S.log → S.site < 32 → IsAccepted S c start end → Goes S c start end × ((next S c).log ≡ (accepted_next S c).log)
+goes S c start end l b a = by (may_record S) refl a.answered
+  where
+    found : (f : Finding) → f ≡ Ok New → found_answer S c f ≡ accepted_answer S c
+    found f e = ap (found_answer S c) e
+
+    done : (f : Finding) → f ≡ Ok New → found_next S c f ≡ accepted_next S c
+    done f e = ap (found_next S c) e
+
+    by : (t : Bool) → may_record S ≡ t → (if t then recorded_answer S c else replies.No HistoryFull) ≡ replies.Ok start end → Goes S c start end × ((next S c).log ≡ (accepted_next S c).log)
+    by true e q = (
+      accepted-goes S c start end l b a.is_new (sym (found (check S c) a.is_new) ∙ q),
+      ap (λ (t : Bool). (if t then counted (recorded_next S c) else S).log) e ∙ ap (λ (T : State). T.log) (done (check S c) a.is_new),
+    )
+    by false e q = absurd cc
+
+-- what was asked for stands in any longer log between the versions that were answered
+kept : (S : State) (c : Call) (start end : ℕ) (log : List Operation) → Goes S c start end → Extends (S.log ++ asked_by S.site S.log c) log → IsKept S.site log c start end
+kept S c start end log g (more, e) =
+    let asked : List Operation = asked_by S.site S.log c in
+    let whole : log ≡ S.log ++ (asked ++ more) = e ∙ append_assoc S.log asked more in
+    let front : take start log ≡ S.log = ap (take start) whole ∙ take_at S.log (asked ++ more) start (sym g.from) in
+    let back : drop start log ≡ asked ++ more = ap (drop start) whole ∙ drop_at S.log (asked ++ more) start (sym g.from) in
+    let count : length asked ≡ end - start = omega (arith, g.from, g.to) in
+    let part : take (end - start) (drop start log) ≡ asked = ap (take (end - start)) back ∙ take_at asked more (end - start) count in
+    record {
+      asked = part ∙ ap (λ (l : List Operation). asked_by S.site l c) (sym front);
+      stands = subst (λ (l : List Operation). StandsAsked l c (take (end - start) (drop start log))) (sym whole)
+          (subst (StandsAsked (S.log ++ (asked ++ more)) c) (sym part) (g.placed (asked ++ more)));
+    }
+
+-- ---- the room
+
+from_opening : (S : State) (h : List (ℕ × Call)) → IsLawful (state_of S h).log → (state_of S h).site < 32 → KeepsIntentions (record { opening = S; history = h; state = state_of S h })
+from_opening S h l b i e start end at a =
+    let before : State = state_of S (take i h) in
+    let site : before.site ≡ (state_of S h).site = before-site S h i in
+    let went : Goes before e.1 start end × ((next before e.1).log ≡ (accepted_next before e.1).log) =
+        goes before e.1 start end (lawful_begins before.log (state_of S h).log (before-grows S h i) l) (omega (arith, b, site)) a in
+    subst (λ (n : ℕ). IsKept n (state_of S h).log e.1 start end) site
+    (kept before e.1 start end (state_of S h).log went.0 (subst (λ (l : List Operation). Extends l (state_of S h).log) (went.1 ∙ went.0.grown) (next-grows S h i e at)))
+
+pub keeps_intentions : (room : Account) → IsConsistent room → KeepsIntentions room
+keeps_intentions room r = subst (λ (T : State). KeepsIntentions (record { opening = room.opening; history = room.history; state = T })) r.replays
+    (from_opening room.opening room.history (subst (λ (T : State). IsLawful T.log) (sym r.replays) r.lawful) (subst (λ (T : State). T.site < 32) (sym r.replays) r.site))
+
+pub only_grows : (room : Account) → IsConsistent room → OnlyGrows room
+only_grows room r i b =
+    let on : Extends (state_before room i).log (state_of room.opening room.history).log = before-grows room.opening room.history i in
+    (on.0, sym on.1 ∙ ap (λ (T : State). T.log) r.replays)
