@@ -1,5 +1,7 @@
 //! What each kind of call does with a room's document and its sessions.
-ghost use Rattle.std.specs.Prelude.{◌≡◌, ◌+◌, ◌-◌, ◌<◌, ◌≤◌, ℕ, [], List, None, IfOk, OnErr, length, vec_capacity};
+ghost use Rattle.std.specs.Prelude.{◌≡◌, ◌+◌, ◌-◌, ◌<◌, ◌≤◌, ℕ, [], List, None, false, IfOk, IsOk, OnErr, length, vec_capacity};
+ghost use Rattle.position_translate.specs.Causes.{is_bad_count};
+ghost use Rattle.replica.specs.Part.{part_of};
 ghost use Rattle.replica.specs.Deliver.{Contents};
 ghost use Rattle.opid.specs.Reading.{reading};
 ghost use Rattle.session_outbox.specs.Sessions.{Outbox, session_with, MayAccept};
@@ -56,6 +58,7 @@ fn join(replica: &Replica, outbox: &mut Sessions) -> Result<Reply, AllocError>
     ensures does { IfOk result (λ reply. Does replica.now outbox.old Join reply replica.now outbox.new) }
     ensures numbers { outbox.new.next_number ≤ outbox.old.next_number + 1 }
     ensures err { OnErr result (outbox.new ≡ outbox.old) }
+    ensures memory { OnErr result (length outbox.old.sessions < 64) }
 {
     if outbox.is_full() {
         return Ok(Reply::No(Refusal::TooManySessions));
@@ -181,7 +184,8 @@ fn leave(outbox: &mut Sessions, s: u32) -> Reply
 
 /// Tells the operations of the log from number `after` on, at most `max`. Takes a step for each.
 fn part(replica: &Replica, after: u32, max: u32) -> Result<Reply, AllocError>
-    ensures { IfOk result (λ reply. (outbox : Outbox) → Does replica.now outbox (Ops after max) reply replica.now outbox) }
+    ensures does { IfOk result (λ reply. (outbox : Outbox) → Does replica.now outbox (Ops after max) reply replica.now outbox) }
+    ensures memory { OnErr result (IsOk (part_of replica.now.log after max)) }
 {
     match replica.ops(after, max) {
         Ok(ops) => {
@@ -197,6 +201,7 @@ fn part(replica: &Replica, after: u32, max: u32) -> Result<Reply, AllocError>
 fn put(alloc: Global, replica: &mut Replica, ops: &Operations) -> Result<Reply, AllocError>
     ensures does { IfOk result (λ reply. (outbox : Outbox) → Does replica.old outbox (Put ops.now) reply replica.new outbox) }
     ensures err { OnErr result (replica.new ≡ replica.old) }
+    ensures memory { OnErr result (is_bad_count (length ops.now) ≡ false) }
 {
     let ops = ops.as_slice();
     let count = ops.len();
