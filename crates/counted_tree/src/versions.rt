@@ -1,0 +1,236 @@
+//! The version tree: one root for each version over nodes that all versions share (a persistent tree by copies of the
+//! path, Driscoll, Sarnak, Sleator, Tarjan 1989; balanced as by Adelson-Velsky and Landis 1962).
+ghost use Rattle.std.specs.Prelude.{◌≡◌, ℕ, ◌+◌, ◌*◌, ◌<◌, ◌≤◌, [], ◌∷◌, ◌++◌, length, slice_get, true, max, IfSome, OnOk, OnErr};
+ghost use Rattle.counted_tree.specs.Digits.{digits};
+ghost use Rattle.counted_tree.specs.Entry.{visible};
+ghost use Rattle.counted_tree.specs.Versions.{version_list, newest, newest_list, newest_root, root_at};
+ghost use Rattle.counted_tree.specs.Changed.{Lists, Shows, put, hidden, before as entries_before};
+ghost use Rattle.counted_tree.specs.Tree.{entries};
+ghost use Rattle.counted_tree.specs.Arena.{IsLinkBelow, AreSound};
+ghost use Rattle.counted_tree.specs.Change.{tree_in};
+
+use crate::above::Above;
+use crate::build::summary_of;
+use crate::change::{hide, insert, rank_in};
+use crate::nodes::Nodes;
+use crate::search::find_in;
+use crate::steps::Steps;
+use crate::walk::push_shown_in;
+use std::alloc::{AllocError, Global};
+use std::marker::Model;
+
+/// The list of each version, from the empty one on. An element is known by its number, the count of those that came
+/// before it; it stays in the list when it is hidden. A step is a look at a node.
+#[derive(Drop)]
+pub struct VersionTree {
+    nodes: Nodes,
+    table: Vec<Option<Above>>,
+    roots: Vec<Option<u32>>,
+    room: usize,
+}
+
+impl Model for VersionTree {
+    ghost use Rattle.std.specs.Prelude.{◌+◌, ◌≤◌, length, vec_len, vec_capacity};
+    ghost use Rattle.counted_tree.specs.Versions.{Versions, newest_root, lists_of, AreVersions};
+    ghost use Rattle.counted_tree.specs.Change.{tree_in};
+    ghost use Rattle.counted_tree.specs.Table.{IsNewest};
+
+    ghost Value = { Versions };
+
+    ghost view = { λ a. record { lists = lists_of a.nodes.0 a.roots.items; nodes = length a.nodes.0; room = a.room } };
+
+    ghost invariant = { λ a. AreVersions a.nodes a.roots.items a.room × IsNewest a.table.items (tree_in a.nodes (newest_root a.roots.items))
+        × (vec_len a.roots + a.room ≤ vec_capacity a.roots) × (vec_len a.table + a.room ≤ vec_capacity a.table) };
+}
+
+impl VersionTree {
+    /// Version 0 alone, which is empty. Takes no memory.
+    pub fn new(alloc: Global) -> VersionTree
+        ensures lists { result.lists ≡ [] ∷ [] }
+        ensures nodes { result.nodes ≡ 0 }
+        ensures room { result.room ≡ 0 }
+    {
+        VersionTree {
+            nodes: Nodes::new(alloc),
+            table: Vec::new(alloc),
+            roots: Vec::new(alloc),
+            room: 0,
+        }
+    }
+
+    /// How many nodes stand for all versions, 24 bytes each. Constant time.
+    pub fn nodes(&self) -> usize
+        ensures value { result ≡ self.now.nodes }
+        ensures few { result ≤ 40 * newest self.now }
+    {
+        self.nodes.len()
+    }
+
+    /// The newest version's number. Constant time.
+    pub fn newest(&self) -> usize
+        ensures value { result ≡ newest self.now }
+        ensures last { result + 1 ≡ length self.now.lists }
+        ensures within { result + self.now.room ≤ 131072 }
+    {
+        self.roots.len()
+    }
+
+    /// How many versions are reserved and not yet added. Constant time.
+    pub fn room(&self) -> usize
+        ensures { result ≡ self.now.room }
+    {
+        self.room
+    }
+
+    /// How many elements the newest version has, shown or not: the number of the next one. Constant time.
+    pub fn elements(&self) -> usize
+        ensures value { result ≡ length (newest_list self.now) }
+        ensures within { result ≤ 131072 }
+        ensures all { (e : ℕ) → e < result → Lists e (newest_list self.now) }
+    {
+        self.table.len()
+    }
+
+    /// The `k`-th shown element of a version, if it shows so many. Takes no memory, and at most twice as many steps as
+    /// the number of the version's elements has binary digits: 36 in the longest log.
+    pub fn find(&self, version: usize, k: usize, steps: &mut Steps) -> Option<u32>
+        requires { version < length self.now.lists }
+        ensures found { result ≡ slice_get (visible (version_list self.now version)) k }
+        ensures cost { steps.new ≤ steps.old + 2 * digits (length (version_list self.now version)) }
+    {
+        let root = root_of(self.roots.as_slice(), version);
+        find_in(&self.nodes, root, k, steps)
+    }
+
+    /// Appends the elements that a version shows, in order, by one pass over its tree: a step for each of its elements.
+    /// Refused memory leaves a beginning of them there.
+    pub fn push_shown(
+        &self,
+        version: usize,
+        into: &mut Vec<u32>,
+        steps: &mut Steps,
+    ) -> Result<(), AllocError>
+        requires { version < length self.now.lists }
+        ensures shown { OnOk result (into.new.items ≡ into.old.items ++ visible (version_list self.now version)) }
+        ensures cost { steps.new ≤ steps.old + length (version_list self.now version) }
+    {
+        let root = root_of(self.roots.as_slice(), version);
+        into.reserve(shown_in(&self.nodes, root))?;
+        push_shown_in(&self.nodes, root, into, steps)
+    }
+
+    /// How many elements a version shows. Constant time.
+    pub fn shown(&self, version: usize) -> usize
+        requires { version < length self.now.lists }
+        ensures { result ≡ length (visible (version_list self.now version)) }
+    {
+        let root = root_of(self.roots.as_slice(), version);
+        shown_in(&self.nodes, root)
+    }
+
+    /// How many shown elements stand before one in the newest version. Takes no memory, and as many steps as `find`.
+    pub fn rank(&self, elem: u32, steps: &mut Steps) -> usize
+        requires { Lists elem (newest_list self.now) }
+        ensures rank { result ≡ length (visible (entries_before elem (newest_list self.now))) }
+        ensures cost { steps.new ≤ steps.old + 2 * digits (length (newest_list self.now)) }
+    {
+        let root = last_root(self.roots.as_slice());
+        rank_in(&self.nodes, self.table.as_slice(), root, elem, steps)
+    }
+
+    /// Reserves `n` versions, if fewer are reserved: for each 41 nodes and a row of the table, some 1,000 bytes of which
+    /// only what is written comes into memory. Refused memory changes nothing.
+    pub fn reserve(&mut self, n: usize) -> Result<(), AllocError>
+        requires { length self.old.lists + n ≤ 131073 }
+        ensures lists { self.new.lists ≡ self.old.lists }
+        ensures nodes { self.new.nodes ≡ self.old.nodes }
+        ensures ok { OnOk result (self.new.room ≡ max self.old.room n) }
+        ensures err { OnErr result (self.new.room ≡ self.old.room) }
+    {
+        if self.room < n {
+            self.nodes.reserve(41 * n)?;
+            self.table.reserve(n)?;
+            self.roots.reserve(n)?;
+            self.room = n;
+        }
+        Ok(())
+    }
+
+    /// Adds a version with a further element, shown, right after another one, or before all others. Takes memory from the
+    /// reserve alone, and a logarithmic number of steps and nodes.
+    pub fn insert_after(&mut self, before: Option<u32>, elem: u32)
+        requires room { 1 ≤ self.old.room }
+        requires there { IfSome before (λ e. Lists e (newest_list self.old)) }
+        requires number { elem ≡ length (newest_list self.old) }
+        ensures lists { self.new.lists ≡ self.old.lists ++ put before (record { elem = elem; shown = true }) (newest_list self.old) ∷ [] }
+        ensures nodes { self.new.nodes ≤ self.old.nodes + (2 * digits (length (newest_list self.new)) + 4) }
+        ensures at_most { self.new.nodes ≤ self.old.nodes + 40 }
+        ensures room { self.new.room + 1 ≡ self.old.room }
+    {
+        let root = last_root(self.roots.as_slice());
+        let top = insert(&mut self.nodes, &mut self.table, root, before, elem);
+        self.room -= 1;
+        let _ = self.roots.push(Some(top));
+    }
+
+    /// Adds a version with an element hidden. Takes memory from the reserve alone, and a logarithmic number of steps and
+    /// nodes.
+    pub fn hide(&mut self, elem: u32)
+        requires room { 1 ≤ self.old.room }
+        requires shown { Shows elem (newest_list self.old) }
+        ensures lists { self.new.lists ≡ self.old.lists ++ hidden elem (newest_list self.old) ∷ [] }
+        ensures nodes { self.new.nodes ≤ self.old.nodes + (2 * digits (length (newest_list self.new)) + 4) }
+        ensures at_most { self.new.nodes ≤ self.old.nodes + 40 }
+        ensures room { self.new.room + 1 ≡ self.old.room }
+    {
+        let root = last_root(self.roots.as_slice());
+        let top = hide(&mut self.nodes, self.table.as_slice(), root, elem);
+        self.room -= 1;
+        let _ = self.roots.push(Some(top));
+    }
+
+    /// Adds a version with the newest list again. Constant time.
+    pub fn mark(&mut self)
+        requires { 1 ≤ self.old.room }
+        ensures lists { self.new.lists ≡ self.old.lists ++ newest_list self.old ∷ [] }
+        ensures nodes { self.new.nodes ≡ self.old.nodes }
+        ensures room { self.new.room + 1 ≡ self.old.room }
+    {
+        let root = last_root(self.roots.as_slice());
+        self.room -= 1;
+        let _ = self.roots.push(root);
+    }
+}
+
+/// How many elements a tree shows.
+fn shown_in(nodes: &Nodes, link: Option<u32>) -> usize
+    requires sound { AreSound nodes.now.0 }
+    requires link { IsLinkBelow (length nodes.now.0) link }
+    requires few { length (entries (tree_in nodes.now link)) ≤ 131072 }
+    ensures { result ≡ length (visible (entries (tree_in nodes.now link))) }
+{
+    let mut steps = Steps::new();
+    summary_of(nodes, link, &mut steps).shown as usize
+}
+
+/// A version's root, or none.
+fn root_of(roots: &[Option<u32>], version: usize) -> Option<u32>
+    requires { version ≤ length roots.now }
+    ensures { result ≡ root_at roots.now version }
+{
+    if version == 0 {
+        None
+    } else {
+        roots[version - 1]
+    }
+}
+
+/// The newest root, or none.
+fn last_root(roots: &[Option<u32>]) -> Option<u32>
+    ensures { result ≡ newest_root roots.now }
+{
+    match roots.last() {
+        Some(root) => *root,
+        None => None,
+    }
+}
