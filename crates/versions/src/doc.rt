@@ -13,10 +13,10 @@ ghost use Rattle.versions.specs.Sums.{last_sum};
 
 use crate::characters::Characters;
 use crate::integrate::{MAX_OPERATIONS, integrate, refusal_of};
-use crate::life::Life;
 use crate::reserved::{make_room, reserve_each};
-use crate::scan::{count_in, stamp_in, text_in};
+use crate::text::text_in;
 use causal_clock::{Clock, Op};
+use counted_tree::{Steps, VersionTree};
 use opid::{Edit, Refusal, SITES, Site, Stamp};
 use rga_list::Rga;
 use std::alloc::Global;
@@ -28,7 +28,7 @@ use std::marker::Model;
 pub struct Doc {
     ops: Vec<Op>,
     edits: Vec<Edit>,
-    lives: Vec<Life>,
+    tree: VersionTree,
     clock: Clock,
     sums: [u32; SITES],
     list: Rga,
@@ -46,8 +46,8 @@ impl Model for Doc {
 
     ghost view = { λ d. record { log = d.ops.items; room = d.room } };
 
-    ghost invariant = { λ d. IsDocument d.ops.items d.edits.items d.lives.items d.clock d.sums d.list.entries
-        × AreReserved (vec_len d.ops) (vec_capacity d.ops) (vec_len d.edits) (vec_capacity d.edits) (vec_len d.lives) (vec_capacity d.lives) d.list.room d.room };
+    ghost invariant = { λ d. IsDocument d.ops.items d.edits.items d.tree d.clock d.sums d.list.entries
+        × AreReserved (vec_len d.ops) (vec_capacity d.ops) (vec_len d.edits) (vec_capacity d.edits) d.tree d.list.room d.room };
 }
 
 impl Doc {
@@ -58,7 +58,7 @@ impl Doc {
         Doc {
             ops: Vec::new(alloc),
             edits: Vec::new(alloc),
-            lives: Vec::new(alloc),
+            tree: VersionTree::new(alloc),
             clock: Clock::zero(),
             sums: [0; SITES],
             list: Rga::new(alloc),
@@ -101,7 +101,7 @@ impl Doc {
         self.sums[usize::from(site.number())]
     }
 
-    /// Reserves memory for the next `n` operations, so that they aren't refused with `Memory`: for each some 200
+    /// Reserves memory for the next `n` operations, so that they aren't refused with `Memory`: for each some 1,200
     /// bytes, and what the linked order keeps for an insertion by any of 32 sites. Refused with `Memory`.
     pub fn reserve(&mut self, n: usize) -> Result<(), Refusal>
         ensures ok { OnOk result (self.new ≡ record self.old { room = max self.old.room n }) }
@@ -111,7 +111,7 @@ impl Doc {
         reserve_each(
             &mut self.ops,
             &mut self.edits,
-            &mut self.lives,
+            &mut self.tree,
             &mut self.list,
             n,
         )?;
@@ -119,8 +119,8 @@ impl Doc {
         Ok(())
     }
 
-    /// Adds an operation to the log, and gives its edit: what it does to the text. Takes the steps of one in the
-    /// linked order, and one for each element before it.
+    /// Adds an operation to the log, and gives its edit: what it does to the text. Takes logarithmic steps, and in the
+    /// linked order one for each element with a greater stamp that an insertion has to pass.
     ///
     /// Refused, in this order: `Full` with 131,072 operations, `UnknownElement` where the parent or target is no
     /// element, `NotOlder` where the parent's stamp isn't smaller, `Memory` only where nothing is reserved.
@@ -145,14 +145,14 @@ impl Doc {
         make_room(
             &mut self.ops,
             &mut self.edits,
-            &mut self.lives,
+            &mut self.tree,
             &mut self.list,
             self.room,
         )?;
         let edit = integrate(
             &mut self.ops,
             &mut self.edits,
-            &mut self.lives,
+            &mut self.tree,
             &mut self.clock,
             &mut self.sums,
             &mut self.list,
@@ -172,25 +172,30 @@ impl Doc {
         self.edits[n as usize - 1]
     }
 
-    /// How many characters there are in the version. Takes a step for each element.
+    /// How many characters there are in the version. Constant time.
     pub fn len_at(&self, version: u32) -> usize
         requires { version ≤ length self.now.log }
         ensures { result ≡ length (visible_at self.now.log version) }
     {
-        count_in(&self.list, self.lives.as_slice(), version)
+        self.tree.shown(version as usize)
     }
 
-    /// The stamp of the element at the place in the version, if that is so long. Takes a step for each element
-    /// before it.
+    /// The stamp of the element at the place in the version, if that is so long. A place counts characters. Takes
+    /// logarithmic steps, and no memory.
     pub fn element_at(&self, version: u32, place: usize) -> Option<Stamp>
         requires { version ≤ length self.now.log }
         ensures { result ≡ option_map (λ x. x.stamp) (slice_get (visible_at self.now.log version) place) }
     {
-        stamp_in(&self.list, self.lives.as_slice(), version, place)
+        let mut steps = Steps::new();
+        let _count = self.list.len();
+        match self.tree.find(version as usize, place, &mut steps) {
+            None => None,
+            Some(elem) => Some(self.list.get(elem).0),
+        }
     }
 
-    /// The text of the version. Takes a step for each element. Refused with `BadVersion` above the newest, and
-    /// with `Memory`.
+    /// The text of the version. Takes a step for each element of it, shown or not. Refused with `BadVersion` above the
+    /// newest, and with `Memory`.
     pub fn reading(&self, version: u32) -> Result<Characters, Refusal>
         ensures ok { IfOk result (λ text. text ≡ reading_at self.now.log version) }
         ensures known { OnOk result (version ≤ length self.now.log) }
@@ -199,7 +204,8 @@ impl Doc {
         if version as usize > self.ops.len() {
             return Err(Refusal::BadVersion);
         }
-        let text = text_in(self.alloc, &self.list, self.lives.as_slice(), version)?;
+        let _count = self.list.len();
+        let text = text_in(self.alloc, &self.tree, &self.list, version as usize)?;
         let _ = text.as_str();
         Ok(Characters::new(text))
     }
