@@ -1,6 +1,9 @@
-//! The worked cases of clocks and operations.
-use crate::{Clock, Op};
-use opid::{OpKind, Refusal, Site};
+//! The worked cases of clocks, operations and logs, and a random log beside a plain list.
+ghost use Rattle.std.specs.Prelude.{◌<◌};
+
+use crate::{Clock, Op, OpLog};
+use opid::{OpKind, Refusal, Site, Stamp};
+use std::alloc::Global;
 use std::test::Fail;
 
 fn site(number: u8) -> Result<Site, Refusal> {
@@ -54,5 +57,144 @@ fn an_operation_is_ready_after_its_past(rt: HostRuntime) -> Result<(), Fail> {
     assert_eq!(rt; second.stamp().sum, 2);
     assert_eq!(rt; second.number(), (one, 1));
     assert!(rt; first == first && first != second && first.kind() == kind && second.site() == one);
+    Ok(())
+}
+
+/// An operation of the site that inserts at the head, with this clock.
+fn typed(site: Site, clock: Clock) -> Result<Op, Refusal> {
+    Op::new(
+        site,
+        clock,
+        OpKind::Ins {
+            parent: None,
+            ch: 'a',
+        },
+    )
+}
+
+#[test]
+fn one_site_types_128_characters(rt: HostRuntime) -> Result<(), Fail> {
+    let zero = site(0)?;
+    let mut log = OpLog::new(rt.alloc());
+    let mut clock = Clock::zero();
+    for _ in 0..128u32 {
+        if clock.sum() < 131_072 {
+            clock = clock.raised(zero);
+        }
+        log.push(typed(zero, clock)?)?;
+    }
+    assert_eq!(rt; log.len(), 128);
+    assert_eq!(rt; log.stored(), 190);
+    Ok(())
+}
+
+/// Four operations, the last of which knows less of site 0 than the one of its site before it.
+fn falling() -> Result<[Op; 4], Refusal> {
+    let (zero, one, two) = (site(0)?, site(1)?, site(2)?);
+    Ok([
+        typed(zero, Clock::from_pairs(&[(zero, 1)])?)?,
+        typed(two, Clock::from_pairs(&[(two, 1)])?)?,
+        typed(one, Clock::from_pairs(&[(zero, 1), (one, 1)])?)?,
+        typed(one, Clock::from_pairs(&[(one, 2), (two, 1)])?)?,
+    ])
+}
+
+#[test]
+fn an_entry_that_fell_is_stored(rt: HostRuntime) -> Result<(), Fail> {
+    let mut log = OpLog::new(rt.alloc());
+    let ops = falling()?;
+    for op in ops.iter() {
+        log.push(*op)?;
+    }
+    assert_eq!(rt; log.stored(), 7);
+    assert!(rt; is_log_of(&log, &ops));
+    Ok(())
+}
+
+/// Whether the log has these operations: each by its place, and all that follow in order.
+fn is_log_of(log: &OpLog, ops: &[Op]) -> bool {
+    if log.len() != ops.len() {
+        return false;
+    }
+    for (place, op) in ops.iter().enumerate() {
+        if place >= log.len() || log.get(place) != *op {
+            return false;
+        }
+    }
+    let mut all = true;
+    for place in 0..ops.len() {
+        all &= place > 64 && place % 97 > 0 || is_rest(log, place, &ops[place..]);
+    }
+    all
+}
+
+/// Whether these are the log's operations from the place on.
+fn is_rest(log: &OpLog, place: usize, ops: &[Op]) -> bool {
+    if place > log.len() {
+        return false;
+    }
+    let mut rest = log.replay_from(place);
+    for op in ops {
+        if rest.next() != Some(*op) {
+            return false;
+        }
+    }
+    rest.next().is_none()
+}
+
+/// The next of a row of numbers that look random.
+fn drawn(seed: &mut u64, below: u64) -> u64
+    requires { 0 < below }
+    ensures { result < below }
+{
+    *seed = seed
+        .wrapping_mul(6_364_136_223_846_793_005)
+        .wrapping_add(1_442_695_040_888_963_407);
+    (*seed >> 33) % below
+}
+
+/// An operation of one of five sites, whose clock has nothing to do with those before it.
+fn any_op(alloc: Global, seed: &mut u64) -> Result<Op, Fail> {
+    let own = drawn(seed, 5) as u8;
+    let mut pairs = Vec::new(alloc);
+    for number in 0..5u8 {
+        let count = drawn(seed, 3) as u32;
+        let count = if number == own { count + 1 } else { count };
+        if count > 0 {
+            pairs.push((site(number)?, count))?;
+        }
+    }
+    let stamp = Stamp {
+        sum: drawn(seed, 100_000) as u32,
+        site: site(drawn(seed, 32) as u8)?,
+    };
+    let kind = match drawn(seed, 3) {
+        0 => OpKind::Ins {
+            parent: None,
+            ch: 'b',
+        },
+        1 => OpKind::Ins {
+            parent: Some(stamp),
+            ch: 'c',
+        },
+        _ => OpKind::Del { target: stamp },
+    };
+    Ok(Op::new(site(own)?, Clock::from_pairs(pairs.as_slice())?, kind)?)
+}
+
+#[test]
+fn a_log_gives_back_what_was_pushed(rt: HostRuntime) -> Result<(), Fail> {
+    let mut seed = 7;
+    let mut log = OpLog::new(rt.alloc());
+    let mut plain = Vec::new(rt.alloc());
+    for k in 0..2_000usize {
+        if k % 64 == 0 {
+            log.reserve(64)?;
+        }
+        let op = any_op(rt.alloc(), &mut seed)?;
+        log.push(op)?;
+        plain.push(op)?;
+    }
+    assert!(rt; is_log_of(&log, plain.as_slice()));
     Ok(())
 }

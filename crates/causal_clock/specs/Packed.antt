@@ -1,0 +1,97 @@
+-- What holds of a log's parts; no public clause cites these.
+use Rattle.std.specs.Prelude.{◌≡◌, ℕ, ◌+◌, ◌*◌, ◌%◌, ◌<◌, ◌≤◌, List, [], ◌∷◌, length, take, drop, replicate, get_or, slice_set}
+use Rattle.opid.specs.declared.kind.OpKind.{OpKind}
+use Rattle.opid.specs.declared.kind.OpKind.TheVariants.{Del}
+use Rattle.opid.specs.Operations.{Operation}
+use Rattle.opid.specs.Delivery.{clock_of, count_of}
+use Rattle.causal_clock.specs.declared.row.Row.{Row}
+use Rattle.causal_clock.specs.Kinds.{IsOperation}
+use Rattle.causal_clock.specs.Stored.{latest, stored}
+
+-- a kind, a row and an operation for places past the end
+abbrev pub no_kind : OpKind
+no_kind = Del (record { sum = 0; site = 0 })
+
+abbrev pub no_row : Row
+no_row = record { kind = no_kind; from = 0; prev = 0; site = 0; back = 0; count = 0 }
+
+abbrev pub no_op : Operation
+no_op = record { site = 0; clock = []; kind = no_kind }
+
+abbrev pub row_at : List Row → ℕ → Row
+row_at rows k = get_or rows k no_row
+
+abbrev pub op_at : List Operation → ℕ → Operation
+op_at ops k = get_or ops k no_op
+
+-- the counts with each of the entries put in
+abbrev pub fill : List ℕ → List (ℕ × ℕ) → List ℕ
+fill counts [] = counts
+fill counts (e ∷ es) = fill (slice_set counts e.0 e.1) es
+
+-- a row's entries
+abbrev pub changes_of : List (ℕ × ℕ) → Row → List (ℕ × ℕ)
+changes_of entries row = take row.count (drop row.from entries)
+
+-- the clock of a row's operation, after the clocks of its sites' last ones
+abbrev pub clock_told : List (List ℕ) → List (ℕ × ℕ) → Row → List ℕ
+clock_told clocks entries row = fill (get_or clocks row.site []) (changes_of entries row)
+
+-- the operations that rows tell, after the clocks of the sites' last ones
+unfoldable pub told : List (List ℕ) → List (ℕ × ℕ) → List Row → List Operation
+told clocks entries [] = []
+told clocks entries (r ∷ rs) =
+    record { site = r.site; clock = clock_told clocks entries r; kind = r.kind } ∷ told (slice_set clocks r.site (clock_told clocks entries r)) entries rs
+
+-- the clocks of the sites' last operations after those rows
+unfoldable pub after : List (List ℕ) → List (ℕ × ℕ) → List Row → List (List ℕ)
+after clocks entries [] = clocks
+after clocks entries (r ∷ rs) = after (slice_set clocks r.site (clock_told clocks entries r)) entries rs
+
+-- no site has an operation
+abbrev pub no_clocks : List (List ℕ)
+no_clocks = replicate 32 (clock_of [])
+
+-- the operations of a log
+abbrev pub logged : List (ℕ × ℕ) → List Row → List Operation
+logged entries rows = told no_clocks entries rows
+
+-- The row at k tells the operation there: its entries are put into the clock of no operations, or into that of
+-- the row that it names, which is one step nearer to a row of the first kind.
+pub record IsRow (entries : List (ℕ × ℕ)) (rows : List Row) (ops : List Operation) (k : ℕ) : Type 0 where
+  pub valid : IsOperation (op_at ops k)
+  pub site : (row_at rows k).site ≡ (op_at ops k).site
+  pub kind : (row_at rows k).kind ≡ (op_at ops k).kind
+  pub within : (row_at rows k).from + (row_at rows k).count ≤ length entries
+  pub base : (row_at rows k).back ≡ 0 → (op_at ops k).clock ≡ fill (clock_of []) (changes_of entries (row_at rows k))
+  pub earlier : 0 < (row_at rows k).back → (row_at rows k).prev < k
+  pub nearer : 0 < (row_at rows k).back → (row_at rows (row_at rows k).prev).back + 1 ≡ (row_at rows k).back
+  pub step : 0 < (row_at rows k).back → (op_at ops k).clock ≡ fill (op_at ops (row_at rows k).prev).clock (changes_of entries (row_at rows k))
+
+-- each row tells the operation at its place
+abbrev pub AreRows : List (ℕ × ℕ) → List Row → List Operation → Type 0
+AreRows entries rows ops = (k : ℕ) → k < length rows → IsRow entries rows ops k
+
+-- what is kept of a site: its last operation's clock and place, and how many operations it has
+pub record IsSite (rows : List Row) (ops : List Operation) (clocks : List (List ℕ)) (lasts numbers : List ℕ) (site : ℕ) : Type 0 where
+  pub clock : get_or clocks site [] ≡ latest ops site
+  pub number : get_or numbers site 0 ≡ count_of ops site
+  pub none : count_of ops site ≡ 0 → latest ops site ≡ clock_of []
+  pub last : 0 < count_of ops site → get_or lasts site 0 < length rows
+  pub near : 0 < count_of ops site → (row_at rows (get_or lasts site 0)).back ≤ count_of ops site % 64
+  pub same : 0 < count_of ops site → (op_at ops (get_or lasts site 0)).clock ≡ latest ops site
+
+-- the parts of a log of these operations
+pub record IsPacked (entries : List (ℕ × ℕ)) (rows : List Row) (ops : List Operation) (clocks : List (List ℕ)) (lasts numbers : List ℕ) : Type 0 where
+  pub each : length ops ≡ length rows
+  pub lines : AreRows entries rows ops
+  pub sites : (site : ℕ) → site < 32 → IsSite rows ops clocks lasts numbers site
+  pub current : clocks ≡ after no_clocks entries rows
+  pub kept : entries ≡ stored ops
+  pub small : length entries ≤ 32 * length rows
+
+-- memory for so many operations more, each with up to 32 entries
+pub record AreReserved (rows_len rows_capacity entries_len entries_capacity room : ℕ) : Type 0 where
+  pub rows : rows_len + room ≤ rows_capacity
+  pub entries : entries_len + 32 * room ≤ entries_capacity
+  pub few : rows_len + room ≤ 67108864

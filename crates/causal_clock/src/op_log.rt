@@ -1,0 +1,290 @@
+//! A log of operations that keeps of each clock the entries that changed.
+ghost use Rattle.std.specs.Prelude.{◌≡◌, ◌==◌, ◌||◌, not, ◌+◌, ◌-◌, ◌*◌, ◌<◌, ◌≤◌, ◌++◌, [], ◌∷◌, ℕ, Bool, Some, max, length, drop, slice_get, OnOk, OnErr, IfErr, vec_len, vec_capacity, true, false};
+ghost use Rattle.opid.specs.declared.refusal.Refusal.TheVariants.{Memory};
+ghost use Rattle.causal_clock.specs.Kinds.{IsOperation};
+ghost use Rattle.causal_clock.specs.Stored.{changes, entries_of, stored};
+ghost use Rattle.causal_clock.specs.Packed.{AreReserved, AreRows, IsPacked, fill, op_at, row_at, logged};
+
+use crate::changed::Changed;
+use crate::clock::Clock;
+use crate::op::Op;
+use crate::packed_kind::{PackedKind, site_of};
+use crate::replay::Replay;
+use crate::row::Row;
+use opid::{Refusal, SITES};
+use std::alloc::Global;
+use std::marker::Model;
+
+/// No log is longer: its entries have places of 32 bits.
+const MAX_ROWS: usize = 67_108_864;
+
+/// Each operation of a site that has a number of this multiple keeps its whole clock.
+const WHOLE: u32 = 64;
+
+/// A log of operations. Of each operation it keeps the entries of its clock that differ from those of its site's
+/// operation before, and of each 64th operation of a site all 32.
+#[derive(Drop)]
+pub struct OpLog {
+    rows: Vec<Row>,
+    entries: Vec<Changed>,
+    clocks: [Clock; SITES],
+    lasts: [u32; SITES],
+    numbers: [u32; SITES],
+    room: usize,
+}
+
+impl Model for OpLog {
+    ghost use Rattle.std.specs.Prelude.{vec_len, vec_capacity};
+    ghost use Rattle.causal_clock.specs.Logged.{Logged};
+
+    ghost Value = { Logged };
+
+    ghost use Rattle.causal_clock.specs.Packed.{IsPacked, AreReserved, logged};
+
+    ghost view = { λ l. record { ops = logged l.entries.items l.rows.items; room = l.room } };
+
+    ghost invariant = { λ l. IsPacked l.entries.items l.rows.items (logged l.entries.items l.rows.items) l.clocks l.lasts l.numbers
+        × AreReserved (vec_len l.rows) (vec_capacity l.rows) (vec_len l.entries) (vec_capacity l.entries) l.room };
+}
+
+impl OpLog {
+    /// The log of no operations. Takes no memory.
+    pub fn new(alloc: Global) -> OpLog
+        ensures { result ≡ record { ops = []; room = 0 } }
+    {
+        OpLog {
+            rows: Vec::new(alloc),
+            entries: Vec::new(alloc),
+            clocks: [Clock::zero(); SITES],
+            lasts: [0; SITES],
+            numbers: [0; SITES],
+            room: 0,
+        }
+    }
+
+    /// How many operations there are. Constant time.
+    pub fn len(&self) -> usize
+        ensures { result ≡ length self.now.ops }
+    {
+        self.rows.len()
+    }
+
+    /// How many entries are stored. Constant time.
+    pub fn stored(&self) -> usize
+        ensures { result ≡ length (stored self.now.ops) }
+    {
+        self.entries.len()
+    }
+
+    /// The operation at the place. Takes no memory, and at most 63 steps back along its site's operations.
+    pub fn get(&self, i: usize) -> Op
+        requires { i < length self.now.ops }
+        ensures { slice_get self.now.ops i ≡ Some result }
+    {
+        let rows = self.rows.as_slice();
+        let entries = self.entries.as_slice();
+        told_by(rows, entries, i, counts_at(rows, entries, i))
+    }
+
+    /// The operations from a place on, in order. The first one of each site takes the steps of `get`, each other one a
+    /// step for each entry that is stored of it. Takes no memory.
+    pub fn replay_from(&self, place: usize) -> Replay<'_>
+        requires { place ≤ length self.now.ops }
+        ensures { result ≡ drop place self.now.ops }
+    {
+        Replay::new(self.rows.as_slice(), self.entries.as_slice(), place)
+    }
+
+    /// Reserves memory for the next `n` operations, so that they aren't refused with `Memory`: for each 24 bytes,
+    /// and 128 for the 32 entries that it may have. Refused with `Memory`.
+    pub fn reserve(&mut self, n: usize) -> Result<(), Refusal>
+        ensures ok { OnOk result (self.new ≡ record self.old { room = max self.old.room n }) }
+        ensures err { OnErr result (self.new ≡ self.old) }
+        ensures memory { IfErr result (λ e. e ≡ Memory) }
+    {
+        reserve_each(&mut self.rows, &mut self.entries, n)?;
+        self.room = self.room.max(n);
+        Ok(())
+    }
+
+    /// Adds an operation. Takes a step for each site. Refused with `Memory`, only where nothing is reserved.
+    pub fn push(&mut self, op: Op) -> Result<(), Refusal>
+        ensures ok { OnOk result (self.new ≡ record { ops = self.old.ops ++ op ∷ []; room = self.old.room - 1 }) }
+
+        // The entries that are stored grow by those that the operation tells.
+        ensures stored { OnOk result (length (stored self.new.ops) ≡ length (stored self.old.ops) + length (entries_of self.old.ops op)) }
+        ensures err { OnErr result (self.new ≡ self.old) }
+        ensures memory { IfErr result (λ e. (e ≡ Memory) × (self.old.room ≡ 0)) }
+    {
+        if self.room == 0 {
+            reserve_each(&mut self.rows, &mut self.entries, 1)?;
+        }
+        append(
+            &mut self.rows,
+            &mut self.entries,
+            &mut self.clocks,
+            &mut self.lasts,
+            &mut self.numbers,
+            op,
+        );
+        self.room = self.room.saturating_sub(1);
+        Ok(())
+    }
+}
+
+/// Adds an item that there is room for.
+fn push_reserved<T: Drop>(items: &mut Vec<T>, item: T)
+    requires { vec_len items.old < vec_capacity items.old }
+    ensures items { items.new.items ≡ items.old.items ++ item ∷ [] }
+    ensures len { vec_len items.new ≡ vec_len items.old + 1 }
+    ensures capacity { vec_capacity items.old ≤ vec_capacity items.new }
+{
+    let _ = items.push(item);
+}
+
+/// Reserves memory for `n` more operations.
+fn reserve_each(rows: &mut Vec<Row>, entries: &mut Vec<Changed>, n: usize) -> Result<(), Refusal>
+    ensures rows { rows.new.items ≡ rows.old.items }
+    ensures entries { entries.new.items ≡ entries.old.items }
+    ensures kept { (room : ℕ) → AreReserved (vec_len rows.old) (vec_capacity rows.old) (vec_len entries.old) (vec_capacity entries.old) room
+        → AreReserved (vec_len rows.new) (vec_capacity rows.new) (vec_len entries.new) (vec_capacity entries.new) room }
+    ensures ok { OnOk result (AreReserved (vec_len rows.new) (vec_capacity rows.new) (vec_len entries.new) (vec_capacity entries.new) n) }
+    ensures memory { IfErr result (λ e. e ≡ Memory) }
+{
+    if rows.len() > MAX_ROWS || n > MAX_ROWS - rows.len() {
+        return Err(Refusal::Memory);
+    }
+    rows.reserve(n)?;
+    entries.reserve(SITES * n)?;
+    Ok(())
+}
+
+/// The counts of the clock of the operation at the place.
+pub(crate) fn counts_at(rows: &[Row], entries: &[Changed], at: usize) -> [u32; SITES]
+    requires within { at < length rows.now }
+    requires rows { AreRows entries.now rows.now (logged entries.now rows.now) }
+    ensures { result ≡ (op_at (logged entries.now rows.now) at).clock }
+{
+    let row = rows[at];
+    let before = if row.back == 0 {
+        [0; SITES]
+    } else {
+        counts_at(rows, entries, row.prev as usize)
+    };
+    filled(before, row.entries(entries))
+}
+
+/// The counts with each of the entries put in.
+pub(crate) fn filled(counts: [u32; SITES], entries: &[Changed]) -> [u32; SITES]
+    ensures { result ≡ fill counts entries.now }
+{
+    let mut counts = counts;
+    for change in entries {
+        let site = change.site();
+        counts[usize::from(site.number())] = change.count();
+    }
+    counts
+}
+
+/// The operation at the place, whose clock has these counts.
+pub(crate) fn told_by(rows: &[Row], entries: &[Changed], at: usize, counts: [u32; SITES]) -> Op
+    requires within { at < length rows.now }
+    requires rows { AreRows entries.now rows.now (logged entries.now rows.now) }
+    requires counts { counts ≡ (op_at (logged entries.now rows.now) at).clock }
+    ensures { slice_get (logged entries.now rows.now) at ≡ Some result }
+{
+    let row = rows[at];
+    match Op::new(row.site, Clock::of_counts(counts), row.kind.kind()) {
+        Ok(op) => op,
+        Err(_) => unreachable!(),
+    }
+}
+
+/// Whether an entry is stored: all are, or it differs from the one before.
+fn is_told(whole: bool, before: u32, count: u32) -> bool
+    ensures { result ≡ (whole || not (before == count)) }
+{
+    whole || before != count
+}
+
+/// Adds the entries of the clock that differ from those before, or all, and tells how many.
+fn push_changes(entries: &mut Vec<Changed>, whole: bool, before: &[u32; SITES], clock: &Clock) -> u8
+    requires room { vec_len entries.old + 32 ≤ vec_capacity entries.old }
+    ensures items { entries.new.items ≡ entries.old.items ++ changes whole before.now clock.now 32 }
+    ensures count { result ≡ length (changes whole before.now clock.now 32) }
+    ensures few { result ≤ 32 }
+    ensures capacity { vec_capacity entries.old ≤ vec_capacity entries.new }
+{
+    let counts = clock.counts();
+    let mut told = 0;
+    for number in 0..SITES {
+        let count = counts[number];
+        if is_told(whole, before[number], count) {
+            push_reserved(entries, Changed::new(site_of(number as u8), count));
+            told += 1;
+        }
+    }
+    told
+}
+
+/// How many operations of its site a site's operation of this number has to go back to one that tells its whole clock.
+fn back_of(rows: &[Row], whole: bool, number: u32, prev: u32) -> u8
+    requires { whole ≡ false → 1 < number → (prev < length rows.now) × ((row_at rows.now prev).back < 64) }
+    ensures whole { whole ≡ true → result ≡ 0 }
+    ensures first { number ≤ 1 → result ≡ 0 }
+    ensures next { whole ≡ false → 1 < number → result ≡ (row_at rows.now prev).back + 1 }
+{
+    if whole {
+        return 0;
+    }
+    if number <= 1 {
+        return 0;
+    }
+    rows[prev as usize].back + 1
+}
+
+/// Adds an operation that there is room for.
+fn append(
+    rows: &mut Vec<Row>,
+    entries: &mut Vec<Changed>,
+    clocks: &mut [Clock; SITES],
+    lasts: &mut [u32; SITES],
+    numbers: &mut [u32; SITES],
+    op: Op,
+)
+    requires packed { IsPacked entries.old.items rows.old.items (logged entries.old.items rows.old.items) clocks.old lasts.old numbers.old }
+    requires rows { vec_len rows.old < vec_capacity rows.old }
+    requires entries { vec_len entries.old + 32 ≤ vec_capacity entries.old }
+    requires few { vec_len rows.old < MAX_ROWS }
+    ensures packed { IsPacked entries.new.items rows.new.items (logged entries.new.items rows.new.items) clocks.new lasts.new numbers.new }
+    ensures grown { logged entries.new.items rows.new.items ≡ logged entries.old.items rows.old.items ++ op ∷ [] }
+    ensures rows { vec_len rows.new ≡ vec_len rows.old + 1 }
+    ensures entries { vec_len entries.new ≤ vec_len entries.old + 32 }
+    ensures row_capacity { vec_capacity rows.old ≤ vec_capacity rows.new }
+    ensures entry_capacity { vec_capacity entries.old ≤ vec_capacity entries.new }
+{
+    let site = op.site();
+    let place = usize::from(site.number());
+    let clock = op.clock();
+    let number = numbers[place] + 1;
+    let whole = number % WHOLE == 0;
+    let from = entries.len() as u32;
+    let before = clocks[place].counts();
+    let count = push_changes(entries, whole, &before, &clock);
+    let prev = lasts[place];
+    let back = back_of(rows.as_slice(), whole, number, prev);
+    lasts[place] = rows.len() as u32;
+    numbers[place] = number;
+    clocks[place] = clock;
+    push_reserved(
+        rows,
+        Row {
+            kind: PackedKind::new(op.kind()),
+            from,
+            prev,
+            site,
+            back,
+            count,
+        },
+    );
+}

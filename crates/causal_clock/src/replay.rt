@@ -1,0 +1,123 @@
+//! The operations of a log in order, from a place on.
+ghost use Rattle.std.specs.Prelude.{◌≡◌, ◌<◌, ◌≤◌, ℕ, List, Some, length, drop, slice_get, IfSome};
+ghost use Rattle.opid.specs.Operations.{Operation};
+ghost use Rattle.causal_clock.specs.Packed.{AreRows, op_at, logged};
+ghost use Rattle.causal_clock.specs.Replayed.{AreSeen};
+
+use crate::changed::Changed;
+use crate::op::Op;
+use crate::op_log::{counts_at, filled, told_by};
+use crate::row::Row;
+use opid::SITES;
+use std::marker::Model;
+
+/// The place and the clock of a site's last operation that was passed.
+#[derive(Clone, Copy)]
+pub(crate) struct Seen {
+    pub(crate) place: usize,
+    pub(crate) counts: [u32; SITES],
+}
+
+/// The operations of a log that are left, in order. The first one of each site takes the steps of `OpLog::get`, each
+/// other one a step for each entry that is stored of it.
+#[derive(Drop)]
+pub struct Replay<'a> {
+    rows: &'a [Row],
+    entries: &'a [Changed],
+    place: usize,
+    seen: [Option<Seen>; SITES],
+}
+
+impl<'a> Model for Replay<'a> {
+    ghost use Rattle.std.specs.Prelude.{List, drop};
+    ghost use Rattle.opid.specs.Operations.{Operation};
+    ghost use Rattle.causal_clock.specs.Packed.{logged};
+    ghost use Rattle.causal_clock.specs.Replayed.{IsReplay};
+
+    ghost Value = { List Operation };
+
+    ghost view = { λ r. drop r.place (logged r.entries.now r.rows.now) };
+
+    ghost invariant = { λ r. IsReplay r.seen r.entries.now r.rows.now r.place };
+}
+
+impl<'a> Replay<'a> {
+    /// These rows' operations from a place on.
+    pub(crate) fn new(rows: &'a [Row], entries: &'a [Changed], place: usize) -> Replay<'a>
+        requires rows { AreRows entries.now rows.now (logged entries.now rows.now) }
+        requires place { place ≤ length rows.now }
+        ensures { result ≡ drop place (logged entries.now rows.now) }
+    {
+        Replay {
+            rows,
+            entries,
+            place,
+            seen: [None; SITES],
+        }
+    }
+}
+
+impl<'a> Iterator for Replay<'a> {
+    type Item = Op;
+
+    ghost use Rattle.std.specs.Iterator.{YieldsFirst, item_count};
+
+    ghost next_gives = { YieldsFirst (λ s. s) };
+
+    ghost remaining = { item_count (λ s. s) };
+
+    fn next(&mut self) -> Option<Op> {
+        let at = self.place;
+        if at >= self.rows.len() {
+            return None;
+        }
+        self.place = at + 1;
+        Some(op_after(&mut self.seen, self.rows, self.entries, at))
+    }
+}
+
+/// The operation at the place, which becomes its site's last.
+fn op_after(seen: &mut [Option<Seen>; SITES], rows: &[Row], entries: &[Changed], at: usize) -> Op
+    requires within { at < length rows.now }
+    requires rows { AreRows entries.now rows.now (logged entries.now rows.now) }
+    requires seen { AreSeen seen.old (logged entries.now rows.now) }
+    ensures op { slice_get (logged entries.now rows.now) at ≡ Some result }
+    ensures seen { AreSeen seen.new (logged entries.now rows.now) }
+{
+    let counts = counts_after(seen, rows, entries, at);
+    let site = rows[at].site;
+    seen[usize::from(site.number())] = Some(Seen { place: at, counts });
+    told_by(rows, entries, at, counts)
+}
+
+/// The counts of the clock of the operation at the place, from those that are kept where they serve.
+fn counts_after(
+    seen: &[Option<Seen>; SITES],
+    rows: &[Row],
+    entries: &[Changed],
+    at: usize,
+) -> [u32; SITES]
+    requires within { at < length rows.now }
+    requires rows { AreRows entries.now rows.now (logged entries.now rows.now) }
+    requires seen { AreSeen seen.now (logged entries.now rows.now) }
+    ensures { result ≡ (op_at (logged entries.now rows.now) at).clock }
+{
+    let row = rows[at];
+    match counts_before(seen, &row) {
+        None => counts_at(rows, entries, at),
+        Some(before) => filled(before, row.entries(entries)),
+    }
+}
+
+/// The counts into which the row's entries are to be put, if they are kept.
+fn counts_before(seen: &[Option<Seen>; SITES], row: &Row) -> Option<[u32; SITES]>
+    ensures { (ops : List Operation) → AreSeen seen.now ops
+        → IfSome result (λ counts. (0 < row.now.back) × (counts ≡ (op_at ops row.now.prev).clock)) }
+{
+    let site = row.site;
+    let last = seen[usize::from(site.number())]?;
+    if row.back == 0 || last.place != row.prev as usize {
+        return None;
+    }
+    Some(last.counts)
+}
