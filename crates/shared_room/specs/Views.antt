@@ -1,0 +1,71 @@
+-- What the public contracts say of a shared room and of its passes, which are the server's own.
+use Rattle.std.specs.Prelude.{◌≡◌, ◌≤◌, ℕ, List, length, Some, slice_get}
+use Rattle.room.specs.declared.call.Call.{Call}
+use Rattle.room.specs.Machine.{State}
+use Rattle.room.specs.History.{IsLegal, state_of}
+use Rattle.room.specs.Desks.{Owns}
+use Rattle.history_lock.specs.declared.pass.Sight.{Sight}
+use Rattle.history_lock.specs.Locks as locks
+use Rattle.shared_room.specs.declared.kept.Item.{Item}
+use Rattle.shared_room.specs.declared.kept.KeptRoom.{KeptRoom}
+use Rattle.shared_room.specs.declared.pass.Pass.{Pass}
+use Rattle.shared_room.specs.declared.shared.SharedRoom.{SharedRoom}
+use Rattle.shared_room.specs.Trails.{trail_of, calls_of, opening_in}
+
+-- What a pass knows of the room's calls, each with its ticket.
+pub record View : Type 0 where
+  -- the recorded calls that it has seen
+  pub seen : List (ℕ × Call)
+  -- those that its last turn found
+  pub found : List (ℕ × Call)
+  -- those that were recorded through it, or through passes joined into it
+  pub mine : List (ℕ × Call)
+  -- the ticket that it drew last
+  pub drawn : ℕ
+  -- how many it may still draw
+  pub left : ℕ
+  -- how many tries were lost through it, or through passes joined into it
+  pub lost : ℕ
+
+-- what a pass knows, in the room's words
+abbrev pub view_of : Sight Item → View
+view_of v = record {
+  seen = calls_of v.seen;
+  found = calls_of v.found;
+  mine = calls_of v.mine;
+  drawn = v.drawn;
+  left = v.left;
+  lost = v.lost;
+}
+
+-- what the pass knows
+abbrev pub view : Pass → View
+view p = view_of (locks.sight p.pass)
+
+-- how many calls the pass may still make
+abbrev pub left : Pass → ℕ
+left p = (view p).left
+
+-- how the room was opened
+abbrev pub opening : SharedRoom → State
+opening room = opening_in (locks.opening_of (λ (kept : KeptRoom). trail_of kept.room) room.lock)
+
+-- no two of the calls have one ticket
+abbrev pub AreDistinct : List (ℕ × Call) → Type 0
+AreDistinct mine =
+    (k l : ℕ) (e f : ℕ × Call) → slice_get mine k ≡ Some e → slice_get mine l ≡ Some f → e.0 ≡ f.0 → k ≡ l
+
+-- it is a pass of this room, between two calls
+pub record IsPassOf (room : SharedRoom) (p : Pass) : Type 0 where
+  -- it is a pass of the room's lock
+  pub pass : locks.IsPassOf room.lock p.pass
+  -- without a ticket
+  pub idle : locks.IsIdle p.pass
+  -- what it has seen is a legal history
+  pub legal : IsLegal (view p).seen
+  -- which leads to a log within its limit
+  pub short : length (state_of (opening room) (view p).seen).log ≤ 131072
+  -- in which its own calls stand, each once
+  pub owns : Owns (view p).mine (view p).seen
+  -- no two of which have one ticket
+  pub distinct : AreDistinct (view p).mine
