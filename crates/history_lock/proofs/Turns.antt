@@ -1,5 +1,6 @@
 -- What a pass knows of the turns stays known, and is the same for all passes of a lock.
-use Rattle.std.proofs.Common.{◌≡◌, ℕ, zero, suc, ◌+◌, ◌^◌, ◌<◌, ◌≤◌, List, [], ◌∷◌, ◌++◌, length, Some, slice_get, refl, ap, sym, subst, ◌∙◌, arith, add-one, length-append}
+use Rattle.std.proofs.Common.{◌≡◌, ℕ, zero, suc, ◌+◌, ◌^◌, ◌<◌, ◌≤◌, List, [], ◌∷◌, ◌++◌, length, Some, slice_get, refl, ap}
+use Rattle.std.proofs.Common.{sym, subst, ◌∙◌, arith, add-one, length-append}
 use mathlib.Core.List.{IsPrefix}
 use Rattle.history_lock.specs.declared.pass.Sight.{Sight}
 use Rattle.history_lock.specs.Sights.{last_or, took, finished, joined, learned}
@@ -29,7 +30,8 @@ prefix_same (x ∷ xs) (y ∷ ys) (z ∷ zs) p q same =
 
 module _ {E : Type 0} where
   -- at its turn a pass finds what was left for it
-  pub found_left : (v : Sight E) (begun n : ℕ) (ends : List ℕ) (log found : List E) → v.opening ≡ begun → length ends ≡ n → last_or begun ends ≡ length log → found ≡ log
+  pub found_left : (v : Sight E) (begun n : ℕ) (ends : List ℕ) (log found : List E) → v.opening ≡ begun → length ends ≡ n
+      → last_or begun ends ≡ length log → found ≡ log
       → LeftFor (took v ends found) n found
   found_left v begun n ends log found is turns last same = record {
     long = ap (λ k. slice_get (v.opening ∷ ends) k) (sym turns) ∙ (start_last v.opening ends ∙ ap Some (ap (λ k. last_or k ends) is ∙ (last ∙ ap length (sym same))));
@@ -76,7 +78,8 @@ module _ {E : Type 0} where
   left_at v w n trail e left = let P : Sight E → Type 0 = λ u. LeftFor u n trail in subst P e left
 
   -- a join contains what either pass knew
-  pub joins_first : (v w m u : Sight E) → m ≡ joined v w → u ≡ learned m → IsPrefix m.ends (learned m).ends → IsPrefix m.seen (learned m).seen → Grows v u
+  pub joins_first : (v w m u : Sight E) → m ≡ joined v w → u ≡ learned m → IsPrefix m.ends (learned m).ends
+      → IsPrefix m.seen (learned m).seen → Grows v u
   joins_first v w m u is is' ends seen =
       let P : Sight E → Type 0 = λ k. IsPrefix k.ends (learned k).ends × IsPrefix k.seen (learned k).seen in
       let h = subst P is (ends, seen) in
@@ -84,7 +87,8 @@ module _ {E : Type 0} where
       let Q : Sight E → Type 0 = λ k. Grows v k in
       subst Q (sym e) record { opening = refl; account = h.0; seen = h.1 }
 
-  pub joins_second : (v w m u : Sight E) → v.opening ≡ w.opening → m ≡ joined v w → u ≡ learned m → IsPrefix m.told_ends (learned m).ends → IsPrefix m.told (learned m).seen → Grows w u
+  pub joins_second : (v w m u : Sight E) → v.opening ≡ w.opening → m ≡ joined v w → u ≡ learned m
+      → IsPrefix m.told_ends (learned m).ends → IsPrefix m.told (learned m).seen → Grows w u
   joins_second v w m u same is is' ends seen =
       let P : Sight E → Type 0 = λ k. IsPrefix k.told_ends (learned k).ends × IsPrefix k.told (learned k).seen in
       let h = subst P is (ends, seen) in
@@ -118,7 +122,8 @@ closes_exact trail mark v w m n t x f below all left =
 
 module _ {E : Type 0} where
   -- a turn whose pass leaves what it found
-  pub took_turn : (d e w : Sight E) (n : ℕ) (t : List E) → d.drawn ≡ n → e ≡ took d e.ends t → length e.ends ≡ n → LeftFor e n t → w ≡ finished e t → LeftFor w (n + 1) t → Grows e w → TookTurn w
+  pub took_turn : (d e w : Sight E) (n : ℕ) (t : List E) → d.drawn ≡ n → e ≡ took d e.ends t → length e.ends ≡ n → LeftFor e n t
+      → w ≡ finished e t → LeftFor w (n + 1) t → Grows e w → TookTurn w
   took_turn d e w n t drew is turns left is' next grows =
       let drawn : w.drawn ≡ n = ap (λ u. u.drawn) is' ∙ (ap (λ u. u.drawn) is ∙ drew) in
       let found : w.found ≡ t = ap (λ u. u.found) is' ∙ ap (λ u. u.found) is in
@@ -130,7 +135,8 @@ module _ {E : Type 0} where
       }
 
   -- one pass is told and takes a turn, and then the other
-  pub take_turns : (a b a1 a2 a' b0 b1 b' : Sight E) → b0 ≡ b → a' ≡ a2 → Grows a a1 → Grows b a1 → TookTurn a2 → Grows a1 a2 → Grows b0 b1 → Grows a2 b1 → TookTurn b' → Grows b1 b' → length b1.ends ≤ b'.drawn
+  pub take_turns : (a b a1 a2 a' b0 b1 b' : Sight E) → b0 ≡ b → a' ≡ a2 → Grows a a1 → Grows b a1 → TookTurn a2 → Grows a1 a2
+      → Grows b0 b1 → Grows a2 b1 → TookTurn b' → Grows b1 b' → length b1.ends ≤ b'.drawn
       → TookTurns a b a' b'
   take_turns a b a1 a2 a' b0 b1 b' is is' g h first g' k k' second g'' later =
       let P : Sight E → Type 0 = λ u. TookTurns a b u b' in
@@ -138,6 +144,7 @@ module _ {E : Type 0} where
       subst P (sym is') record { first = first; second = second; order = omega arith; grows = (grows_trans a a1 a2 g g', grows_trans b a1 a2 h g', grows_trans a2 b1 b' k' g'') }
 
   -- turn 0 finds the opening
-  pub first_finds_opening : (w : Sight E) (n : ℕ) (found opening : List E) → LeftFor w n found → n ≡ 0 → LeftFor w 0 opening → found ≡ opening
+  pub first_finds_opening : (w : Sight E) (n : ℕ) (found opening : List E) → LeftFor w n found → n ≡ 0 → LeftFor w 0 opening
+      → found ≡ opening
   first_finds_opening w n found opening left is known =
       let P : ℕ → Type 0 = λ k. LeftFor w k found in left_once w w w 0 found opening (grows_self w) (grows_self w) (subst P is left) known

@@ -8,7 +8,8 @@ module _ {E : Type 0} where
   abbrev pub starts_of : Sight E → List ℕ
   starts_of v = v.opening ∷ v.ends
 
-  -- the trail that turn n begins with, as the pass knows: for turn 0 the one that the lock was opened with, for any other the one that the turn before it left
+  -- the trail that turn n begins with, as the pass knows: for turn 0 the one that the lock was opened with, for any other the
+  -- one that the turn before it left
   pub record LeftFor (v : Sight E) (n : ℕ) (trail : List E) : Type 0 where
     -- it is as long as the trail was then
     pub long : slice_get (starts_of v) n ≡ Some (length trail)

@@ -1,5 +1,9 @@
-//! Where threads sleep that are further back in the line. Tickets that are 64 apart share a bell, so that a turn wakes one in 64 of those that sleep.
+//! Where threads sleep until their turn comes nearer, and who wakes them. Tickets that are 64 apart share a bell, so
+//! that a
+//! turn wakes one in 64 of those that sleep behind the first in line. Nothing here is a step of the lock.
 
+use crate::lock::{NEXT, SERVED, Ticket, TicketLock};
+use crate::trailed::Trailed;
 use std::sync::Wait;
 use std::sync::atomic::AtomicU64;
 use std::sync::atomic::Ordering::SeqCst;
@@ -19,21 +23,32 @@ impl Sleepers {
         }
     }
 
-    // A thread comes before its last look at the lock, so who changes the lock after that look counts it.
-    pub fn come(&self) {
-        self.count.fetch_add(1, SeqCst);
-    }
-
-    pub fn go(&self) {
+    fn go(&self) {
         self.count.fetch_sub(1, SeqCst);
     }
 
-    pub fn are_there(&self) -> bool {
+    fn are_there(&self) -> bool {
         self.count.load(SeqCst) > 0
     }
 }
 
-/// The bells of a lock. Tickets that are 64 apart share one.
+/// How often it rang, and who sleeps beside it.
+#[derive(Drop)]
+pub(crate) struct Bell {
+    rings: AtomicU64,
+    sleepers: Sleepers,
+}
+
+impl Bell {
+    fn ring(&self) {
+        self.rings.fetch_add(1, SeqCst);
+        if self.sleepers.are_there() {
+            self.rings.wake_all();
+        }
+    }
+}
+
+/// The bells of a lock.
 #[derive(Drop)]
 pub(crate) struct Bells {
     bells: [Bell; COUNT],
@@ -49,37 +64,58 @@ impl Bells {
         }
     }
 
-    pub fn of(&self, ticket: u64) -> &Bell {
+    fn of(&self, ticket: u64) -> &Bell {
         &self.bells[(ticket % COUNT as u64) as usize]
     }
 }
 
-/// How often it rang, and who sleeps beside it.
-#[derive(Drop)]
-pub(crate) struct Bell {
-    rings: AtomicU64,
-    sleepers: Sleepers,
-}
-
-impl Bell {
-    pub fn come(&self) -> u32 {
-        self.sleepers.come();
-        (self.rings.load(SeqCst) & 0xffff_ffff) as u32
+impl<T: Trailed> TicketLock<T> {
+    // Comes to a place, and then looks whose turn it is. Who gives the turn on after that look finds that a thread
+    // came, so
+    // no wake-up is lost; no thread comes in another way.
+    fn come(&self, sleepers: &Sleepers) -> u64 {
+        sleepers.count.fetch_add(1, SeqCst);
+        self.table.shared.peek(SERVED)
     }
 
-    // Sleeps until a ring that came after `heard`.
-    pub fn sleep<R: Wait>(&self, rt: &R, heard: u32) {
-        self.rings.park(rt, heard);
+    // The same at a bell, and first how often it has rung: a ring after the look is a later one.
+    fn come_to(&self, bell: &Bell) -> (u32, u64) {
+        let heard = (bell.rings.load(SeqCst) & 0xffff_ffff) as u32;
+        (heard, self.come(&bell.sleepers))
     }
 
-    pub fn go(&self) {
-        self.sleepers.go();
-    }
-
-    pub fn ring(&self) {
-        self.rings.fetch_add(1, SeqCst);
-        if self.sleepers.are_there() {
-            self.rings.wake_all();
+    // Sleeps until the number of the ticket that is served changes, unless it is this ticket's turn. It may return
+    // early.
+    pub(crate) fn sleep<R: Wait>(&self, rt: &R, ticket: &Ticket) {
+        let served = self.come(&self.first);
+        if ticket.number != served {
+            self.table
+                .shared
+                .park(rt, SERVED, (served & 0xffff_ffff) as u32);
         }
+        self.first.go();
+    }
+
+    // Sleeps until the ticket is the next in line, unless it is that or has its turn. It may return early.
+    pub(crate) fn sleep_behind<R: Wait>(&self, rt: &R, ticket: &Ticket) {
+        let bell = self.bells.of(ticket.number);
+        let (heard, served) = self.come_to(bell);
+        if ticket.number.wrapping_sub(served) > 1 {
+            bell.rings.park(rt, heard);
+        }
+        bell.sleepers.go();
+    }
+
+    // Wakes who waits for this ticket's turn, which has come, and who is the next in line behind it.
+    pub(crate) fn wake(&self, ticket: u64) {
+        let shared = &self.table.shared;
+        // Who draws the ticket after this look at the word finds it served.
+        if shared.peek(NEXT) == ticket {
+            return;
+        }
+        if self.first.are_there() {
+            shared.wake_all(SERVED);
+        }
+        self.bells.of(ticket.wrapping_add(1)).ring();
     }
 }

@@ -17,7 +17,8 @@ impl<T: Trailed> TicketLock<T> {
         requires left { 0 < (sight pass.old).left }
         ensures pass { IsPassOf self.now pass.new × IsIdle pass.new }
         ensures visits { Visits (sight pass.old) (sight pass.new) }
-        ensures turn { TookTurn (sight pass.new) × Grows (sight pass.old) (sight pass.new) × (length (sight pass.old).ends ≤ (sight pass.new).drawn) }
+        ensures turn { TookTurn (sight pass.new) × Grows (sight pass.old) (sight pass.new)
+            × (length (sight pass.old).ends ≤ (sight pass.new).drawn) }
     {
         match self.draw(pass) {
             Ok(ticket) => {
@@ -42,7 +43,8 @@ impl<T: Trailed> TicketLock<T> {
         self.join(to, note);
     }
 
-    /// Each pass takes a turn, `a` before `b`, and waits for it. Afterwards `a` has seen what either had seen, and `b` has seen what `a` has.
+    /// Each pass takes a turn, `a` before `b`, and waits for it. Afterwards `a` has seen what either had seen, and
+    /// `b` has seen what `a` has.
     ///
     /// `Worn` where either has no draw left. Both are looked at first, so that nothing has changed then.
     pub fn meet<R: Wait>(&self, rt: &R, a: &mut Pass<T>, b: &mut Pass<T>) -> Result<(), Worn>

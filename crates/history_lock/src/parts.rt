@@ -15,7 +15,6 @@ impl<T: Trailed> TicketLock<T> {
     // The call picks the amount, which is the count.
     pub(crate) fn hand<N: Amount>(&self, pass: &mut Pass<T>, count: u64) -> Pass<T>
         requires pass { IsPassOf self.now pass.old }
-        requires idle { IsIdle pass.old }
         requires amount { (N.amount ≡ count) × (count ≤ (sight pass.old).left) }
         ensures pass { IsPassOf self.now pass.new × IsPassOf self.now result }
         ensures kept { sight pass.new ≡ kept_draws count (sight pass.old) }
@@ -30,12 +29,12 @@ impl<T: Trailed> TicketLock<T> {
         }
     }
 
-    /// Hands `count` draws to a new pass, which has seen the same and has made no entry. It neither waits nor takes memory.
+    /// Hands `count` draws to a new pass, which has seen the same and has made no entry. It neither waits nor takes
+    /// memory.
     ///
     /// `Worn` where the pass has fewer draws left. It may be 0.
     pub fn split(&self, pass: &mut Pass<T>, count: u64) -> Result<Pass<T>, Worn>
-        requires pass { IsPassOf self.now pass.old }
-        requires idle { IsIdle pass.old }
+        requires { IsPassOf self.now pass.old }
         ensures pass { IsPassOf self.now pass.new × IfOk result (λ p. IsPassOf self.now p) }
         ensures kept { OnOk result (sight pass.new ≡ kept_draws count (sight pass.old)) }
         ensures given { IfOk result (λ p. sight p ≡ given_draws count (sight pass.old)) }
@@ -49,7 +48,8 @@ impl<T: Trailed> TicketLock<T> {
         Ok(self.hand::<Brand>(pass, count))
     }
 
-    /// Takes in another pass: its draws, its entries, its lost tries, and the longer of what both have seen. It neither waits nor takes memory.
+    /// Takes in another pass: its draws, its entries, its lost tries, and the longer of what both have seen. It
+    /// neither waits nor takes memory.
     pub fn join(&self, pass: &mut Pass<T>, other: Pass<T>)
         requires pass { IsPassOf self.now pass.old × IsPassOf self.now other }
         requires idle { IsIdle pass.old × IsIdle other }
@@ -61,6 +61,7 @@ impl<T: Trailed> TicketLock<T> {
     {
         let (seat, left) = other.into_parts();
         self.table.shared.join_seat::<Takes>(&mut pass.seat, seat);
+        // None of the seven steps: by this load the pass knows that the longer of both trails begins with the other.
         self.table.shared.load::<Learns>(&mut pass.seat, SERVED);
         pass.left += left;
     }

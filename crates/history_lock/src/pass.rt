@@ -46,7 +46,8 @@ pub struct Sight<E> {
     pub mine: LinkedList<E>,
 }
 
-/// The right to draw a number of tickets of one lock, and what it has seen there. It is for one thread at a time and can be split and joined.
+/// The right to draw a number of tickets of one lock, and what it has seen there. It is for one thread at a time and
+/// can be split and joined.
 ///
 /// A pass that is let go takes its draws with it.
 pub struct Pass<T: Trailed> {

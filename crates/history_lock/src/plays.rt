@@ -1,4 +1,5 @@
-//! The lock's rule, and what each of its steps tells. These types are for the proofs alone; their meaning stands in specs/.
+//! The lock's rule, and what each of its steps tells. These types are for the proofs alone; their meaning stands in
+//! specs/.
 ghost use Rattle.history_lock.specs.Sights.{opened, spent, kept_draws, given_draws, joined};
 ghost use Rattle.history_lock.specs.Lock.{Lock};
 ghost use Rattle.history_lock.specs.Told.{draws_ticket, looks, leaves, peeks, tries, learns};
@@ -54,7 +55,7 @@ impl<T: Trailed> Play<Option<T>, Sight<T::Entry>> for Tries {
     ghost then = { tries T.trail T.mark };
 }
 
-// The load by which a joined pass has seen what it was told of.
+// The load that ends a join, none of the seven.
 pub(crate) struct Learns;
 
 impl<T: Trailed> Play<Option<T>, Sight<T::Entry>> for Learns {

@@ -80,14 +80,16 @@ impl<T: Trailed> TicketLock<T> {
         requires pass { IsPassOf self.now pass.old }
         requires ticket { HasDrawn pass.old ticket.now }
         ensures pass { IsPassOf self.now pass.new }
-        ensures found { IfOk result (λ x. (sight pass.new ≡ took (sight pass.old) (sight pass.new).ends (T.trail x)) × Finds T.trail T.mark (sight pass.old) (sight pass.new) (number_of ticket.now) x) }
+        ensures found { IfOk result (λ x. (sight pass.new ≡ took (sight pass.old) (sight pass.new).ends (T.trail x))
+            × Finds T.trail T.mark (sight pass.old) (sight pass.new) (number_of ticket.now) x) }
         ensures not_yet { IfErr result (λ _. sight pass.new ≡ sight pass.old) }
     {
         let served = self.table.shared.load::<Looks>(&mut pass.seat, SERVED);
         if served != ticket.number {
             return Err(served);
         }
-        // Right, since no other pass reaches for the slot: from the load that found this ticket's turn until `leave` moves `served` on, the slot is this pass's.
+        // Right, since no other pass reaches for the slot: from the load that found this ticket's turn until `leave`
+        // moves `served` on, the slot is this pass's.
         match self.table.shared.exchange(&mut pass.seat, 0, None) {
             Some(value) => Ok(value),
             None => unreachable!(),
@@ -96,7 +98,8 @@ impl<T: Trailed> TicketLock<T> {
 
     /// Waits for the ticket's turn and takes the value.
     ///
-    /// As the next in line it looks 64 times, and then sleeps on the number of the ticket that is served until a `leave` wakes it. Further back it sleeps beside
+    /// As the next in line it looks 64 times, and then sleeps on the number of the ticket that is served until a
+    /// `leave` wakes it. Further back it sleeps beside
     /// the bell of its ticket until it is the next in line.
     #[tactic(auto, using(crate::proofs::Turns::first_finds_opening))]
     pub fn enter<R: Wait>(&self, rt: &R, ticket: Ticket, pass: &mut Pass<T>) -> Hold<T>
@@ -131,32 +134,10 @@ impl<T: Trailed> TicketLock<T> {
         unreachable!()
     }
 
-    // Sleeps until the number of the ticket that is served changes, unless it is this ticket's turn. It may return early.
-    fn sleep<R: Wait>(&self, rt: &R, ticket: &Ticket) {
-        self.first.come();
-        let served = self.table.shared.peek(SERVED);
-        if ticket.number != served {
-            self.table
-                .shared
-                .park(rt, SERVED, (served & 0xffff_ffff) as u32);
-        }
-        self.first.go();
-    }
-
-    // Sleeps until the ticket is the next in line, unless it is that or has its turn. It may return early.
-    fn sleep_behind<R: Wait>(&self, rt: &R, ticket: &Ticket) {
-        let bell = self.bells.of(ticket.number);
-        let heard = bell.come();
-        let served = self.table.shared.peek(SERVED);
-        if ticket.number.wrapping_sub(served) > 1 {
-            bell.sleep(rt, heard);
-        }
-        bell.go();
-    }
-
     /// Gives the value back, for the next ticket's turn. It neither waits nor takes memory.
     ///
-    /// The trail that the hold has then is the one that the next turn finds, whoever takes it; what it has beyond the one found is the pass's own.
+    /// The trail that the hold has then is the one that the next turn finds, whoever takes it; what it has beyond the
+    /// one found is the pass's own.
     pub fn leave(&self, hold: Hold<T>, pass: &mut Pass<T>)
         requires pass { IsPassOf self.now pass.old }
         requires hold { HasHold pass.old hold }
@@ -170,7 +151,8 @@ impl<T: Trailed> TicketLock<T> {
         let Hold { value, turn } = hold;
         let Ticket { number } = turn;
         let shared = &self.table.shared;
-        // Right, since the slot is this pass's until the next line gives the turn on: the value is home before another pass can reach for it.
+        // Right, since the slot is this pass's until the next line gives the turn on: the value is home before
+        // another pass can reach for it.
         match shared.exchange(&mut pass.seat, 0, Some(value)) {
             None => {}
             Some(_) => unreachable!(),
@@ -178,18 +160,5 @@ impl<T: Trailed> TicketLock<T> {
         shared.fetch_add::<Leaves>(&mut pass.seat, SERVED, 1);
         pass.idle = true;
         self.wake(number.wrapping_add(1));
-    }
-
-    // Wakes who waits for this ticket's turn, which has come, and who is the next in line behind it.
-    fn wake(&self, ticket: u64) {
-        let shared = &self.table.shared;
-        // Who draws the ticket after this look at the word finds it served.
-        if shared.peek(NEXT) == ticket {
-            return;
-        }
-        if self.first.are_there() {
-            shared.wake_all(SERVED);
-        }
-        self.bells.of(ticket.wrapping_add(1)).ring();
     }
 }

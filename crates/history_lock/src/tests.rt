@@ -2,10 +2,10 @@
 ghost use Rattle.std.specs.Prelude.{◌≡◌, ◌+◌, ◌-◌, ◌^◌, ◌≤◌, ◌<◌, ◌++◌, ◌∷◌, [], IfOk, IfSome, OnOk, OnErr, List, ℕ, length};
 ghost use Rattle.std.specs.Thread.{IsSync};
 ghost use mathlib.Core.List.{IsPrefix};
-ghost use Rattle.history_lock.specs.Locks.{sight, IsPassOf, IsIdle};
+ghost use Rattle.history_lock.specs.Locks.{sight, IsPassOf, IsIdle, HasDrawn};
 ghost use Rattle.history_lock.specs.Turns.{LeftFor};
 
-use crate::{Pass, TicketLock, Trailed, TryFault};
+use crate::{Pass, Ticket, TicketLock, Trailed, TryFault};
 use std::alloc::{AllocError, Global};
 use std::sync::Wait;
 use std::test::Fail;
@@ -173,7 +173,8 @@ fn find_entries<R: Wait>(
     Some((number, found))
 }
 
-// A turn by each of two passes that know nothing of each other: how many entries the first left, and how many the second found, if its turn was the next.
+// A turn by each of two passes that know nothing of each other: how many entries the first left, and how many the
+// second found, if its turn was the next.
 #[tactic(auto, using(crate::proofs::Turns::left_once))]
 fn hand_over<R: Wait>(
     rt: &R,
@@ -307,6 +308,40 @@ fn a_split_hands_over_no_more_than_is_left(rt: HostRuntime) -> Result<(), Fail> 
     };
     assert!(rt; third.left() == 0 && second.left() == 3);
     assert!(rt; add(&rt, &lock, &mut third, 1).is_err());
+    Ok(())
+}
+
+// Takes the ticket's turn and adds nothing.
+fn take_turn<R: Wait>(rt: &R, lock: &TicketLock<Journal>, ticket: Ticket, pass: &mut Pass<Journal>)
+    requires { IsPassOf lock.now pass.old × HasDrawn pass.old ticket }
+{
+    let hold = lock.enter(rt, ticket, pass);
+    lock.leave(hold, pass);
+}
+
+// How many draws a pass hands over while it has a ticket, and how many it has left then.
+fn split_in_line<R: Wait>(
+    rt: &R,
+    lock: &TicketLock<Journal>,
+    pass: &mut Pass<Journal>,
+) -> Option<(u64, u64)>
+    requires { IsPassOf lock.now pass.old × IsIdle pass.old }
+{
+    let ticket = lock.draw(pass).ok()?;
+    let Ok(given) = lock.split(pass, 2) else {
+        take_turn(rt, lock, ticket, pass);
+        return None;
+    };
+    let left = pass.left();
+    take_turn(rt, lock, ticket, pass);
+    Some((given.left(), left))
+}
+
+#[test]
+fn a_pass_with_a_ticket_is_split(rt: HostRuntime) -> Result<(), Fail> {
+    let (lock, mut pass) = opened(rt.alloc(), 0)?;
+    let draws = split_in_line(&rt, &lock, &mut pass);
+    assert!(rt; draws == Some((2, (1 << 62) - 3)));
     Ok(())
 }
 

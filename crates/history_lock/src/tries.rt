@@ -15,13 +15,15 @@ use crate::trailed::Trailed;
 impl<T: Trailed> TicketLock<T> {
     /// Takes the value, where no ticket is open: two steps, which neither wait nor take memory.
     ///
-    /// `Worn` where the pass has no draw left. `Busy` where a ticket was open or came between; that is a lost try, which uses no draw.
+    /// `Worn` where the pass has no draw left. `Busy` where a ticket was open or came between; that is a lost try,
+    /// which uses no draw.
     pub fn try_enter(&self, pass: &mut Pass<T>) -> Result<Hold<T>, TryFault>
         requires pass { IsPassOf self.now pass.old }
         requires idle { IsIdle pass.old }
         ensures pass { IsPassOf self.now pass.new }
         ensures hold { IfOk result (λ h. HasHold pass.new h) }
-        ensures found { IfOk result (λ h. sight pass.new ≡ won (peeked_at (sight pass.old) (ticket_of h)) (ticket_of h) (sight pass.new).ends (T.trail h.value)) }
+        ensures found { IfOk result (λ h. sight pass.new
+            ≡ won (peeked_at (sight pass.old) (ticket_of h)) (ticket_of h) (sight pass.new).ends (T.trail h.value)) }
         ensures turn { IfOk result (λ h. Finds T.trail T.mark (sight pass.old) (sight pass.new) (ticket_of h) h.value) }
         ensures first { IfOk result (λ h. ticket_of h ≡ 0 → T.trail h.value ≡ opening_of T.trail self.now) }
         ensures grows { Grows (sight pass.old) (sight pass.new) }
@@ -45,7 +47,8 @@ impl<T: Trailed> TicketLock<T> {
         }
         pass.left -= 1;
         pass.idle = false;
-        // Right, since `served` never falls and is never above `next`: where `next` is still the peeked number so is `served`, and it is this ticket's turn.
+        // Right, since `served` never falls and is never above `next`: where `next` is still the peeked number so is
+        // `served`, and it is this ticket's turn.
         match self.table.shared.exchange(&mut pass.seat, 0, None) {
             Some(value) => Ok(Hold {
                 value,
@@ -55,9 +58,11 @@ impl<T: Trailed> TicketLock<T> {
         }
     }
 
-    /// Ends the lock by one try: the value, whose trail begins with all that the pass has seen. It neither waits nor takes memory.
+    /// Ends the lock by one try: the value, whose trail begins with all that the pass has seen. It neither waits nor
+    /// takes memory.
     ///
-    /// A pass that has all draws but those of the finished turns that it knows of gets just what the last of these left.
+    /// A pass that has all draws but those of the finished turns that it knows of gets just what the last of these
+    /// left.
     ///
     /// Where a ticket is open the try is lost, and the lock and the pass come back, the pass with one lost try more.
     pub fn close(self, mut pass: Pass<T>) -> Result<T, (TicketLock<T>, Pass<T>)>
@@ -67,7 +72,8 @@ impl<T: Trailed> TicketLock<T> {
         requires idle { IsIdle pass }
         requires left { 0 < (sight pass).left }
         ensures closed { IfOk result (λ x. IsPrefix (sight pass).seen (T.trail x)) }
-        ensures exact { IfOk result (λ x. (n : ℕ) (trail : List T.Entry) → n + (sight pass).left ≡ 2 ^ 62 → LeftFor (sight pass) n trail → T.trail x ≡ trail) }
+        ensures exact { IfOk result (λ x. (n : ℕ) (trail : List T.Entry) → n + (sight pass).left ≡ 2 ^ 62
+            → LeftFor (sight pass) n trail → T.trail x ≡ trail) }
         ensures lock { IfErr result (λ r. (r.0 ≡ self) × IsPassOf self r.1) }
         ensures lost { IfErr result (λ r. (n : ℕ) × (sight r.1 ≡ gave_up (peeked_at (sight pass) n))) }
     {
