@@ -162,7 +162,7 @@ from_opening S h l b i e start end at a =
     let before : State = state_of S (take i h) in
     let site : before.site ≡ (state_of S h).site = before-site S h i in
     let went : Goes before e.1 start end × ((next before e.1).log ≡ (accepted_next before e.1).log) =
-        goes before e.1 start end (lawful_begins before.log (state_of S h).log (before-grows S h i) l) (omega (arith, b, site)) a in
+    goes before e.1 start end (lawful_begins before.log (state_of S h).log (before-grows S h i) l) (omega (arith, b, site)) a in
     subst (λ (n : ℕ). IsKept n (state_of S h).log e.1 start end) site
     (kept before e.1 start end (state_of S h).log went.0 (subst (λ (l : List Operation). Extends l (state_of S h).log) (went.1 ∙ went.0.grown) (next-grows S h i e at)))
 

@@ -36,6 +36,6 @@ mod fixtures;
 #[cfg(test)]
 mod followed;
 #[cfg(test)]
-mod held_back;
+mod limits;
 #[cfg(test)]
 mod tests;

@@ -3,7 +3,7 @@ ghost use Rattle.std.specs.Prelude.{◌≡◌, ◌^◌, ◌<◌, ◌≤◌, ◌�
 ghost use Rattle.opid.specs.declared.refusal.Refusal.TheVariants.{HistoryFull};
 ghost use Rattle.room.specs.declared.reply.Reply.TheVariants.{No};
 ghost use Rattle.room.specs.Machine.{answer};
-ghost use Rattle.room.specs.History.{state_of, mark, called, AreRisingFrom, IsLegal};
+ghost use Rattle.room.specs.History.{state_of, mark, called, AreRisingFrom, IsConsistent};
 ghost use Rattle.room.specs.Legal.{AreRisingFrom-prop};
 ghost use Rattle.shared_room.specs.Trails.{trail_of};
 
@@ -56,8 +56,7 @@ impl KeptRoom {
     pub(crate) fn new(room: Room) -> KeptRoom
         ensures { result.room ≡ room }
     {
-        // Its contract brings that the history is legal, and how long the log is at most.
-        let _ = room.history();
+        prove!(room.history().len() <= 1_048_576);
         KeptRoom { room }
     }
 
@@ -77,12 +76,10 @@ impl KeptRoom {
         ensures called { OnOk result (self.new.room ≡ called self.old.room ticket call) }
         ensures err { OnErr result (self.new.room ≡ self.old.room) }
         ensures full { IfOk result (λ reply. (reply ≡ No HistoryFull) ↔ (length self.old.room.history ≡ 1048576)) }
-        ensures replays { state_of self.old.room.opening self.old.room.history ≡ self.old.room.state }
-        ensures counted { self.old.room.state.count ≡ length self.old.room.history }
-        ensures legal { IsLegal self.old.room.history × IsLegal self.new.room.history }
+        ensures before { IsConsistent self.old.room }
+        ensures consistent { IsConsistent self.new.room }
     {
-        // Its contract brings that the state is that of the history.
-        let _ = self.room.history();
+        prove!(self.room.history().len() <= 1_048_576);
         self.room.call(ticket, call)
     }
 }
