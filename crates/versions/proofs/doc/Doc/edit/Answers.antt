@@ -3,7 +3,8 @@ use Rattle.std.specs.Prelude.{slice_get}
 use Rattle.opid.specs.declared.edit.Edit.{Edit}
 use Rattle.opid.specs.Edits.{edits}
 use Rattle.versions.specs.Contents.{Contents}
-use Rattle.versions.proofs.Changes.{edits-at, edits-length}
+use Rattle.versions.proofs.Changes.{edits-at}
+use Rattle.opid.proofs.Playing.{edits-length}
 use Rattle.versions.proofs.doc.Doc.edit.Goals as goal
 
 get_within : (xs : List Edit) (i : ℕ) (e : Edit) → i < length xs → e ≡ get_or xs i e → slice_get xs i ≡ Some e

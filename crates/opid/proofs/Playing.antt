@@ -8,10 +8,15 @@ use Rattle.opid.specs.Reading.{reading, reading_at}
 use Rattle.opid.specs.Splice.{play}
 use Rattle.opid.specs.Edits.{edit_after, edits_from, edits}
 use Rattle.opid.specs.Lawful.{GoesOn, IsLawful}
-use Rattle.opid.proofs.Logs.{IsLawful-push, IsLawful-take}
-use Rattle.versions.proofs.Played.{edit-leads}
-use Rattle.versions.proofs.Changes.{edits-length}
-use Rattle.opid.proofs.Logs.{goes_on_after}
+use Rattle.opid.proofs.Logs.{IsLawful-push, IsLawful-take, goes_on_after}
+use Rattle.opid.proofs.Played.{edit-leads}
+
+edits_from-length : (ops xs : List Operation) → length (edits_from ops xs) ≡ length xs
+edits_from-length ops [] = refl
+edits_from-length ops (x ∷ xs) = ap suc (edits_from-length (ops ++ x ∷ []) xs)
+
+pub edits-length : (log : List Operation) → length (edits log) ≡ length log
+edits-length log = edits_from-length [] log
 
 drop-edits : (ops xs : List Operation) (i : ℕ) → drop i (edits_from ops xs) ≡ edits_from (ops ++ take i xs) (drop i xs)
 drop-edits ops [] zero = refl
