@@ -36,8 +36,7 @@ pub fn delete_ops(
     ensures cause { IfErr result (λ e. (deletion_refusal doc.now.log version place count ≡ Some e)
         ⊎ ((deletion_refusal doc.now.log version place count ≡ None) × (e ≡ Memory))) }
 {
-    // A site's number is below 32.
-    let _ = site.number();
+    prove!(site.number() < 32);
     if version > doc.version() {
         return Err(Refusal::BadVersion);
     }

@@ -38,8 +38,7 @@ pub fn insert_ops(
     ensures cause { IfErr result (λ e. (insertion_refusal doc.now.log version place (chars text.now) ≡ Some e)
         ⊎ ((insertion_refusal doc.now.log version place (chars text.now) ≡ None) × (e ≡ Memory))) }
 {
-    // A site's number is below 32.
-    let _ = site.number();
+    prove!(site.number() < 32);
     if version > doc.version() {
         return Err(Refusal::BadVersion);
     }

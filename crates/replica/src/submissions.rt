@@ -31,8 +31,7 @@ fn append_each(log: &mut Log, ops: &[Op])
     ensures { log.new ≡ record { log = log.old.log ++ ops.now; room = log.old.room - length ops.now } }
 {
     for op in ops {
-        // Its clock counts it.
-        let _ = op.site();
+        prove!(op.clock().entry(op.site()) > 0);
         match log.append(op) {
             Ok(()) => {}
             Err(_) => unreachable!(),
