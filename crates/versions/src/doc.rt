@@ -1,5 +1,5 @@
 //! A document and its versions.
-ghost use Rattle.std.specs.Prelude.{◌≡◌, ◌≤◌, ◌<◌, ◌+◌, ◌-◌, ◌⊎◌, ◌++◌, ◌==◌, ℕ, [], ◌∷◌, Some, None, true, List, length, max, slice_get, option_map, take, sum, IfOk, IfErr, OnOk, OnErr, IsErr, vec_len, vec_capacity};
+ghost use Rattle.std.specs.Prelude.{◌≡◌, ◌≤◌, ◌<◌, ◌+◌, ◌-◌, ◌⊎◌, ◌++◌, ◌==◌, ℕ, [], ◌∷◌, Some, None, true, List, length, max, slice_get, option_map, take, drop, sum, IfOk, IfErr, OnOk, OnErr, IsErr, vec_len, vec_capacity};
 ghost use Rattle.opid.specs.declared.refusal.Refusal.TheVariants.{BadVersion, Memory};
 ghost use Rattle.opid.specs.Operations.{Operation};
 ghost use Rattle.opid.specs.Delivery.{clock_of, is_ready};
@@ -15,7 +15,7 @@ use crate::characters::Characters;
 use crate::integrate::{MAX_OPERATIONS, integrate, refusal_of};
 use crate::reserved::{make_room, reserve_each};
 use crate::text::text_in;
-use causal_clock::{Clock, Op};
+use causal_clock::{Clock, Op, OpLog, Replay};
 use counted_tree::{Steps, VersionTree};
 use opid::{Edit, Refusal, SITES, Site, Stamp};
 use rga_list::Rga;
@@ -26,7 +26,7 @@ use std::marker::Model;
 /// operations make. A place counts characters (Unicode scalar values) from 0.
 #[derive(Drop)]
 pub struct Doc {
-    ops: Vec<Op>,
+    log: OpLog,
     edits: Vec<Edit>,
     tree: VersionTree,
     clock: Clock,
@@ -44,10 +44,10 @@ impl Model for Doc {
 
     ghost use Rattle.versions.specs.Kept.{IsDocument, AreReserved};
 
-    ghost view = { λ d. record { log = d.ops.items; room = d.room } };
+    ghost view = { λ d. record { log = d.log.ops; room = d.room } };
 
-    ghost invariant = { λ d. IsDocument d.ops.items d.edits.items d.tree d.clock d.sums d.list.entries
-        × AreReserved (vec_len d.ops) (vec_capacity d.ops) (vec_len d.edits) (vec_capacity d.edits) d.tree d.list.room d.room };
+    ghost invariant = { λ d. IsDocument d.log.ops d.edits.items d.tree d.clock d.sums d.list.entries
+        × AreReserved d.log.room (vec_len d.edits) (vec_capacity d.edits) d.tree d.list.room d.room };
 }
 
 impl Doc {
@@ -56,7 +56,7 @@ impl Doc {
         ensures { result ≡ record { log = []; room = 0 } }
     {
         Doc {
-            ops: Vec::new(alloc),
+            log: OpLog::new(alloc),
             edits: Vec::new(alloc),
             tree: VersionTree::new(alloc),
             clock: Clock::zero(),
@@ -73,7 +73,7 @@ impl Doc {
         ensures within { length self.now.log ≤ MAX_OPERATIONS }
         ensures lawful { IsLawful self.now.log }
     {
-        self.ops.len() as u32
+        self.log.len() as u32
     }
 
     /// How many operations of each site there are. Constant time.
@@ -83,12 +83,21 @@ impl Doc {
         self.clock
     }
 
-    /// The operation that made version `i + 1` of version `i`. Constant time.
+    /// The operation that made version `i + 1` of version `i`. Takes at most 63 steps back along its site's operations.
     pub fn op(&self, i: u32) -> Op
         requires { i < length self.now.log }
         ensures value { slice_get self.now.log i ≡ Some result }
     {
-        self.ops[i as usize]
+        self.log.get(i as usize)
+    }
+
+    /// The operations from a place of the log on, in order. The first one of each site takes the steps of `op`, each
+    /// other one a step for each entry of its clock that its site's operation before had otherwise. Takes no memory.
+    pub fn ops_from(&self, i: u32) -> Replay<'_>
+        requires { i ≤ length self.now.log }
+        ensures { result ≡ drop i self.now.log }
+    {
+        self.log.replay_from(i as usize)
     }
 
     /// The sum of the site's last operation, 0 where there is none. Constant time.
@@ -109,7 +118,7 @@ impl Doc {
         ensures memory { IfErr result (λ e. e ≡ Memory) }
     {
         reserve_each(
-            &mut self.ops,
+            &mut self.log,
             &mut self.edits,
             &mut self.tree,
             &mut self.list,
@@ -139,18 +148,18 @@ impl Doc {
             ⊎ ((refusal_of self.old.log op.now ≡ None) × (e ≡ Memory) × (self.old.room ≡ 0))) }
         ensures err { OnErr result (self.new ≡ self.old) }
     {
-        if let Some(refusal) = refusal_of(self.ops.as_slice(), &self.list, op) {
+        if let Some(refusal) = refusal_of(&self.log, &self.list, op) {
             return Err(refusal);
         }
         make_room(
-            &mut self.ops,
+            &mut self.log,
             &mut self.edits,
             &mut self.tree,
             &mut self.list,
             self.room,
         )?;
         let edit = integrate(
-            &mut self.ops,
+            &mut self.log,
             &mut self.edits,
             &mut self.tree,
             &mut self.clock,
@@ -201,7 +210,7 @@ impl Doc {
         ensures known { OnOk result (version ≤ length self.now.log) }
         ensures cause { IfErr result (λ e. ((e ≡ BadVersion) × (length self.now.log < version)) ⊎ ((e ≡ Memory) × (version ≤ length self.now.log))) }
     {
-        if version as usize > self.ops.len() {
+        if version as usize > self.log.len() {
             return Err(Refusal::BadVersion);
         }
         let _count = self.list.len();

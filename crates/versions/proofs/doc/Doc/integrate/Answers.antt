@@ -2,15 +2,14 @@ use Rattle.std.proofs.Common.{◌∙◌, List, ap, sym, subst}
 use Rattle.opid.specs.Operations.{Operation}
 use Rattle.opid.specs.Reading.{reading}
 use Rattle.opid.specs.Splice.{apply}
-use Rattle.opid.specs.Lawful.{IsSound}
 use Rattle.opid.proofs.Logs.{IsSound-lawful}
 use Rattle.versions.specs.Contents.{Contents}
 use Rattle.versions.proofs.doc.Doc.integrate.Goals as goal
 
 pub refusal_of-requires-clause-sound : goal.refusal_of-requires-clause-sound
-refusal_of-requires-clause-sound c = subst (λ (v : List Operation). IsSound v) (sym c.as_slice.ensures.value) (IsSound-lawful c.self.inside.ops.items c.self.invariant.0.lawful)
+refusal_of-requires-clause-sound c = IsSound-lawful c.self.inside.log.ops c.self.invariant.0.lawful
 
 pub returns-clause-leads : goal.returns-clause-leads
 returns-clause-leads c =
-    ap (λ (l : List Operation). apply (reading l) c.integrate-edit.result) (sym (c.make_room.ensures.ops ∙ ap (λ (r : Contents). r.log) c.self.view_is))
+    ap (λ (l : List Operation). apply (reading l) c.integrate-edit.result) (sym (c.make_room.ensures.log ∙ ap (λ (r : Contents). r.log) c.self.view_is))
     ∙ c.integrate-edit.ensures.leads
