@@ -1,0 +1,59 @@
+-- Which log a text stands for: a JSON object (RFC 8259) with exactly the keys `format`, the number 1, and `ops`, the list of the
+-- log's operations in order. The log has to be lawful (Roh, Jeon, Kim and Lee 2011) and have at most 131,072 operations.
+use Rattle.std.specs.Prelude.{◌≡◌, ◌≤◌, ◌==◌, ℕ, if◌then◌else◌, Result, Ok, Err, List, [], ◌∷◌, ◌++◌, length, map, codes}
+use Rattle.std.specs.List.{AllByRecursion}
+use Rattle.serde_json.specs.Data.{Data}
+use Rattle.opid.specs.declared.refusal.Refusal.{Refusal}
+use Rattle.opid.specs.declared.refusal.Refusal.TheVariants.{BadField}
+use Rattle.opid.specs.Operations.{Operation}
+use Rattle.opid.specs.Lawful.{IsLawful}
+use Rattle.wire_json.specs.Members.{◌>>=◌, only_keys, number_at}
+use Rattle.wire_json.specs.Operations.{each, list_at, op_of}
+use Rattle.wire_json.specs.Request.{json_of}
+use Rattle.wire_json.specs.Text.{IsOperationInRange, listed, op_text}
+
+-- the number has to be 1
+abbrev pub is_one : ℕ → Result (Unit {0}) Refusal
+is_one n = if n == 1 then Ok tt else Err BadField
+
+-- the values of the operations, in the order of the log
+abbrev pub list_of : Data → Result (List Data) Refusal
+list_of d = do
+  keys ← only_keys (codes "format" ∷ codes "ops" ∷ []) d
+  n ← number_at (codes "format") d
+  one ← is_one n
+  list_at (codes "ops") d
+
+-- the operations that a JSON value tells, lawful or not
+abbrev pub told_by : Data → Result (List Operation) Refusal
+told_by d = list_of d >>= λ ds. each op_of ds
+
+-- the operations that bytes tell, lawful or not
+abbrev pub told_in : List ℕ → Result (List Operation) Refusal
+told_in bytes = json_of bytes >>= told_by
+
+-- the bytes stand for the log
+pub record StandsFor (bytes : List ℕ) (log : List Operation) : Type 0 where
+  pub told : told_in bytes ≡ Ok log
+  pub lawful : IsLawful log
+  pub few : length log ≤ 131072
+
+-- the bytes stand for no log
+abbrev pub StandsForNone : List ℕ → Type 0
+StandsForNone bytes = (log : List Operation) → StandsFor bytes log → ⊥
+
+-- no operation of the log is the site's
+abbrev pub LacksSite : ℕ → List Operation → Type 0
+LacksSite site log = AllByRecursion (λ x. x.site ≡ site → ⊥) log
+
+-- the bytes stand for a log that has an operation of the site
+abbrev pub HasSite : ℕ → List ℕ → Type 0
+HasSite site bytes = (log : List Operation) × StandsFor bytes log × (LacksSite site log → ⊥)
+
+-- the one compact text of a log
+abbrev pub log_text : List Operation → List ℕ
+log_text log = codes "{\"format\":1,\"ops\":" ++ listed (map op_text log) ++ codes "}"
+
+-- the operations' stamps and characters are within their ranges
+abbrev pub AreInRange : List Operation → Type 0
+AreInRange log = AllByRecursion IsOperationInRange log

@@ -1,0 +1,20 @@
+//! Laws of the texts of logs: each is the contract of a function that does nothing, so that it is proved with the crate.
+ghost use Rattle.std.specs.Prelude.{◌≡◌, ℕ, List, option_map, Some, Ok};
+ghost use Rattle.serde_json.specs.Read.{read};
+ghost use Rattle.opid.specs.Operations.{Operation};
+ghost use Rattle.snapshot.specs.Snapshot.{StandsFor, AreInRange, told_by, log_text};
+
+/// The text of a log is JSON that tells just that log.
+pub fn logs_read_back()
+    ensures { (log : List Operation) → AreInRange log → option_map told_by (read (log_text log)) ≡ Some (Ok log) }
+{}
+
+/// Two different logs have different texts.
+pub fn different_logs()
+    ensures { (a b : List Operation) → AreInRange a → AreInRange b → log_text a ≡ log_text b → a ≡ b }
+{}
+
+/// A text stands for at most one log.
+pub fn one_log()
+    ensures { (bytes : List ℕ) (a b : List Operation) → StandsFor bytes a → StandsFor bytes b → a ≡ b }
+{}

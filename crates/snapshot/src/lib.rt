@@ -1,0 +1,13 @@
+//! Snapshots: a document's log as one JSON text, written from a replica, and read back as a document or a replica.
+//!
+//! Which log a text stands for is told by `specs/Snapshot.antt`.
+#![tactic(auto)]
+
+pub mod laws;
+mod loading;
+mod saving;
+#[cfg(test)]
+mod tests;
+
+pub use loading::{load, load_doc};
+pub use saving::save;

@@ -1,0 +1,117 @@
+//! Loading a snapshot: the log that bytes stand for, as a document or as a replica's.
+ghost use Rattle.std.specs.Prelude.{◌≡◌, ◌≤◌, ◌<◌, ◌-◌, ◌++◌, ◌⊎◌, [], ◌∷◌, ℕ, true, false, Ok, List, length, IfOk, IfErr, OnOk};
+ghost use Rattle.serde_json.specs.View.{view, items_view};
+ghost use Rattle.opid.specs.declared.refusal.Refusal.TheVariants.{Memory, BadSnapshot, SiteUsed};
+ghost use Rattle.opid.specs.Operations.{Operation};
+ghost use Rattle.opid.specs.Lawful.{IsLawful, MayFollow};
+ghost use Rattle.wire_json.specs.Given.{Tells};
+ghost use Rattle.wire_json.specs.Operations.{each, items_in, op_of};
+ghost use Rattle.snapshot.specs.Snapshot.{StandsFor, StandsForNone, LacksSite, HasSite, list_of};
+
+use causal_clock::Op;
+use opid::{Refusal, Site};
+use replica::Replica;
+use serde_json::Value;
+use std::alloc::Global;
+use versions::Doc;
+use wire_json::{check_keys, read_list, read_number, read_op, read_value};
+
+/// The replica of a site over the log that the bytes stand for; it holds nothing back.
+///
+/// Refused with `BadSnapshot` exactly where `load_doc` is; else with `SiteUsed` exactly where the log has an operation of the
+/// site, since a number of its would be given twice; and with `Memory` in the place of any answer. Takes the steps of
+/// `load_doc`, and one for each operation.
+pub fn load(alloc: Global, bytes: &[u8], site: Site) -> Result<Replica, Refusal>
+    ensures stands { IfOk result (λ r. StandsFor bytes.now r.log) }
+    ensures opened { IfOk result (λ r. r ≡ record { site = site; log = r.log; held = []; room = 0 }) }
+    ensures unused { IfOk result (λ r. LacksSite site r.log) }
+    ensures cause { IfErr result (λ e. (e ≡ Memory) ⊎ ((e ≡ BadSnapshot) × StandsForNone bytes.now)
+        ⊎ ((e ≡ SiteUsed) × HasSite site bytes.now)) }
+{
+    let doc = load_doc(alloc, bytes)?;
+    if !lacks_site(&doc, site) {
+        return Err(Refusal::SiteUsed);
+    }
+    Replica::over_doc(alloc, site, doc)
+}
+
+/// The document over the log that the bytes stand for.
+///
+/// Refused with `BadSnapshot` exactly where they stand for none, and with `Memory` in the place of any answer. Takes a
+/// reading of the bytes as JSON, and the steps of `Doc::integrate` for each operation.
+pub fn load_doc(alloc: Global, bytes: &[u8]) -> Result<Doc, Refusal>
+    ensures stands { IfOk result (λ doc. StandsFor bytes.now doc.log) }
+    ensures unreserved { IfOk result (λ doc. doc.room ≡ 0) }
+    ensures cause { IfErr result (λ e. (e ≡ Memory) ⊎ ((e ≡ BadSnapshot) × StandsForNone bytes.now)) }
+{
+    match read_doc(alloc, bytes) {
+        Ok(doc) => Ok(doc),
+        Err(Refusal::Memory) => Err(Refusal::Memory),
+        Err(_) => Err(Refusal::BadSnapshot),
+    }
+}
+
+// As `load_doc`, with what was found wrong.
+fn read_doc(alloc: Global, bytes: &[u8]) -> Result<Doc, Refusal>
+    ensures stands { IfOk result (λ doc. StandsFor bytes.now doc.log) }
+    ensures unreserved { IfOk result (λ doc. doc.room ≡ 0) }
+    ensures cause { IfErr result (λ e. (e ≡ Memory) ⊎ StandsForNone bytes.now) }
+{
+    let value = read_value(alloc, bytes)?;
+    let values = read_values(&value)?;
+    integrate_all(alloc, values)
+}
+
+// The values of the operations.
+fn read_values<'v>(value: &'v Value) -> Result<&'v [Value], Refusal>
+    ensures { Tells (λ v. items_in (items_view v.now)) result (list_of (view value.now)) }
+{
+    check_keys(value, &["format", "ops"])?;
+    let format = read_number(value, "format")?;
+    if format != 1 {
+        return Err(Refusal::BadField);
+    }
+    read_list(value, "ops")
+}
+
+// The document of the operations that the values tell, each after those before it.
+fn integrate_all(alloc: Global, values: &[Value]) -> Result<Doc, Refusal>
+    ensures told { IfOk result (λ doc. each op_of (items_in (items_view values.now)) ≡ Ok doc.log) }
+    ensures lawful { IfOk result (λ doc. IsLawful doc.log) }
+    ensures few { IfOk result (λ doc. length doc.log ≤ 131072) }
+    ensures unreserved { IfOk result (λ doc. doc.room ≡ 0) }
+    ensures cause { IfErr result (λ e. (e ≡ Memory)
+        ⊎ ((log : List Operation) → each op_of (items_in (items_view values.now)) ≡ Ok log → IsLawful log → length log ≤ 131072 → ⊥)) }
+{
+    let mut doc = Doc::new(alloc);
+    for value in values {
+        let op = read_op(value)?;
+        append(&mut doc, &op)?;
+    }
+    // Its contract brings that the log is lawful and within its limit.
+    let _ = doc.version();
+    Ok(doc)
+}
+
+// Appends an operation that may follow the log.
+fn append(doc: &mut Doc, op: &Op) -> Result<(), Refusal>
+    ensures grown { OnOk result (doc.new ≡ record { log = doc.old.log ++ op.now ∷ []; room = doc.old.room - 1 }) }
+    ensures cause { IfErr result (λ e. (e ≡ Memory) ⊎ (MayFollow doc.old.log op.now → length doc.old.log < 131072 → ⊥)) }
+{
+    let site = op.site();
+    if !doc.clock().ready(op) || op.stamp().sum <= doc.last_sum(site) {
+        return Err(Refusal::BadSnapshot);
+    }
+    doc.integrate(op)?;
+    Ok(())
+}
+
+// Whether no operation of the log is the site's.
+fn lacks_site(doc: &Doc, site: Site) -> bool
+    ensures yes { result ≡ true → LacksSite site doc.now.log }
+    ensures no { result ≡ false → LacksSite site doc.now.log → ⊥ }
+{
+    // Its contract brings that the site is below 32.
+    let _ = site.number();
+    doc.clock().entry(site) == 0
+}
