@@ -11,8 +11,8 @@ use versions::Doc;
 /// At most so many operations are told at once.
 const MAX_TOLD: u32 = 64;
 
-/// The operations of the log from a place on, at most `max`.
-#[tactic(auto, using(crate::proofs::Parts::part_of_end, opid::proofs::Gathered::gathered, opid::proofs::Gathered::gathered_all))]
+/// The operations of the log from a place on, at most `max`. Takes the steps of `Doc::ops_from` for them.
+#[tactic(auto, using(crate::proofs::Parts::part_of_end, crate::proofs::Parts::left_after, crate::proofs::Parts::some_left, opid::proofs::Gathered::gathered, opid::proofs::Gathered::gathered_all))]
 pub(crate) fn copy_part(alloc: Global, doc: &Doc, after: u32, max: u32) -> Result<Vec<Op>, Refusal>
     ensures ok { IfOk result (λ ops. part_of doc.now.log after max ≡ Ok ops.items) }
     ensures cause { IfErr result (λ e. (part_of doc.now.log after max ≡ Err e) ⊎ (IsOk (part_of doc.now.log after max) × (e ≡ Memory))) }
@@ -22,8 +22,12 @@ pub(crate) fn copy_part(alloc: Global, doc: &Doc, after: u32, max: u32) -> Resul
     }
     let end = doc.version().min(after + max);
     let mut ops = Vec::with_capacity(alloc, (end - after) as usize)?;
-    for place in after..end {
-        ops.push(doc.op(place))?;
+    let mut rest = doc.ops_from(after);
+    'told: for _place in after..end {
+        let Some(op) = rest.next() else {
+            unreachable!();
+        };
+        ops.push(op)?;
     }
     Ok(ops)
 }

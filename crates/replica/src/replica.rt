@@ -167,7 +167,7 @@ impl Replica {
     /// last operation, `UnknownElement` where its parent or target is no element, `NotOlder` where its parent's stamp
     /// isn't smaller. `Memory` may come in place of an answer, but only where the room isn't above what is held.
     ///
-    /// An integration takes the steps of one in the document; settling takes one pass over what is held for each operation
+    /// An integration takes the steps of `Doc::integrate`; settling takes one pass over what is held for each operation
     /// that leaves it, and one more.
     pub fn put(&mut self, op: Op) -> Result<Delivery, Refusal>
         ensures outcome { IfOk result (λ d. (deliver self.old.site self.old.log self.old.held op).outcome ≡ Ok d) }
@@ -193,7 +193,7 @@ impl Replica {
     }
 
     /// The operations of the log from a place on, at most `max`. Refused with `BadRange` where the place is above the
-    /// log's length, or `max` is 0 or above 64; and with `Memory`.
+    /// log's length, or `max` is 0 or above 64; and with `Memory`. Takes the steps of `Doc::ops_from` for each.
     pub fn ops(&self, after: u32, max: u32) -> Result<Vec<Op>, Refusal>
         ensures ok { IfOk result (λ ops. part_of self.now.log after max ≡ Ok ops.items) }
         ensures cause { IfErr result (λ e. (part_of self.now.log after max ≡ Err e) ⊎ (IsOk (part_of self.now.log after max) × (e ≡ Memory))) }
