@@ -1,4 +1,4 @@
-//! Snapshots saved and loaded again, texts that stand for no log, and a log at its limit.
+//! Snapshots saved and loaded again, texts that stand for no log, and what is held back.
 use crate::{load, load_doc, save};
 use causal_clock::{Clock, Op};
 use opid::{OpKind, Refusal, Site};
@@ -87,30 +87,5 @@ fn leaves_out_what_is_held(alloc: Global) -> Result<bool, Fail> {
 #[test]
 fn what_is_held_is_not_saved(rt: HostRuntime) -> Result<(), Fail> {
     assert!(rt; leaves_out_what_is_held(rt.alloc())?);
-    Ok(())
-}
-
-// The text of so many insertions of site 0, each at the start, and of a last one by site 1.
-fn many(alloc: Global, count: u32) -> Result<String, Fail> {
-    let mut text = String::from_str(alloc, "{\"format\":1,\"ops\":[")?;
-    for number in 1..=count {
-        let op = format!(in alloc; "{{\"c\":[[0,{number}]],\"k\":\"i\",\"p\":null,\"s\":0,\"x\":\"a\"}},")?;
-        text.push_str(op.as_str())?;
-    }
-    text.push_str("{\"c\":[[1,1]],\"k\":\"i\",\"p\":null,\"s\":1,\"x\":\"b\"}]}")?;
-    Ok(text)
-}
-
-fn fills_a_log(alloc: Global) -> Result<bool, Fail> {
-    let full = many(alloc, 131_071)?;
-    let mut all = load_doc(alloc, full.as_bytes())?.version() == 131_072;
-    let beyond = many(alloc, 131_072)?;
-    all &= is_no_log(alloc, beyond.as_bytes());
-    Ok(all)
-}
-
-#[test]
-fn one_operation_more_than_a_log_holds_is_refused(rt: HostRuntime) -> Result<(), Fail> {
-    assert!(rt; fills_a_log(rt.alloc())?);
     Ok(())
 }
