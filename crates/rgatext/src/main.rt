@@ -10,6 +10,8 @@ mod engine;
 #[cfg(test)]
 mod exchanges;
 mod fixed;
+#[cfg(test)]
+mod page;
 mod plan;
 mod play;
 #[cfg(test)]
