@@ -1,10 +1,8 @@
 -- A walk through a log: nothing is kept at first, then one operation more.
-use Rattle.std.proofs.Common.{◌≡◌, ℕ, zero, suc, ◌+◌, ◌<◌, ◌⊎◌, inl, inr, List, [], ◌∷◌, length, drop, replicate, set, get_or, slice_get, Option, Some, None, refl, ap, ◌∙◌, sym, arith, get_or-set_other, get_or-set_same}
-use mathlib.Core.Path.{ap₂}
+use Rattle.std.proofs.Common.{◌≡◌, ℕ, zero, suc, ◌+◌, ◌<◌, ◌⊎◌, inl, inr, List, ◌∷◌, length, drop, replicate, set, get_or, slice_get, Option, Some, None, refl, ap, ◌∙◌, sym, arith, get_or-set_other, get_or-set_same}
 use Rattle.std.proofs.lemmas.Bool.{cases_eq}
 use Rattle.std.proofs.lemmas.Option.{slice_get-get_or, get_or_from_slice_get}
 use Rattle.std.proofs.lemmas.List.{drop_more}
-use Rattle.opid.specs.declared.kind.OpKind.{OpKind}
 use Rattle.opid.specs.Operations.{Operation}
 use Rattle.causal_clock.specs.declared.row.Row.{Row}
 use Rattle.causal_clock.specs.declared.replay.Seen.{Seen}

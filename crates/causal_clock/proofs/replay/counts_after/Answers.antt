@@ -1,5 +1,4 @@
 use Rattle.std.proofs.Common.{◌∙◌, ap, inr}
-use Rattle.opid.specs.Clocks.{sites}
 use Rattle.causal_clock.specs.Packed.{logged, fill}
 use Rattle.causal_clock.proofs.Packing.{clock_read}
 use Rattle.causal_clock.proofs.replay.counts_after.Goals as goal
