@@ -1,9 +1,12 @@
 //! Turns at the ticket lock, and at std's `Mutex`, by 2, 8 and 64 threads: turns a second, and processor time for each turn.
+//! Then reads of a small room, alone and by 8 threads.
 #![tactic(auto)]
 
 ghost use Rattle.std.specs.Prelude.{◌≤◌, [], ◌<◌};
 ghost use Rattle.std.specs.Thread.{IsSync};
 ghost use Rattle.history_lock.specs.Locks.{IsPassOf, IsIdle};
+
+mod rooms;
 
 use history_lock::{Pass, TicketLock, Trailed};
 use std::alloc::{AllocError, Global};
@@ -11,6 +14,9 @@ use std::sync::{Barrier, Mutex, Wait};
 use std::thread::{Threads, join};
 use std::time::{Clock, CpuClock, Duration, Instant};
 use std::{env, io};
+
+// A room records 1,048,576 calls at most.
+const MOST_CALLS: u64 = 1_000_000;
 
 const USAGE: &str =
     "usage: lock_benchmark TURNS (how many turns the threads of a run take together)";
@@ -169,5 +175,24 @@ fn main(rt: HostRuntime) -> io::Result<()> {
             )?;
         }
     }
-    Ok(())
+    print_reads(&rt, alloc, turns.min(MOST_CALLS))
+}
+
+// Reads of a small room, alone and by 8 threads.
+fn print_reads<R: Threads + Wait + Clock + Print + Sync>(
+    rt: &R,
+    alloc: Global,
+    calls: u64,
+) -> io::Result<()> {
+    let count = u128::from(calls).max(1);
+    let own = rooms::time_room(rt, alloc, calls)? / count;
+    let alone = rooms::time_alone(rt, alloc, calls)? / count;
+    println!(rt; "one thread: {own} ns a read at the room, {alone} ns through a shared room")?;
+    let each = calls / rooms::THREADS;
+    let all = u128::from(each) * u128::from(rooms::THREADS) * 1_000_000_000;
+    let shared = all / rooms::time_together(rt, alloc, each)?.max(1);
+    let mutex = all / rooms::time_locked(rt, alloc, each)?.max(1);
+    println!(rt;
+        "8 threads: {shared} reads a second through a shared room, {mutex} behind std's Mutex"
+    )
 }

@@ -57,9 +57,9 @@ impl<'a, R: Wait> Desk for PassDesk<'a, R> {
 
     ghost answers = { λ old call reply new _ did.
         pass_answers (opening old.room.now) (opening new.room.now) (view old.pass.now) (view new.pass.now)
-            call reply (ap opening did.0) did.2 };
+        call reply (ap opening did.0) did.2 };
 
     ghost passes_over = { λ old _ why new _ did.
         pass_passes (opening old.room.now) (opening new.room.now) (view old.pass.now) (view new.pass.now)
-            why (ap opening did.0) did.2 };
+        why (ap opening did.0) did.2 };
 }

@@ -141,7 +141,12 @@ impl SharedRoom {
     }
 
     // Makes the call in the turn of the hold, and ends the turn.
-    pub(crate) fn make(&self, mut hold: Hold<KeptRoom>, pass: &mut Pass, call: Call) -> Result<Reply, Refusal>
+    pub(crate) fn make(
+        &self,
+        mut hold: Hold<KeptRoom>,
+        pass: &mut Pass,
+        call: Call,
+    ) -> Result<Reply, Refusal>
         requires pass { locks.IsPassOf self.now.lock pass.old.pass }
         requires hold { locks.HasHold pass.old.pass hold }
         requires found { (sight pass.old.pass).found ≡ trail_of hold.value.room }

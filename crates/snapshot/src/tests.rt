@@ -13,9 +13,11 @@ const ONE_CHARACTER: &str =
 const MISSING_PARENT: &str =
     "{\"format\":1,\"ops\":[{\"c\":[[0,1]],\"k\":\"i\",\"p\":[1,3],\"s\":0,\"x\":\"H\"}]}";
 
-const TWO_IN_ORDER: &str = "{\"format\":1,\"ops\":[{\"c\":[[1,1]],\"k\":\"i\",\"p\":null,\"s\":1,\"x\":\"a\"},{\"c\":[[1,2]],\"k\":\"i\",\"p\":[1,1],\"s\":1,\"x\":\"b\"}]}";
+const TWO_IN_ORDER: &str =
+    "{\"format\":1,\"ops\":[{\"c\":[[1,1]],\"k\":\"i\",\"p\":null,\"s\":1,\"x\":\"a\"},{\"c\":[[1,2]],\"k\":\"i\",\"p\":[1,1],\"s\":1,\"x\":\"b\"}]}";
 
-const TWO_EXCHANGED: &str = "{\"format\":1,\"ops\":[{\"c\":[[1,2]],\"k\":\"i\",\"p\":[1,1],\"s\":1,\"x\":\"b\"},{\"c\":[[1,1]],\"k\":\"i\",\"p\":null,\"s\":1,\"x\":\"a\"}]}";
+const TWO_EXCHANGED: &str =
+    "{\"format\":1,\"ops\":[{\"c\":[[1,2]],\"k\":\"i\",\"p\":[1,1],\"s\":1,\"x\":\"b\"},{\"c\":[[1,1]],\"k\":\"i\",\"p\":null,\"s\":1,\"x\":\"a\"}]}";
 
 fn reads(doc: &Doc, version: u32, text: &str) -> Result<bool, Fail> {
     Ok(doc.reading(version)?.as_str() == text)

@@ -1,0 +1,11 @@
+use Rattle.std.proofs.Common.{◌-◌}
+use Rattle.lock_benchmark.proofs.rooms.+by_passes+fn-by_passes-join+arg2+fn-by_passes-join+arg3.Given as goal
+
+abbrev pub decreases-by_passes : goal.decreases-by_passes
+decreases-by_passes g l = l.threads
+
+abbrev pub decreases-join+arg2 : goal.decreases-join+arg2
+decreases-join+arg2 g l = l.half
+
+abbrev pub decreases-join+arg3 : goal.decreases-join+arg3
+decreases-join+arg3 g l = l.threads - l.half
