@@ -1,0 +1,57 @@
+-- A turn more is a line more, and the last turn ends the whole.
+use Rattle.std.proofs.Common.{[], ◌++◌, Ok, Err, refl, ◌∙◌, append-nil}
+use Rattle.std.proofs.lemmas.List.Elements.{All-nil}
+use Rattle.ws_server.specs.Lines.{IsLine}
+use Rattle.ws_server.proofs.Known.{Consumes-none, Appends-none}
+use Rattle.ws_server.proofs.Rounds.{round_on, round_last, Serves-err}
+use Rattle.ws_server.proofs.engine.serve.Goals as goal
+
+pub serving-init : goal.serving-init
+serving-init g c = record {
+  ready = c.requires.ready;
+  served = (
+    [],
+    [],
+    [],
+    All-nil IsLine,
+    refl,
+    Consumes-none (g.R.Read.remaining c.args.input.now.inner),
+    append-nil c.args.window.now,
+    Appends-none (g.W.Write.contents c.args.output.now.inner),
+  );
+  reads = refl;
+  writes = refl;
+}
+
+pub serving-preserved : goal.serving-preserved
+serving-preserved g c =
+    let i = c.serving.invariant in
+    let e = rw c.in-Ok-true.field-0-test at c.in-Ok-true.ensures.turn in
+    record {
+      ready = c.in-Ok-true.ensures.ready;
+      served = round_on g.P.Protocol.answers c.args.state.now c.serving.state c.serve_next.new.state
+          (g.R.Read.remaining c.args.input.now.inner) (g.R.Read.remaining c.serving.input.inner) (g.R.Read.remaining c.serve_next.new.input.inner)
+          (g.W.Write.contents c.args.output.now.inner) (g.W.Write.contents c.serving.output.inner) (g.W.Write.contents c.serve_next.new.output.inner)
+          c.args.window.now c.serving.window c.serve_next.new.window i.served e;
+      reads = c.in-Ok-true.ensures.counts.0 ∙ i.reads;
+      writes = c.in-Ok-true.ensures.counts.1 ∙ i.writes;
+    }
+
+pub returns-in-Ok-false-clause-serves : goal.returns-in-Ok-false-clause-serves
+returns-in-Ok-false-clause-serves g c =
+    let i = c.serving.invariant in
+    let e = rw c.in-Ok-false.field-0-test at c.in-Ok-false.ensures.turn in
+    round_last {T = Unit {0}} g.P.Protocol.answers c.args.state.now c.serving.state c.serve_next.new.state
+    (g.R.Read.remaining c.args.input.now.inner) (g.R.Read.remaining c.serving.input.inner) (g.R.Read.remaining c.serve_next.new.input.inner)
+    (g.W.Write.contents c.args.output.now.inner) (g.W.Write.contents c.serving.output.inner) (g.W.Write.contents c.serve_next.new.output.inner)
+    c.args.window.now c.serving.window (Ok tt) i.served e
+
+pub returns-in-Err-clause-serves : goal.returns-in-Err-clause-serves
+returns-in-Err-clause-serves g c =
+    let i = c.serving.invariant in
+    let e = c.in-Err.ensures.turn in
+    round_last {T = Unit {0}} g.P.Protocol.answers c.args.state.now c.serving.state c.serve_next.new.state
+    (g.R.Read.remaining c.args.input.now.inner) (g.R.Read.remaining c.serving.input.inner) (g.R.Read.remaining c.serve_next.new.input.inner)
+    (g.W.Write.contents c.args.output.now.inner) (g.W.Write.contents c.serving.output.inner) (g.W.Write.contents c.serve_next.new.output.inner)
+    c.args.window.now c.serving.window (Err c.in-Err.why) i.served
+    (e.0, e.1, e.2, e.3, Serves-err g.P.Protocol.answers c.serving.state c.serve_next.new.state (c.serving.window ++ e.0) (g.R.Read.remaining c.serve_next.new.input.inner) e.1 c.in-Err.why e.4)

@@ -1,0 +1,18 @@
+-- The lines that were cut off were answered, the bytes held are those after them, and nothing failed.
+use Rattle.std.proofs.Common.{◌≡◌}
+use Rattle.ws_server.specs.Turns.{work}
+use Rattle.ws_server.proofs.Rounds.{HasServed}
+use Rattle.ws_server.proofs.engine.serve.Given as goal
+
+abbrev pub invariant-serving : goal.invariant-serving
+invariant-serving g l = record {
+  ready : g.P.Protocol.ready l.state;
+  served : HasServed g.P.Protocol.answers l.fn.state l.state
+      (g.R.Read.remaining l.fn.input.inner) (g.R.Read.remaining l.input.inner)
+      (g.W.Write.contents l.fn.output.inner) (g.W.Write.contents l.output.inner) l.fn.window l.window;
+  reads : l.input.failures ≡ l.fn.input.failures;
+  writes : l.output.failures ≡ l.fn.output.failures;
+}
+
+abbrev pub decreases-serving : goal.decreases-serving
+decreases-serving g l = work l.input.calls l.window

@@ -1,0 +1,26 @@
+-- A block with no LF is skipped whole, and one with an LF up to it.
+use Rattle.std.proofs.Common.{◌≡◌, arith, ap, length, ◌∙◌}
+use Rattle.ws_server.proofs.Reading.{skip_done, skip_more}
+use Rattle.ws_server.proofs.window.skip_line.Goals as goal
+
+pub returns-in-Some-clause-skips : goal.returns-in-Some-clause-skips
+returns-in-Some-clause-skips g c =
+    let i = c.skipping.invariant in
+    let f = c.in_ok-got.ensures.fills in
+    skip_done (g.R.Read.remaining c.args.input.now.inner) (g.R.Read.remaining c.skipping.input.inner) (g.R.Read.remaining c.fill.new.input.inner)
+    i.skipped.0 c.skipping.window f.0 c.fill.new.self c.bytes.result.now c.advance.new.self c.in-Some.at
+    i.skipped.1 i.skipped.2 i.empty f.1 f.2 c.bytes.ensures c.in-Some.ensures.1 c.in-Some.ensures.2 c.advance.ensures
+
+pub skipping-preserved : goal.skipping-preserved
+skipping-preserved g c =
+    let i = c.skipping.invariant in
+    let f = c.in_ok-got.ensures.fills in
+    let none : length c.clear.new.self ≡ 0 = ap length c.clear.ensures in
+    record {
+      skipped = skip_more (g.R.Read.remaining c.args.input.now.inner) (g.R.Read.remaining c.skipping.input.inner) (g.R.Read.remaining c.fill.new.input.inner)
+          i.skipped.0 c.skipping.window f.0 c.fill.new.self c.bytes.result.now
+          i.skipped.1 i.skipped.2 i.empty f.1 f.2 c.bytes.ensures c.in_default.ensures;
+      empty = c.clear.ensures;
+      counted = c.in_ok-got.ensures.counted ∙ i.counted;
+      falls = omega (arith, c.in_ok-got.ensures.work, i.falls);
+    }

@@ -1,0 +1,17 @@
+-- The bytes that were skipped have no LF, and none is held.
+use Rattle.std.proofs.Common.{◌≡◌, ◌≤◌, ℕ, List, []}
+use Rattle.std.specs.Io.KnownBytes.{Consumes}
+use Rattle.ws_server.specs.Lines.{IsLine}
+use Rattle.ws_server.specs.Turns.{work}
+use Rattle.ws_server.proofs.window.skip_line.Given as goal
+
+abbrev pub invariant-skipping : goal.invariant-skipping
+invariant-skipping g l = record {
+  skipped : (got : List ℕ) × Consumes (g.R.Read.remaining l.fn.input.inner) (g.R.Read.remaining l.input.inner) got × IsLine got;
+  empty : l.window ≡ [];
+  counted : l.input.failures ≡ l.fn.input.failures;
+  falls : work l.input.calls l.window ≤ work l.fn.input.calls l.fn.window;
+}
+
+abbrev pub decreases-skipping : goal.decreases-skipping
+decreases-skipping g l = work l.input.calls l.window

@@ -1,0 +1,55 @@
+//! The line that is sent for an answer.
+ghost use Rattle.std.specs.Prelude.{◌≡◌, IfOk};
+ghost use Rattle.room.specs.declared.reply.Reply.TheVariants.{No};
+ghost use Rattle.wire_json.specs.Text.{text};
+ghost use Rattle.ws_server.specs.Lines.{ended};
+ghost use Rattle.ws_server.specs.LineBytes.{line_bytes};
+
+use crate::fixed::refusal_line;
+use opid::Refusal;
+use room::Reply;
+use std::alloc::{AllocError, Global};
+use wire_json::write_reply;
+
+/// The bytes of an answer's line, with its LF.
+#[derive(Debug, Drop)]
+pub enum ReplyLine {
+    /// A text that was made.
+    Made(String),
+    /// A text that stands in the program, and needs no memory.
+    Fixed(&'static [u8]),
+}
+
+impl ReplyLine {
+    /// The line of a reply. An error is for want of memory; a refusal's line needs none. Takes time and memory in
+    /// proportion to the text.
+    pub fn new(alloc: Global, reply: &Reply) -> Result<ReplyLine, AllocError>
+        ensures { IfOk result (λ made. line_bytes made ≡ ended (text reply.now)) }
+    {
+        if let Reply::No(why) = reply {
+            return Ok(ReplyLine::refusal(*why));
+        }
+        let Ok(mut line) = write_reply(alloc, reply) else {
+            return Err(AllocError);
+        };
+        line.push('\n')?;
+        Ok(ReplyLine::Made(line))
+    }
+
+    /// The line of a refusal. Constant time, and no memory.
+    pub fn refusal(why: Refusal) -> ReplyLine
+        ensures { line_bytes result ≡ ended (text (No why)) }
+    {
+        ReplyLine::Fixed(refusal_line(why))
+    }
+
+    /// The bytes. Constant time.
+    pub fn as_bytes(&self) -> &[u8]
+        ensures { result.now ≡ line_bytes self.now }
+    {
+        match self {
+            ReplyLine::Made(line) => line.as_bytes(),
+            ReplyLine::Fixed(line) => line,
+        }
+    }
+}
