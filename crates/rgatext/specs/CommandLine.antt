@@ -1,46 +1,70 @@
--- The command line, as `clap` reads it: `rgatext lines [--site N]`.
-use Rattle.std.specs.Prelude.{◌≡◌, ◌≤◌, ◌⊎◌, ℕ, Bool, false, List, [], ◌∷◌, Option, Some, option_map, option_and_then, codes, true, pos}
+-- The command line, as `clap` reads it: `rgatext lines [--site N] [--resume] [--snapshot]` and `rgatext text [--version V]`.
+use Rattle.std.specs.Prelude.{◌≡◌, ◌≤◌, ◌⊎◌, ℕ, Bool, false, List, [], ◌∷◌, Option, Some, None, bytes_eq, codes, true, pos}
 use Rattle.std.specs.Str.Parse.{IsNumeral, digits_value, without_leading_plus}
 use Rattle.clap.specs.Words.{App, IsAmong, Kinds, Row, Rule, Text, first_of, new_app, new_rule, with_rule, with_subcommand}
+use Rattle.clap.specs.declared.builder.action.ArgAction.TheVariants.{SetTrue}
 use Rattle.clap.specs.declared.builder.value_parser.ValueParser.TheVariants as vp
 use Rattle.clap.specs.declared.error.ErrorKind.{ErrorKind}
 use Rattle.clap.specs.declared.error.ErrorKind.TheVariants as kind
 use Rattle.rgatext.specs.declared.plan.Plan.{Plan}
 use Rattle.rgatext.specs.declared.plan.PlanFault.{PlanFault}
 use Rattle.rgatext.specs.declared.plan.PlanFault.TheVariants.{Help, Words, Memory}
-use Rattle.rgatext.specs.declared.plan.Plan.TheVariants.{Lines}
+use Rattle.rgatext.specs.declared.plan.Plan.TheVariants.{Lines, Text as TextOf}
 
 -- `--site N`, a whole number from 0 to 31, or 0
 abbrev pub site_option : Rule
 site_option = record (new_rule (codes "site")) { long = Some (codes "site"); parser = Some (vp.Signed (pos 0) (pos 31)); value_names = 1; defaults = codes "0" ∷ [] }
 
+-- `--version V`, a whole number of 32 bits
+abbrev pub version_option : Rule
+version_option = record (new_rule (codes "version")) { long = Some (codes "version"); parser = Some (vp.Signed (pos 0) (pos 4294967295)); value_names = 1 }
+
+-- a word that is there or isn't
+abbrev pub flag_option : Text → Rule
+flag_option name = record (new_rule name) { long = Some name; action = Some SetTrue }
+
 -- the subcommand `lines`
 abbrev pub lines : App
-lines = with_rule (new_app (codes "lines")) site_option
+lines = with_rule (with_rule (with_rule (new_app (codes "lines")) site_option) (flag_option (codes "resume"))) (flag_option (codes "snapshot"))
+
+-- the subcommand `text`
+abbrev pub text : App
+text = with_rule (new_app (codes "text")) version_option
 
 -- the program, which asks for a subcommand
 abbrev pub rgatext : App
-rgatext = let a = with_subcommand (new_app (codes "rgatext")) lines.top in record a { top = record a.top { subcommand_required = true } }
-
--- the value of `--site` among the rows of a subcommand that was met
-abbrev pub site_text : Option (Text × List Row) → Option Text
-site_text met = option_and_then (λ used. first_of (codes "site") used.1) met
+rgatext = let a = with_subcommand (with_subcommand (new_app (codes "rgatext")) lines.top) text.top in record a { top = record a.top { subcommand_required = true } }
 
 -- the number that a text of decimal digits is
 abbrev pub number_in : Text → ℕ
 number_in t = digits_value 10 (without_leading_plus t)
 
+-- an option's value is this number, at most the greatest; or there is none
+abbrev pub ReadsTo : ℕ → Option Text → Option ℕ → Type 0
+ReadsTo most (Some t) (Some n) = IsNumeral 10 (without_leading_plus t) × (number_in t ≡ n) × (n ≤ most)
+ReadsTo most None None = Unit {0}
+ReadsTo most (Some t) None = ⊥
+ReadsTo most None (Some n) = ⊥
+
+-- a flag's value says that it is there
+abbrev pub is_set : Option Text → Bool
+is_set (Some t) = bytes_eq t (codes "true")
+is_set None = false
+
+-- the rows of this subcommand ask for the plan
+abbrev pub AsksIn : Text → List Row → Plan → Type 0
+AsksIn name rows (Lines site resume snapshot) = (name ≡ codes "lines") × ReadsTo 31 (first_of (codes "site") rows) (Some site)
+    × (resume ≡ is_set (first_of (codes "resume") rows)) × (snapshot ≡ is_set (first_of (codes "snapshot") rows))
+AsksIn name rows (TextOf version) = (name ≡ codes "text") × ReadsTo 4294967295 (first_of (codes "version") rows) version
+
 -- the subcommand that was met asks for the plan
 abbrev pub Asks : Option (Text × List Row) → Plan → Type 0
-Asks met (Lines site) = option_map number_in (site_text met) ≡ Some site
+Asks None plan = ⊥
+Asks (Some met) plan = AsksIn met.0 met.1 plan
 
--- a text of decimal digits, 0 to 31
-abbrev pub IsSite : Text → Type 0
-IsSite t = IsNumeral 10 (without_leading_plus t) × (number_in t ≤ 31)
-
--- no site is among the subcommand's words; `clap` lets none through
-abbrev pub IsUnread : Option (Text × List Row) → Type 0
-IsUnread met = (t : Text) → site_text met ≡ Some t → ¬ IsSite t
+-- no plan is asked for; `clap` lets no such words through
+abbrev pub AsksNothing : Option (Text × List Row) → Type 0
+AsksNothing met = (plan : Plan) → Asks met plan → ⊥
 
 -- `clap` answers by a text that was asked for
 abbrev pub shows_text : ErrorKind → Bool
@@ -61,8 +85,8 @@ ToldBy k (Help t) = shows_text k ≡ true
 ToldBy k (Words t) = blames_words k ≡ true
 ToldBy k Memory = Unit {0}
 
--- why there is no plan: one of the kinds that `clap` finds, or no site
+-- why there is no plan: one of the kinds that `clap` finds, or no plan
 abbrev pub Refuses : Kinds → Option (Text × List Row) → PlanFault → Type 0
 Refuses kinds met (Help t) = (k : ErrorKind) × IsAmong k kinds × ToldBy k (Help t)
-Refuses kinds met (Words t) = ((k : ErrorKind) × IsAmong k kinds × ToldBy k (Words t)) ⊎ IsUnread met
+Refuses kinds met (Words t) = ((k : ErrorKind) × IsAmong k kinds × ToldBy k (Words t)) ⊎ AsksNothing met
 Refuses kinds met Memory = Unit {0}

@@ -1,26 +1,33 @@
--- What a plan's run does: `lines` serves the room of its site, empty at first, each step being the room's.
-use Rattle.std.specs.Prelude.{◌≡◌, ℕ, List, [], Option, Result, Ok, Err}
+-- What a plan's run does. `lines` serves a room of its site, each step being the room's: over an empty log, or over the log
+-- of a snapshot that is the first line of the input; and writes at last a snapshot, where the plan says so. `text` prints the
+-- reading of a version of the log of a snapshot, which is the whole input. The forms are the server's own.
+use Rattle.std.specs.Prelude.{◌≡◌, ◌⊎◌, ℕ, ◌<◌, ◌≤◌, List, [], ◌∷◌, ◌++◌, length, Bool, true, false, unwrap_or, Option, Some, Result, Ok, Err, encode_utf8_all}
+use Rattle.std.specs.Io.KnownBytes.{IsAtEnd}
+use Rattle.opid.specs.declared.refusal.Refusal.{Refusal}
+use Rattle.opid.specs.declared.refusal.Refusal.TheVariants as Why
+use Rattle.opid.specs.declared.refusal.Refusal.TheVariants.{BadSnapshot, SiteUsed, BadVersion}
+use Rattle.opid.specs.Operations.{Operation}
+use Rattle.opid.specs.Reading.{reading_at}
 use Rattle.room.specs.declared.call.Call.{Call}
 use Rattle.room.specs.declared.reply.Reply.{Reply}
 use Rattle.room.specs.declared.desk.DeskFault.{DeskFault}
 use Rattle.room.specs.declared.owned.RoomDesk.{RoomDesk}
-use Rattle.room.specs.Machine.{empty_room}
+use Rattle.room.specs.Machine.{room_over}
 use Rattle.room.specs.History.{Account, StepsRoom, FaultsRoom}
-use Rattle.rgatext.specs.Served.{Serves}
-use Rattle.rgatext.specs.declared.engine.ServeFault.{ServeFault}
+use Rattle.snapshot.specs.Snapshot.{StandsFor, StandsForNone, LacksSite, HasSite, log_text}
+use Rattle.ws_server.specs.Answers.{Answers}
+use Rattle.ws_server.specs.Lines.{FallsShort, IsFirstLine, ended}
+use Rattle.ws_server.specs.ServedLines.{Serves}
+use Rattle.ws_server.specs.declared.fault.ServeFault.{ServeFault}
+use Rattle.ws_server.specs.declared.fault.ServeFault.TheVariants.{Read, Write, Memory}
 use Rattle.rgatext.specs.declared.plan.Plan.{Plan}
-use Rattle.rgatext.specs.declared.plan.Plan.TheVariants.{Lines}
-use Rattle.rgatext.specs.declared.play.Stop.{Stop}
-use Rattle.rgatext.specs.declared.play.Stop.TheVariants.{Fault}
+use Rattle.rgatext.specs.declared.plan.Plan.TheVariants.{Lines, Text}
+use Rattle.rgatext.specs.declared.stop.Stop.{Stop}
+use Rattle.rgatext.specs.declared.stop.Stop.TheVariants.{Refused, Fault}
 
--- a site's room before any call
-abbrev pub opened : ℕ → Account
-opened site = record { opening = empty_room site; history = []; state = empty_room site }
-
--- how the engine ended
-abbrev pub served_end : {T : Type 0} → Result T Stop → Result T ServeFault
-served_end (Ok done) = Ok done
-served_end (Err (Fault why)) = Err why
+-- a site's room over a log, before any call
+abbrev pub opened : ℕ → List Operation → Account
+opened site log = record { opening = room_over site log; history = []; state = room_over site log }
 
 abbrev pub room_step : RoomDesk → Call → Reply → RoomDesk → Type 0
 room_step old call reply new = StepsRoom old.room call reply new.room
@@ -28,10 +35,86 @@ room_step old call reply new = StepsRoom old.room call reply new.room
 abbrev pub room_fault : RoomDesk → Call → DeskFault → RoomDesk → Type 0
 room_fault old call why new = FaultsRoom old.room why new.room
 
--- the site of the room that is served
-abbrev pub site_of : Plan → ℕ
-site_of (Lines site) = site
+-- why a refusal stops a run: for want of memory it is a fault
+abbrev pub stop_of : Refusal → Stop
+stop_of Why.Memory = Fault Memory
+stop_of why = Refused why
+
+-- how the faults of a run's end are counted: a refusal is none
+abbrev pub served_end : {T : Type 0} → Result T Stop → Result (Unit {0}) ServeFault
+served_end (Ok done) = Ok tt
+served_end (Err (Refused why)) = Ok tt
+served_end (Err (Fault why)) = Err why
+
+-- ---- `lines`
+
+-- the room opens over no log, and nothing is read for it; or over that of the first line
+abbrev pub Opens : Bool → ℕ → Option (List ℕ) → List ℕ → Bool → List Operation → List ℕ → Type 0
+Opens false site left got over log rest = (over ≡ false) × (log ≡ []) × (rest ≡ got)
+Opens true site left got over log rest =
+    (line : List ℕ) × IsFirstLine over left got line rest × StandsFor line log × LacksSite site log
+
+-- why no room opens: a read failed, or memory was refused, or the first line is no snapshot, or has an operation of the site
+abbrev pub OpensNot : Bool → ℕ → Option (List ℕ) → List ℕ → Stop → Type 0
+OpensNot resume site left got (Fault Read) = resume ≡ true
+OpensNot resume site left got (Fault Write) = ⊥
+OpensNot resume site left got (Fault Memory) = resume ≡ false → got ≡ []
+OpensNot resume site left got (Refused why) = (resume ≡ true)
+    × ((line : List ℕ) × (rest : List ℕ) × (over : Bool) × IsFirstLine over left got line rest
+        × (((why ≡ BadSnapshot) × StandsForNone line) ⊎ ((why ≡ SiteUsed) × HasSite site line)))
+
+-- a text is written: whole, or at a fault of the writer less than that, or for want of memory nothing
+abbrev pub Writes : {T : Type 0} → List ℕ → List ℕ → Result T Stop → Type 0
+Writes text written (Ok done) = written ≡ text
+Writes text written (Err (Fault Read)) = ⊥
+Writes text written (Err (Fault Write)) = FallsShort written text
+Writes text written (Err (Fault Memory)) = written ≡ []
+Writes text written (Err (Refused why)) = ⊥
+
+-- what comes after the answers, once all lines were served: nothing, or the snapshot's line
+abbrev pub Closes : {T U : Type 0} → Bool → List Operation → List ℕ → Result T ServeFault → Result U Stop → Type 0
+Closes snapshot log last (Err why) end = (last ≡ []) × (end ≡ Err (Fault why))
+Closes true log last (Ok done) end = Writes (ended (log_text log)) last end
+Closes false log last (Ok done) end = Writes [] last end × (served_end end ≡ Ok tt)
+
+-- a room's desk serves lines, and what comes after the answers is the snapshot of the log that the room has then
+pub record ServesRoom {T : Type 0} (room : Account) (snapshot : Bool) (got : List ℕ) (left : Option (List ℕ)) (written : List ℕ) (end : Result T Stop) : Type 0 where
+  pub desk : RoomDesk
+  pub after : RoomDesk
+  pub answers : List ℕ
+  pub last : List ℕ
+  pub served : Result (Unit {0}) ServeFault
+  pub opens : desk.room ≡ room
+  pub serves : Serves (Answers room_step room_fault) desk got left answers served after
+  pub whole : written ≡ answers ++ last
+  pub closes : Closes snapshot after.room.state.log last served end
+
+-- no room opens and nothing is written, or a room opens and is served
+abbrev pub PlaysLines : {T : Type 0} → ℕ → Bool → Bool → List ℕ → Option (List ℕ) → List ℕ → Result T Stop → Type 0
+PlaysLines site resume snapshot got left written end =
+    ((why : Stop) × OpensNot resume site left got why × (written ≡ []) × (end ≡ Err why))
+    ⊎ ((over : Bool) × (log : List Operation) × (rest : List ℕ) × Opens resume site left got over log rest
+        × ServesRoom (opened site log) snapshot rest left written end)
+
+-- ---- `text`
+
+-- the reading of a version and LF, in UTF-8
+abbrev pub reading_line : List Operation → ℕ → List ℕ
+reading_line log version = ended (encode_utf8_all (reading_at log version))
+
+-- the input is read, and stands for a log, whose reading is written; or it is refused, or a fault is met before a byte is written
+abbrev pub PlaysText : {T : Type 0} → Option ℕ → List ℕ → Option (List ℕ) → List ℕ → Result T Stop → Type 0
+PlaysText version got left written (Err (Fault Read)) = written ≡ []
+PlaysText version got left written (Err (Fault Memory)) = written ≡ []
+PlaysText version got left written (Err (Refused why)) = (written ≡ []) × IsAtEnd left
+    × (((why ≡ BadSnapshot) × StandsForNone got)
+        ⊎ ((log : List Operation) × (v : ℕ) × (why ≡ BadVersion) × StandsFor got log × (version ≡ Some v) × (length log < v)))
+PlaysText version got left written end = IsAtEnd left
+    × ((log : List Operation) × StandsFor got log × (unwrap_or version (length log) ≤ length log)
+        × Writes (reading_line log (unwrap_or version (length log))) written end)
+
+-- ---- a plan
 
 abbrev pub Plays : {T : Type 0} → Plan → List ℕ → Option (List ℕ) → List ℕ → Result T Stop → Type 0
-Plays plan got left written end =
-    (desk : RoomDesk) × (after : RoomDesk) × (desk.room ≡ opened (site_of plan)) × Serves room_step room_fault desk got left written (served_end end) after
+Plays (Lines site resume snapshot) got left written end = PlaysLines site resume snapshot got left written end
+Plays (Text version) got left written end = PlaysText version got left written end

@@ -1,19 +1,22 @@
 //! What the words of the command line ask the program to do.
-ghost use Rattle.std.specs.Prelude.{◌≡◌, [], Some, IfOk, IfErr, IfSome, IfNone, map, option_map, string_bytes};
-ghost use Rattle.clap.specs.Words.{app_of, fault_of, kind_of, subcommand_of, subcommand_rows_of};
-ghost use Rattle.rgatext.specs.CommandLine.{rgatext, Asks, IsSite, IsUnread, Refuses, ToldBy, number_in, site_text};
+ghost use Rattle.std.specs.Prelude.{◌≡◌, [], Some, None, Option, ℕ, false, IfOk, IfErr, IfSome, IfNone, map, option_map, string_bytes};
+ghost use Rattle.clap.specs.Words.{app_of, fault_of, found_of, kind_of, rows_of, rule_of, first_of, subcommand_of, subcommand_rows_of};
+ghost use Rattle.rgatext.specs.declared.plan.Plan.{Plan};
+ghost use Rattle.rgatext.specs.CommandLine.{rgatext, site_option, flag_option, version_option, Asks, AsksNothing, ReadsTo, Refuses, ToldBy, is_set};
 
 use crate::plan::{Plan, PlanFault};
 use clap::error::ErrorKind;
-use clap::{Arg, ArgMatches, Command, value_parser};
+use clap::{Arg, ArgAction, ArgMatches, Command, value_parser};
 use opid::Site;
 use std::alloc::{AllocError, Global};
 
 /// The plan that the words ask for, of which the first is the program's own name.
 ///
-/// `lines` serves standard input; `--site N` gives the room's site, 0 to 31, or 0 where it isn't given. `--help` and
-/// `help`, also after `lines`, are answered by `Help`; all other words by `Words`, which says what is wrong with them;
-/// want of memory by `Memory`. Takes time and memory in proportion to the words.
+/// `lines` serves standard input: `--site N` gives the room's site, 0 to 31, or 0 where it isn't given; with `--resume`
+/// the first line is a snapshot, and with `--snapshot` one is written last. `text` prints a snapshot's reading:
+/// `--version V`, 0 to 4,294,967,295, names the version, and else it is the newest. `--help` and `help`, also of a
+/// subcommand, are answered by `Help`; all other words by `Words`, which says what is wrong with them; want of memory by
+/// `Memory`. Takes time and memory in proportion to the words.
 pub fn plan(alloc: Global, words: &[String]) -> Result<Plan, PlanFault>
     ensures planned { IfOk result (λ made. Asks (subcommand_of rgatext (map string_bytes words.now)) made) }
     ensures refused { IfErr result (Refuses (fault_of rgatext (map string_bytes words.now))
@@ -29,19 +32,55 @@ pub fn plan(alloc: Global, words: &[String]) -> Result<Plan, PlanFault>
 fn command<'a>(alloc: Global) -> Result<Command<'a>, AllocError>
     ensures { IfOk result (λ made. app_of made ≡ rgatext) }
 {
-    let site = Arg::new(alloc, "site")
+    let site = site_arg(alloc);
+    let resume = flag_arg(alloc, "resume", "The input's first line is a snapshot that the room opens over");
+    let snapshot = flag_arg(alloc, "snapshot", "Writes the room's snapshot as the last line");
+    let version = version_arg(alloc);
+    let lines = Command::new(alloc, "lines")
+        .about("Serves requests from standard input to standard output, one a line");
+    let lines = lines.arg(site)?;
+    let lines = lines.arg(resume)?;
+    let lines = lines.arg(snapshot)?;
+    let text = Command::new(alloc, "text").about("Prints the reading of the snapshot on standard input");
+    let text = text.arg(version)?;
+    let top = Command::new(alloc, "rgatext")
+        .about("A replicated text server")
+        .subcommand_required(true);
+    let top = top.subcommand(lines)?;
+    top.subcommand(text)
+}
+
+fn site_arg<'a>(alloc: Global) -> Arg<'a>
+    ensures rule { rule_of result ≡ site_option }
+    ensures local { result.global ≡ false }
+{
+    Arg::new(alloc, "site")
         .long("site")
         .value_name("N")
         .value_parser(value_parser!(u8).range(0..=31))
         .default_value("0")
-        .help("The room's site number, 0 to 31");
-    let lines = Command::new(alloc, "lines")
-        .about("Serves requests from standard input to standard output, one a line")
-        .arg(site)?;
-    Command::new(alloc, "rgatext")
-        .about("A replicated text server")
-        .subcommand_required(true)
-        .subcommand(lines)
+        .help("The room's site number, 0 to 31")
+}
+
+fn version_arg<'a>(alloc: Global) -> Arg<'a>
+    ensures rule { rule_of result ≡ version_option }
+    ensures local { result.global ≡ false }
+{
+    Arg::new(alloc, "version")
+        .long("version")
+        .value_name("V")
+        .value_parser(value_parser!(u32).range(0..=4294967295))
+        .help("The version, the newest unless given")
+}
+
+fn flag_arg<'a>(alloc: Global, name: &'a str, help: &'a str) -> Arg<'a>
+    ensures rule { rule_of result ≡ flag_option name.now }
+    ensures local { result.global ≡ false }
+{
+    Arg::new(alloc, name)
+        .long(name)
+        .action(ArgAction::SetTrue)
+        .help(help)
 }
 
 // The plan of words that `clap` took.
@@ -49,32 +88,75 @@ fn read_plan(alloc: Global, matches: &ArgMatches<'_>) -> Result<Plan, PlanFault>
     ensures planned { IfOk result (λ made. Asks (subcommand_rows_of matches.now) made) }
     ensures refused { IfErr result (Refuses [] (subcommand_rows_of matches.now)) }
 {
-    match read_site(matches) {
-        Some(site) => Ok(Plan::Lines { site }),
-        None => Err(PlanFault::Words(String::from_str(alloc, "error: there is no site number\n")?)),
+    match subcommand_plan(matches) {
+        Some(plan) => Ok(plan),
+        None => Err(PlanFault::Words(String::from_str(alloc, "error: there is no plan\n")?)),
     }
 }
 
-fn read_site(matches: &ArgMatches<'_>) -> Option<Site>
-    ensures read { IfSome result (λ site. option_map number_in (site_text (subcommand_rows_of matches.now)) ≡ Some site) }
-    ensures unread { IfNone result (IsUnread (subcommand_rows_of matches.now)) }
+fn subcommand_plan(matches: &ArgMatches<'_>) -> Option<Plan>
+    ensures some { IfSome result (λ made. Asks (subcommand_rows_of matches.now) made) }
+    ensures none { IfNone result (AsksNothing (subcommand_rows_of matches.now)) }
 {
     match matches.subcommand() {
-        Some((_, used)) => match used.get_str("site") {
-            Some(text) => site_in(text),
+        Some((name, used)) => plan_named(name, used),
+        None => None,
+    }
+}
+
+fn plan_named(name: &str, used: &ArgMatches<'_>) -> Option<Plan>
+    ensures some { IfSome result (λ made. Asks (Some (name.now, rows_of (found_of used.now))) made) }
+    ensures none { IfNone result (AsksNothing (Some (name.now, rows_of (found_of used.now)))) }
+{
+    match name {
+        "lines" => match site_in(used.get_str("site")) {
+            Some(site) => Some(Plan::Lines {
+                site,
+                resume: flag(used, "resume"),
+                snapshot: flag(used, "snapshot"),
+            }),
             None => None,
+        },
+        "text" => match version_in(used.get_str("version")) {
+            Some(version) => Some(Plan::Text { version }),
+            None => None,
+        },
+        _ => None,
+    }
+}
+
+fn flag(used: &ArgMatches<'_>, name: &str) -> bool
+    ensures { result ≡ is_set (first_of name.now (rows_of (found_of used.now))) }
+{
+    match used.get_str(name) {
+        Some(text) => text == "true",
+        None => false,
+    }
+}
+
+fn site_in(text: Option<&str>) -> Option<Site>
+    ensures some { IfSome result (λ site. ReadsTo 31 (option_map (λ t. t.now) text.entry) (Some site)) }
+    ensures none { IfNone result ((site : ℕ) → ReadsTo 31 (option_map (λ t. t.now) text.entry) (Some site) → ⊥) }
+{
+    match text {
+        Some(text) => match text.parse::<u8>() {
+            Ok(number) => Site::new(number).ok(),
+            Err(_) => None,
         },
         None => None,
     }
 }
 
-fn site_in(text: &str) -> Option<Site>
-    ensures read { IfSome result (λ site. number_in text.now ≡ site) }
-    ensures unread { IfNone result (¬ IsSite text.now) }
+fn version_in(text: Option<&str>) -> Option<Option<u32>>
+    ensures some { IfSome result (λ version. ReadsTo 4294967295 (option_map (λ t. t.now) text.entry) version) }
+    ensures none { IfNone result ((version : Option ℕ) → ReadsTo 4294967295 (option_map (λ t. t.now) text.entry) version → ⊥) }
 {
-    match text.parse::<u8>() {
-        Ok(number) => Site::new(number).ok(),
-        Err(_) => None,
+    match text {
+        Some(text) => match text.parse::<u32>() {
+            Ok(number) => Some(Some(number)),
+            Err(_) => None,
+        },
+        None => Some(None),
     }
 }
 
@@ -116,7 +198,8 @@ mod tests {
 
     fn site_of(alloc: Global, words: &[&str]) -> Result<Option<u8>, AllocError> {
         match &planned(alloc, words)? {
-            Ok(Plan::Lines { site }) => Ok(Some(site.number())),
+            Ok(Plan::Lines { site, resume: _, snapshot: _ }) => Ok(Some(site.number())),
+            Ok(_) => Ok(None),
             Err(_) => Ok(None),
         }
     }

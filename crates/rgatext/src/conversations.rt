@@ -1,15 +1,17 @@
 //! The program over worked conversations of sessions: the requests of each, and what `rgatext lines` answers.
-use crate::counted::Counted;
 use crate::plan::Plan;
 use crate::play::play;
 use opid::Site;
 use std::alloc::Global;
 use std::test::Fail;
+use ws_server::Counted;
 
 // What `rgatext lines` answers to the input, in a room of site 0.
 pub(crate) fn answers(alloc: Global, requests: &str) -> Result<Vec<u8>, Fail> {
     let plan = Plan::Lines {
         site: Site::new(0)?,
+        resume: false,
+        snapshot: false,
     };
     let mut input = Counted::new(requests.as_bytes());
     let mut output = Counted::new(Vec::new(alloc));

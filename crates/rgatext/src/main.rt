@@ -1,29 +1,28 @@
-//! The program: what its command line asks for, and the engine that serves requests a line at a time over any desk,
-//! reader and writer.
+//! The program: what its command line asks for, and what it then does.
 #![tactic(auto)]
 
 mod command_line;
 #[cfg(test)]
 mod conversations;
-mod counted;
-mod engine;
 #[cfg(test)]
 mod exchanges;
-mod fixed;
+#[cfg(test)]
+mod kept;
 #[cfg(test)]
 mod page;
 mod plan;
 mod play;
-#[cfg(test)]
-mod tests;
-mod window;
+mod play_lines;
+mod play_text;
+mod sending;
+mod stop;
 
 use command_line::plan;
-use counted::Counted;
 use plan::PlanFault;
 use play::play;
 use std::process::ExitCode;
 use std::{env, io};
+use ws_server::Counted;
 
 /// The words are bad.
 const BAD_WORDS: u8 = 2;

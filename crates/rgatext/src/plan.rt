@@ -8,21 +8,19 @@ use thiserror::Error;
 #[derive(Clone, Copy, Debug, PartialEq, Eq)]
 pub enum Plan {
     /// Serve requests from standard input to standard output, with a room of this site.
-    Lines { site: Site },
-}
-
-impl Plan {
-    ghost use Rattle.std.specs.Prelude.{◌≡◌};
-    ghost use Rattle.rgatext.specs.Played.{site_of};
-
-    /// The site of the room that is served. Constant time.
-    pub fn site(self) -> Site
-        ensures { result ≡ site_of self }
-    {
-        match self {
-            Plan::Lines { site } => site,
-        }
-    }
+    Lines {
+        /// The room's site.
+        site: Site,
+        /// The room opens over the input's first line, which is a snapshot.
+        resume: bool,
+        /// The room's snapshot is written last.
+        snapshot: bool,
+    },
+    /// Print the reading of a version of the snapshot on standard input.
+    Text {
+        /// The version; the newest where it isn't named.
+        version: Option<u32>,
+    },
 }
 
 /// Why there is no plan.

@@ -1,31 +1,24 @@
 //! Runs a plan over a reader and a writer.
-ghost use Rattle.std.specs.Prelude.{◌^◌, ◌<◌, ℕ, List};
+ghost use Rattle.std.specs.Prelude.{◌^◌, ◌<◌, ℕ, List, Result, Ok};
 ghost use Rattle.std.specs.Io.KnownBytes.{Appends, Consumes};
-ghost use Rattle.rgatext.specs.Counting.{Rises};
+ghost use Rattle.ws_server.specs.Counting.{Rises};
 ghost use Rattle.rgatext.specs.Played.{Plays, served_end};
 
-use crate::counted::Counted;
-use crate::engine::{ServeFault, serve_lines};
 use crate::plan::Plan;
-use room::{Room, RoomDesk};
+use crate::play_lines::play_lines;
+use crate::play_text::play_text;
+use crate::stop::Stop;
 use std::alloc::Global;
-use std::io::{Read, Write};
-use thiserror::Error;
+use std::io::Write;
+use ws_server::{Counted, Source};
 
-/// Why a run stopped before its end.
-#[derive(Clone, Copy, Debug, PartialEq, Eq, Error)]
-pub enum Stop {
-    /// The engine met a fault.
-    #[error("{0}")]
-    Fault(ServeFault),
-}
-
-/// Runs the plan from the reader to the writer. `lines` serves an empty room of its site.
+/// Runs the plan from the reader to the writer.
 ///
-/// After an `Err` the engine met the fault that it tells, as `serve_lines` says: a read or a write failed, or memory
-/// was refused. Takes the time of the engine and of the calls that the lines ask for, and memory for the engine's
-/// buffer and for the room.
-pub fn play<R: Read, W: Write>(
+/// `lines` serves a room of its site, and `text` prints a reading. An `Err` tells the refusal or the fault that ended it:
+/// a snapshot that is none or whose log has an operation of the site, a version above the newest, a read or a write that
+/// failed, or memory that was refused. Takes the time of the engine and of the calls that the lines ask for, and memory
+/// for the engine's buffer and for the room.
+pub fn play<R: Source, W: Write>(
     alloc: Global,
     plan: &Plan,
     input: &mut Counted<R>,
@@ -39,9 +32,12 @@ pub fn play<R: Read, W: Write>(
         × Plays plan.now got (R.remaining input.new.inner) written result }
     ensures counted { Rises input.old.failures input.new.failures output.old.failures output.new.failures (served_end result) }
 {
-    let mut desk = RoomDesk::new(Room::new(alloc, plan.site()));
-    match serve_lines(alloc, &mut desk, input, output) {
-        Ok(()) => Ok(()),
-        Err(why) => Err(Stop::Fault(why)),
+    match *plan {
+        Plan::Lines {
+            site,
+            resume,
+            snapshot,
+        } => play_lines(alloc, site, resume, snapshot, input, output),
+        Plan::Text { version } => play_text(alloc, version, input, output),
     }
 }

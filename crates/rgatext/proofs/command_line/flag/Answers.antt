@@ -1,0 +1,12 @@
+-- The text at the flag's name.
+use Rattle.std.proofs.Common.{◌≡◌, ◌∙◌, ap, codes}
+use Rattle.clap.specs.Words.{found_of}
+use Rattle.clap.proofs.WalkLemmas.{first_value-rows}
+use Rattle.rgatext.specs.CommandLine.{is_set}
+use Rattle.rgatext.proofs.command_line.flag.Goals as goal
+
+pub returns-in-Some : goal.returns-in-Some
+returns-in-Some c = c.eq.ensures ∙ ap is_set (c.in-Some.ensures ∙ first_value-rows (found_of c.args.used.now) c.args.name.now)
+
+pub returns-in-None : goal.returns-in-None
+returns-in-None c = ap is_set (c.in-None.ensures ∙ first_value-rows (found_of c.args.used.now) c.args.name.now)
