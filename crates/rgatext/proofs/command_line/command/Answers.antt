@@ -17,9 +17,13 @@ returns c =
     let text_is : app_of c.in_ok-text.text ≡ text = c.in_ok-text.ensures.shape c.version_arg-version.ensures.local ∙ ap₂ with_rule text_about c.version_arg-version.ensures.rule in
     let top_is : app_of c.subcommand_required-top.result ≡ on_top (λ s. record s { subcommand_required = true }) (new_app (codes "rgatext")) =
     ap app_of_fields c.subcommand_required-top.ensures ∙ ap (λ (a : App). on_top (λ s. record s { subcommand_required = true }) a) (ap app_of_fields c.about.ensures ∙ c.new-3.ensures.app) in
-    let plain_one = or_none _ _ _ c.in_ok-lines.ensures.globals (search rules) c.site_arg-site.ensures.local in
-    let plain_two = or_none _ _ _ c.in_ok-lines-2.ensures.globals plain_one c.flag_arg-resume.ensures.local in
-    let plain_lines = or_none _ _ _ c.in_ok-lines-3.ensures.globals plain_two c.flag_arg-snapshot.ensures.local in
-    let plain_text = or_none _ _ _ c.in_ok-text.ensures.globals (search rules) c.version_arg-version.ensures.local in
-    let first = c.in_ok-top.ensures.shape plain_lines ∙ ap₂ with_subcommand top_is (ap (λ (a : App). a.top) lines_is) in
-    IfOk-weaker c.subcommand-2.result _ _ (λ made h. h.shape plain_text ∙ ap₂ with_subcommand first (ap (λ (a : App). a.top) text_is)) c.subcommand-2.ensures
+    let site_local = c.site_arg-site.ensures.local in
+    let resume_local = c.flag_arg-resume.ensures.local in
+    let snapshot_local = c.flag_arg-snapshot.ensures.local in
+    let version_local = c.version_arg-version.ensures.local in
+    let globals_one = c.in_ok-lines.ensures.globals in
+    let globals_two = c.in_ok-lines-2.ensures.globals in
+    let globals_lines = c.in_ok-lines-3.ensures.globals in
+    let globals_text = c.in_ok-text.ensures.globals in
+    let first = c.in_ok-top.ensures.shape (search (rules, or_none)) ∙ ap₂ with_subcommand top_is (ap (λ (a : App). a.top) lines_is) in
+    IfOk-weaker c.subcommand-2.result _ _ (λ made h. h.shape (search (rules, or_none)) ∙ ap₂ with_subcommand first (ap (λ (a : App). a.top) text_is)) c.subcommand-2.ensures
