@@ -1,31 +1,24 @@
 -- Leaving keeps the rule: the value goes home, and the trail it has then is the trail so far.
-use Rattle.std.proofs.Common.{◌≡◌, ◌≢◌, ℕ, ◌+◌, ◌-◌, ◌%◌, ◌^◌, ◌<◌, ◌≤◌, eqb, List, [], ◌∷◌, ◌++◌, set, get_or, length, drop}
-use Rattle.std.proofs.Common.{refl, ap, sym, subst, ◌∙◌, ⊎_elim, arith, mod-eq_of_lt, lt_of_not-le, length-append}
-use mathlib.Core.Logic.{dite}
-use mathlib.Core.Option.{none, some, some-injective, some-ne-none}
+use Rattle.std.proofs.Common.{◌≡◌, ◌≢◌, ℕ, ◌+◌, ◌%◌, ◌^◌, ◌<◌, ◌≤◌, List, [], ◌∷◌, ◌++◌, set, get_or, length, drop}
+use Rattle.std.proofs.Common.{refl, ap, sym, subst, ◌∙◌, arith, mod-eq_of_lt, length-append}
+use mathlib.Core.Option.{none, some}
 use mathlib.Core.List.{IsPrefix}
-use native.Mathlib.Decide.{ℕ_discrete, dec_le}
-use lib.ListN.{get_elem?}
-use prog.Atomic.{either}
 use Rattle.std.specs.Prelude.{Option, Some, None}
-use Rattle.atomic_table.specs.Table.{State, Me, Act, keeps, takes, gives, Valid, put_back, rest, carried_after, stepped, step}
-use Rattle.atomic_table.specs.Table.{Allows, Splits, Joins, opening}
-use Rattle.atomic_table.proofs.Lists.{at_set, set_else, at_longer, at_snoc, exchanged}
-use Rattle.history_lock.specs.declared.pass.Stage.{Stage}
-use Rattle.history_lock.specs.declared.pass.Stage.TheVariants.{Idle, Waiting, Inside, Peeked}
+use Rattle.atomic_table.specs.Table.{State, Me, gives, put_back, rest, stepped, step}
+use Rattle.atomic_table.specs.Table.{Allows}
+use Rattle.history_lock.specs.declared.pass.Stage.TheVariants.{Inside}
 use Rattle.history_lock.specs.declared.pass.Sight.{Sight}
-use Rattle.history_lock.specs.Sights.{total, left_of, weigh, weight_of, last_or, longer, Among, opened, spent, drew, took}
-use Rattle.history_lock.specs.Sights.{finished, peeked_at, won, gave_up, kept_draws, given_draws, joined, learned}
-use Rattle.history_lock.specs.Lock.{Place, home, out, slot_at, Stands, Fits, HasTicket, Lies, Lock}
-use Rattle.history_lock.specs.Told.{draws_ticket, looks, leaves, peeks, tries, learns}
-use Rattle.history_lock.proofs.Prefixes.{prefix_self, prefix_nil, prefix_trans, prefix_length, longer_first, longer_second}
-use Rattle.history_lock.proofs.Prefixes.{longer_prefix, longer_whole, among_prefix, among_nil, among_append, among_drop}
+use Rattle.history_lock.specs.Sights.{total, left_of, weigh, weight_of, last_or, longer, Among}
+use Rattle.history_lock.specs.Sights.{finished}
+use Rattle.history_lock.specs.Lock.{home, out, Stands, Fits, HasTicket, Lock}
+use Rattle.history_lock.specs.Told.{leaves}
+use Rattle.history_lock.proofs.Prefixes.{prefix_self, prefix_trans, prefix_length}
+use Rattle.history_lock.proofs.Prefixes.{longer_prefix, longer_whole, among_prefix, among_append, among_drop}
 use Rattle.history_lock.proofs.Prefixes.{weigh_append, weigh_drop}
-use Rattle.history_lock.proofs.Passes.{set_at, total_set, total_snoc, part_of_total}
-use Rattle.history_lock.proofs.Turns.{found_left, left_next}
-use Rattle.history_lock.proofs.Line.{given, given_here, given_else, stands_on, not_inside, idle_not, waiting_not, peeked_not}
-use Rattle.history_lock.proofs.Line.{Held, held_on, each_set}
-use Rattle.history_lock.proofs.Moves.{lies_on, lies_longer, steps_on, at_home, takes_on}
+use Rattle.history_lock.proofs.Passes.{set_at, total_set, part_of_total}
+use Rattle.history_lock.proofs.Turns.{left_next}
+use Rattle.history_lock.proofs.Line.{stands_on}
+use Rattle.history_lock.proofs.Line.{held_on, each_set}
 
 last_snoc : (n : ℕ) (ends : List ℕ) (m : ℕ) → last_or n (ends ++ m ∷ []) ≡ m
 last_snoc n [] m = refl

@@ -1,31 +1,26 @@
 -- Splitting and joining passes keep the rule, and a new lock has it.
-use Rattle.std.proofs.Common.{◌≡◌, ◌≢◌, ℕ, ◌+◌, ◌-◌, ◌%◌, ◌^◌, ◌<◌, ◌≤◌, eqb, List, [], ◌∷◌, ◌++◌, set, get_or, length, drop}
-use Rattle.std.proofs.Common.{refl, ap, sym, subst, ◌∙◌, ⊎_elim, arith, mod-eq_of_lt, lt_of_not-le, length-append}
+use Rattle.std.proofs.Common.{◌≡◌, ℕ, ◌+◌, ◌-◌, ◌^◌, ◌≤◌, List, [], ◌∷◌, ◌++◌, set, length}
+use Rattle.std.proofs.Common.{refl, ap, sym, subst, ◌∙◌, ⊎_elim, arith}
 use mathlib.Core.Logic.{dite}
-use mathlib.Core.Option.{none, some, some-injective, some-ne-none}
+use mathlib.Core.Option.{some, some-injective, some-ne-none}
 use mathlib.Core.List.{IsPrefix}
-use native.Mathlib.Decide.{ℕ_discrete, dec_le}
+use native.Mathlib.Decide.{ℕ_discrete}
 use lib.ListN.{get_elem?}
-use prog.Atomic.{either}
-use Rattle.std.specs.Prelude.{Option, Some, None}
-use Rattle.atomic_table.specs.Table.{State, Me, Act, keeps, takes, gives, Valid, put_back, rest, carried_after, stepped, step}
-use Rattle.atomic_table.specs.Table.{Allows, Splits, Joins, opening}
-use Rattle.atomic_table.proofs.Lists.{at_set, set_else, at_longer, at_snoc, exchanged}
-use Rattle.history_lock.specs.declared.pass.Stage.{Stage}
-use Rattle.history_lock.specs.declared.pass.Stage.TheVariants.{Idle, Waiting, Inside, Peeked}
+use Rattle.std.specs.Prelude.{Some}
+use Rattle.atomic_table.specs.Table.{Splits, Joins, opening}
+use Rattle.atomic_table.proofs.Lists.{set_else, at_longer, at_snoc}
+use Rattle.history_lock.specs.declared.pass.Stage.TheVariants.{Idle}
 use Rattle.history_lock.specs.declared.pass.Sight.{Sight}
-use Rattle.history_lock.specs.Sights.{total, left_of, weigh, weight_of, last_or, longer, Among, opened, spent, drew, took}
-use Rattle.history_lock.specs.Sights.{finished, peeked_at, won, gave_up, kept_draws, given_draws, joined, learned}
-use Rattle.history_lock.specs.Lock.{Place, home, out, slot_at, Stands, Fits, HasTicket, Lies, Lock}
-use Rattle.history_lock.specs.Told.{draws_ticket, looks, leaves, peeks, tries, learns}
-use Rattle.history_lock.proofs.Prefixes.{prefix_self, prefix_nil, prefix_trans, prefix_length, longer_first, longer_second}
-use Rattle.history_lock.proofs.Prefixes.{longer_prefix, longer_whole, among_prefix, among_nil, among_append, among_drop}
-use Rattle.history_lock.proofs.Prefixes.{weigh_append, weigh_drop}
+use Rattle.history_lock.specs.Sights.{left_of, weight_of, longer, Among, opened, spent}
+use Rattle.history_lock.specs.Sights.{kept_draws, given_draws, joined}
+use Rattle.history_lock.specs.Lock.{Place, home, out, Stands, Fits, HasTicket, Lies, Lock}
+use Rattle.history_lock.proofs.Prefixes.{prefix_self, prefix_nil, longer_first, longer_second}
+use Rattle.history_lock.proofs.Prefixes.{longer_whole, among_prefix, among_nil, among_append}
+use Rattle.history_lock.proofs.Prefixes.{weigh_append}
 use Rattle.history_lock.proofs.Passes.{set_at, total_set, total_snoc, part_of_total}
-use Rattle.history_lock.proofs.Turns.{found_left, left_next}
-use Rattle.history_lock.proofs.Line.{given, given_here, given_else, stands_on, not_inside, idle_not, waiting_not, peeked_not}
-use Rattle.history_lock.proofs.Line.{Held, held_on, each_set, stands_same, ticket_same}
-use Rattle.history_lock.proofs.Moves.{lies_on, lies_longer, steps_on, at_home, takes_on}
+use Rattle.history_lock.proofs.Line.{not_inside, idle_not}
+use Rattle.history_lock.proofs.Line.{held_on, each_set, stands_same, ticket_same}
+use Rattle.history_lock.proofs.Moves.{lies_on, lies_longer}
 
 module _ {T E : Type 0} (trail : T → List E) (mark : T → ℕ) (begun : ℕ) where
   -- the value stays where it is, if the pass that changes stays in its stage
