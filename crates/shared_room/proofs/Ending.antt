@@ -1,7 +1,7 @@
 -- What a turn with a call leaves.
 use Rattle.std.proofs.Common.{◌≡◌, ◌≢◌, ℕ, zero, suc, ◌+◌, ◌-◌, ◌<◌, ◌≤◌, ◌↔◌, Bool, true, false, nat_lt, List, [], ◌∷◌, ◌++◌}
 use Rattle.std.proofs.Common.{length, map, drop, Result, Ok, Err, OnOk, OnErr, IfOk, refl, ap, sym, subst, ◌∙◌, arith}
-use Rattle.std.proofs.Common.{append-nil, append_assoc, ltb, ⊎_elim, inl, inr, ◌⊎◌}
+use Rattle.std.proofs.Common.{append-nil, ltb, ⊎_elim, inl, inr, ◌⊎◌}
 use Rattle.std.specs.Prelude.{if◌then◌else◌}
 use mathlib.Core.List.{IsPrefix, map-append}
 use Rattle.std.proofs.lemmas.Bool.Decides.{nat_tests}

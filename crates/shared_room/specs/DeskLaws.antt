@@ -1,5 +1,5 @@
 -- What a desk over a pass has seen, and that it keeps the laws of desks. No public clause cites this.
-use Rattle.std.proofs.Common.{◌≡◌, ◌<◌, ◌≤◌, refl, ap, sym, subst, length, ℕ, List, [], append-nil}
+use Rattle.std.proofs.Common.{◌≡◌, ◌≤◌, ap, sym, subst, length, ℕ, List, [], append-nil}
 use mathlib.Core.List.{IsPrefix}
 use Rattle.room.specs.declared.call.Call.{Call}
 use Rattle.room.specs.declared.reply.Reply.{Reply}
