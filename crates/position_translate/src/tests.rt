@@ -249,17 +249,17 @@ fn a_character_beyond_16_bits_is_one_place(rt: HostRuntime) -> Result<(), Fail> 
     Ok(())
 }
 
-/// The document of 131,070 operations, each run of which was put in at the head.
+/// The document of 131,070 operations: 2,047 runs of 64 characters and one of 62, each put in at the head.
 fn nearly_full(rt: &impl Abort, alloc: Global) -> Result<Doc, Refusal> {
     let mut doc = Doc::new(alloc);
-    for _ in 0..2_340 {
+    for _ in 0..2_047 {
         let ops = insert_ops(
             alloc,
             &doc,
             site(0)?,
             0,
             0,
-            "0123456789abcdefghijklmnopqrstuvwxyz0123456789abcdefghij",
+            "0123456789abcdefghijklmnopqrstuvwxyz0123456789abcdefghijklmnopqr",
         )?;
         integrate_all(rt, &mut doc, &ops)?;
     }
@@ -269,7 +269,7 @@ fn nearly_full(rt: &impl Abort, alloc: Global) -> Result<Doc, Refusal> {
         site(0)?,
         0,
         0,
-        "0123456789abcdefghijklmnopqrst",
+        "0123456789abcdefghijklmnopqrstuvwxyz0123456789abcdefghijklmnop",
     )?;
     integrate_all(rt, &mut doc, &rest)?;
     Ok(doc)

@@ -58,10 +58,14 @@ pub opens_more : (resume : Bool) (site : ℕ) (left left' : Option (List ℕ)) (
 opens_more false site left left' got more over log rest none same (goes, empty, is) = (goes, empty, ap (λ t. t ++ more) is)
 opens_more true site left left' got more false log rest none same (line, (plain, is), stands, lacks) =
     (line, (plain, ap (λ t. t ++ more) is ∙ append_assoc line (10 ∷ rest) more), stands, lacks)
-opens_more true site left left' got more true log rest none same (line, (plain, is, nothing, end), stands, lacks) =
-    (line, (
-      plain,
-      ap (λ t. got ++ t) (none refl) ∙ append-nil got ∙ is,
-      ap (λ t. rest ++ t) (none refl) ∙ append-nil rest ∙ nothing,
-      subst (λ (l : Option (List ℕ)). IsAtEnd l) (sym (same refl)) end,
-    ), stands, lacks)
+opens_more true site left left' got more true log rest none same (line, (plain, is, nothing, end), stands, lacks) = (
+  line,
+  (
+    plain,
+    ap (λ t. got ++ t) (none refl) ∙ append-nil got ∙ is,
+    ap (λ t. rest ++ t) (none refl) ∙ append-nil rest ∙ nothing,
+    subst (λ (l : Option (List ℕ)). IsAtEnd l) (sym (same refl)) end,
+  ),
+  stands,
+  lacks,
+)

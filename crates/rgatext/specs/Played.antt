@@ -61,7 +61,7 @@ OpensNot resume site left got (Fault Write) = ⊥
 OpensNot resume site left got (Fault Memory) = resume ≡ false → got ≡ []
 OpensNot resume site left got (Refused why) = (resume ≡ true)
     × ((line : List ℕ) × (rest : List ℕ) × (over : Bool) × IsFirstLine over left got line rest
-        × (((why ≡ BadSnapshot) × StandsForNone line) ⊎ ((why ≡ SiteUsed) × HasSite site line)))
+    × (((why ≡ BadSnapshot) × StandsForNone line) ⊎ ((why ≡ SiteUsed) × HasSite site line)))
 
 -- a text is written: whole, or at a fault of the writer less than that, or for want of memory nothing
 abbrev pub Writes : {T : Type 0} → List ℕ → List ℕ → Result T Stop → Type 0
@@ -94,7 +94,7 @@ abbrev pub PlaysLines : {T : Type 0} → ℕ → Bool → Bool → List ℕ → 
 PlaysLines site resume snapshot got left written end =
     ((why : Stop) × OpensNot resume site left got why × (written ≡ []) × (end ≡ Err why))
     ⊎ ((over : Bool) × (log : List Operation) × (rest : List ℕ) × Opens resume site left got over log rest
-        × ServesRoom (opened site log) snapshot rest left written end)
+    × ServesRoom (opened site log) snapshot rest left written end)
 
 -- ---- `text`
 
@@ -108,10 +108,10 @@ PlaysText version got left written (Err (Fault Read)) = written ≡ []
 PlaysText version got left written (Err (Fault Memory)) = written ≡ []
 PlaysText version got left written (Err (Refused why)) = (written ≡ []) × IsAtEnd left
     × (((why ≡ BadSnapshot) × StandsForNone got)
-        ⊎ ((log : List Operation) × (v : ℕ) × (why ≡ BadVersion) × StandsFor got log × (version ≡ Some v) × (length log < v)))
+    ⊎ ((log : List Operation) × (v : ℕ) × (why ≡ BadVersion) × StandsFor got log × (version ≡ Some v) × (length log < v)))
 PlaysText version got left written end = IsAtEnd left
     × ((log : List Operation) × StandsFor got log × (unwrap_or version (length log) ≤ length log)
-        × Writes (reading_line log (unwrap_or version (length log))) written end)
+    × Writes (reading_line log (unwrap_or version (length log))) written end)
 
 -- ---- a plan
 

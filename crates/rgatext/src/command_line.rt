@@ -33,15 +33,26 @@ fn command<'a>(alloc: Global) -> Result<Command<'a>, AllocError>
     ensures { IfOk result (λ made. app_of made ≡ rgatext) }
 {
     let site = site_arg(alloc);
-    let resume = flag_arg(alloc, "resume", "The input's first line is a snapshot that the room opens over");
-    let snapshot = flag_arg(alloc, "snapshot", "Writes the room's snapshot as the last line");
+    let resume = flag_arg(
+        alloc,
+        "resume",
+        "The input's first line is a snapshot that the room opens over",
+    );
+    let snapshot = flag_arg(
+        alloc,
+        "snapshot",
+        "Writes the room's snapshot as the last line",
+    );
     let version = version_arg(alloc);
-    let lines = Command::new(alloc, "lines")
-        .about("Serves requests from standard input to standard output, one a line");
+    let lines = Command::new(alloc, "lines").about(
+        "Serves requests from standard input to standard output, one a line",
+    );
     let lines = lines.arg(site)?;
     let lines = lines.arg(resume)?;
     let lines = lines.arg(snapshot)?;
-    let text = Command::new(alloc, "text").about("Prints the reading of the snapshot on standard input");
+    let text = Command::new(alloc, "text").about(
+        "Prints the reading of the snapshot on standard input",
+    );
     let text = text.arg(version)?;
     let top = Command::new(alloc, "rgatext")
         .about("A replicated text server")
@@ -198,7 +209,13 @@ mod tests {
 
     fn site_of(alloc: Global, words: &[&str]) -> Result<Option<u8>, AllocError> {
         match &planned(alloc, words)? {
-            Ok(Plan::Lines { site, resume: _, snapshot: _ }) => Ok(Some(site.number())),
+            Ok(
+                Plan::Lines {
+                    site,
+                    resume: _,
+                    snapshot: _,
+                },
+            ) => Ok(Some(site.number())),
             Ok(_) => Ok(None),
             Err(_) => Ok(None),
         }

@@ -8,7 +8,13 @@ use std::test::Fail;
 use ws_server::Counted;
 
 // Whether the plan ends so over this input, and writes this.
-fn ends(alloc: Global, plan: &Plan, given: &str, end: Result<(), Stop>, want: &str) -> Result<bool, Fail> {
+fn ends(
+    alloc: Global,
+    plan: &Plan,
+    given: &str,
+    end: Result<(), Stop>,
+    want: &str,
+) -> Result<bool, Fail> {
     let mut input = Counted::new(given.as_bytes());
     let mut output = Counted::new(Vec::new(alloc));
     let ended = play(alloc, plan, &mut input, &mut output);
@@ -42,7 +48,13 @@ fn a_room_is_kept_and_opened_again(rt: HostRuntime) -> Result<(), Fail> {
     let joined = "{\"r\":\"joined\",\"s\":1,\"v\":1,\"x\":\"H\"}\n";
     let mut all = ends(alloc, &lines(0, false, true)?, typed, Ok(()), kept)?;
     all &= ends(alloc, &lines(1, true, false)?, again, Ok(()), joined)?;
-    all &= ends(alloc, &lines(0, true, false)?, again, Err(Stop::Refused(Refusal::SiteUsed)), "")?;
+    all &= ends(
+        alloc,
+        &lines(0, true, false)?,
+        again,
+        Err(Stop::Refused(Refusal::SiteUsed)),
+        "",
+    )?;
     assert!(rt; all);
     Ok(())
 }
@@ -51,13 +63,32 @@ fn a_room_is_kept_and_opened_again(rt: HostRuntime) -> Result<(), Fail> {
 fn a_snapshot_line_is_any_first_line(rt: HostRuntime) -> Result<(), Fail> {
     let alloc = rt.alloc();
     let both = lines(1, true, true)?;
-    let again = "{\"format\":1,\"ops\":[{\"c\":[[0,1]],\"k\":\"i\",\"p\":null,\"s\":0,\"x\":\"H\"}]}\n";
+    let again =
+        "{\"format\":1,\"ops\":[{\"c\":[[0,1]],\"k\":\"i\",\"p\":null,\"s\":0,\"x\":\"H\"}]}\n";
     // No LF, CR LF, and no snapshot at all.
     let mut all = ends(alloc, &both, LOG, Ok(()), again)?;
     let returned = "{\"format\":1, \"ops\":[]}\r\n";
-    all &= ends(alloc, &both, returned, Ok(()), "{\"format\":1,\"ops\":[]}\n")?;
-    all &= ends(alloc, &both, "", Err(Stop::Refused(Refusal::BadSnapshot)), "")?;
-    all &= ends(alloc, &both, "\n", Err(Stop::Refused(Refusal::BadSnapshot)), "")?;
+    all &= ends(
+        alloc,
+        &both,
+        returned,
+        Ok(()),
+        "{\"format\":1,\"ops\":[]}\n",
+    )?;
+    all &= ends(
+        alloc,
+        &both,
+        "",
+        Err(Stop::Refused(Refusal::BadSnapshot)),
+        "",
+    )?;
+    all &= ends(
+        alloc,
+        &both,
+        "\n",
+        Err(Stop::Refused(Refusal::BadSnapshot)),
+        "",
+    )?;
     assert!(rt; all);
     Ok(())
 }
@@ -73,7 +104,8 @@ fn a_version_is_read(rt: HostRuntime) -> Result<(), Fail> {
     let none = Err(Stop::Refused(Refusal::BadSnapshot));
     all &= ends(alloc, &Plan::Text { version: None }, "", none, "")?;
     // The second operation stands before the first.
-    let exchanged = r#"{"format":1,"ops":[{"c":[[1,2]],"k":"i","p":[1,1],"s":1,"x":"b"},{"c":[[1,1]],"k":"i","p":null,"s":1,"x":"a"}]}"#;
+    let exchanged =
+        r#"{"format":1,"ops":[{"c":[[1,2]],"k":"i","p":[1,1],"s":1,"x":"b"},{"c":[[1,1]],"k":"i","p":null,"s":1,"x":"a"}]}"#;
     all &= ends(alloc, &Plan::Text { version: None }, exchanged, none, "")?;
     assert!(rt; all);
     Ok(())
@@ -81,7 +113,8 @@ fn a_version_is_read(rt: HostRuntime) -> Result<(), Fail> {
 
 #[test]
 fn what_is_held_back_is_not_kept(rt: HostRuntime) -> Result<(), Fail> {
-    let given = "{\"t\":\"put\",\"ops\":[{\"c\":[[1,2]],\"k\":\"i\",\"p\":[1,1],\"s\":1,\"x\":\"b\"}]}\n";
+    let given =
+        "{\"t\":\"put\",\"ops\":[{\"c\":[[1,2]],\"k\":\"i\",\"p\":[1,1],\"s\":1,\"x\":\"b\"}]}\n";
     let want = "{\"os\":[[\"kept\"]],\"r\":\"put\"}\n{\"format\":1,\"ops\":[]}\n";
     assert!(rt; ends(rt.alloc(), &lines(0, false, true)?, given, Ok(()), want)?);
     Ok(())
@@ -90,7 +123,8 @@ fn what_is_held_back_is_not_kept(rt: HostRuntime) -> Result<(), Fail> {
 #[test]
 fn a_stop_is_named(rt: HostRuntime) -> Result<(), Fail> {
     let alloc = rt.alloc();
-    let mut all = format!(in alloc; "{}", Stop::Refused(Refusal::BadSnapshot))?.as_str() == "refused 28 BadSnapshot";
+    let mut all = format!(in alloc; "{}", Stop::Refused(Refusal::BadSnapshot))?.as_str()
+        == "refused 28 BadSnapshot";
     all &= format!(in alloc; "{}", Stop::of(Refusal::Memory))?.as_str() == "fault memory";
     assert!(rt; all);
     Ok(())

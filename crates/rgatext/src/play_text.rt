@@ -13,8 +13,8 @@ use crate::stop::Stop;
 use opid::Refusal;
 use snapshot::load_doc;
 use std::alloc::Global;
-use versions::Characters;
 use std::io::Write;
+use versions::Characters;
 use ws_server::{Counted, ServeFault, Source, Window, whole_input};
 
 /// Prints the reading of a version, the newest unless one is named, of the snapshot that the whole input is, and LF.

@@ -25,7 +25,8 @@ pub enum Call {
     /// would exceed 131,072 operations.
     ///
     /// Takes a look-up of the session for a repeat and for what is refused up to `BadVersion`, and a step for each
-    /// character for `BadText`. Otherwise linear in the number of elements, for the place and again for each character.
+    /// character for `BadText`. Otherwise logarithmic in the number of elements, for the place and again for each
+    /// character, and a step for each element with a greater stamp that stands behind the place.
     Ins {
         s: u32,
         n: u32,
@@ -40,8 +41,8 @@ pub enum Call {
     /// above 64; `BadPlace` where `k` plus `c` is above the version's length; and `Full` where the log would exceed
     /// 131,072 operations.
     ///
-    /// Takes a look-up of the session for a repeat and for what is refused up to `BadCount`. Otherwise linear in the
-    /// number of elements, for the version's length and again for each deletion.
+    /// Takes a look-up of the session for a repeat and for what is refused up to `BadCount`. Otherwise logarithmic in the
+    /// number of elements, for each deletion.
     Del {
         s: u32,
         n: u32,
@@ -79,7 +80,8 @@ pub enum Call {
     /// `UnknownElement` where its parent or target is no element, `NotOlder` where its parent's stamp isn't smaller.
     ///
     /// Takes at most two passes over what is held back for each operation that is handed over, one more for each that
-    /// leaves it, and for each that is integrated steps linear in the number of elements.
+    /// leaves it, and for each that is integrated steps logarithmic in the number of elements, and one for each element
+    /// with a greater stamp that stands behind its parent.
     Put(Operations),
     /// Asks for the newest version and its text. Refused with `HistoryFull`. Takes a step for each element.
     Read,

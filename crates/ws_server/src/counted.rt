@@ -62,7 +62,7 @@ impl<R: Source> Counted<R> {
         ensures counted { MatchOption result (self.new.failures ≡ self.old.failures + 1) (λ _. self.new.failures ≡ self.old.failures) }
         ensures made { (results : List (Result ℕ Error)) × Makes R.reads self.old.inner results self.new.inner
             × ((self.new.failures ≡ self.old.failures + failed_reads results)
-                ⊎ ((self.old.calls ≡ 2 ^ 64 - 1) × (results ≡ []) × (self.new.failures ≡ self.old.failures + 1))) }
+            ⊎ ((self.old.calls ≡ 2 ^ 64 - 1) × (results ≡ []) × (self.new.failures ≡ self.old.failures + 1))) }
         ensures calls { MatchOption result (self.old.calls ≤ self.new.calls) (λ _. self.new.calls ≡ self.old.calls + 1) }
     {
         if self.calls == u64::MAX {

@@ -92,7 +92,10 @@ fn serve_next<P: Protocol, R: Source, W: Write>(
             if n == 0 {
                 return Ok(false);
             }
-            goes_on(serve_line::<P, W>(alloc, state, window.bytes(), output), false)
+            goes_on(
+                serve_line::<P, W>(alloc, state, window.bytes(), output),
+                false,
+            )
         }
         Next::LastLong => goes_on(refuse_long(output), false),
     }
@@ -165,7 +168,7 @@ pub fn serve_lines<D: Desk, R: Source, W: Write>(
         × Consumes (R.remaining input.old.inner) (R.remaining input.new.inner) got
         × Appends (W.contents output.old.inner) (W.contents output.new.inner) written
         × (StartsNot desk.old got written result desk.new
-            ⊎ Serves (Answers D.step D.fault) desk.old got (R.remaining input.new.inner) written result desk.new) }
+        ⊎ Serves (Answers D.step D.fault) desk.old got (R.remaining input.new.inner) written result desk.new) }
     ensures counted { Rises input.old.failures input.new.failures output.old.failures output.new.failures result }
 {
     let Ok(mut window) = Window::new(alloc) else {

@@ -29,11 +29,7 @@ pub trait Protocol {
     const LIMIT: usize;
 
     /// Answers a line. An `Err` is for want of memory for the text; what the line did stays.
-    fn answer(
-        alloc: Global,
-        state: &mut Self::State,
-        line: &[u8],
-    ) -> Result<ReplyLine, AllocError>
+    fn answer(alloc: Global, state: &mut Self::State, line: &[u8]) -> Result<ReplyLine, AllocError>
         requires { ready state.old }
         ensures ready { ready state.new }
         ensures answered { (text : List ℕ) × answers state.old line.now text state.new × IfOk result (λ made. line_bytes made ≡ ended text) };

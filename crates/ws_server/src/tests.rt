@@ -111,17 +111,30 @@ fn run(alloc: Global, reader: Slow<'_>, writer: Short) -> std::result::Result<To
 }
 
 // Whether the input, given `step` bytes a read, is answered by these lines, each in a write of its own.
-fn is_answered(alloc: Global, input: &[u8], step: usize, want: &[u8], writes: usize) -> std::result::Result<bool, Fail> {
-    let told = run(alloc, slow_reader(input, step), short_writer(alloc, usize::MAX))?;
-    Ok(told.end == Ok(())
-        && told.writer.taken.as_slice() == want
-        && told.writer.writes == writes
-        && told.failed == (0, 0))
+fn is_answered(
+    alloc: Global,
+    input: &[u8],
+    step: usize,
+    want: &[u8],
+    writes: usize,
+) -> std::result::Result<bool, Fail> {
+    let told = run(
+        alloc,
+        slow_reader(input, step),
+        short_writer(alloc, usize::MAX),
+    )?;
+    Ok(
+        told.end == Ok(())
+            && told.writer.taken.as_slice() == want
+            && told.writer.writes == writes
+            && told.failed == (0, 0),
+    )
 }
 
 const JOINS: &[u8] = b"{\"t\":\"join\"}\n{\"t\":\"join\"}\n{\"t\":\"join\"}\n";
 
-const JOINED: &[u8] = b"{\"r\":\"joined\",\"s\":1,\"v\":0,\"x\":\"\"}\n{\"r\":\"joined\",\"s\":2,\"v\":0,\"x\":\"\"}\n{\"r\":\"joined\",\"s\":3,\"v\":0,\"x\":\"\"}\n";
+const JOINED: &[u8] =
+    b"{\"r\":\"joined\",\"s\":1,\"v\":0,\"x\":\"\"}\n{\"r\":\"joined\",\"s\":2,\"v\":0,\"x\":\"\"}\n{\"r\":\"joined\",\"s\":3,\"v\":0,\"x\":\"\"}\n";
 
 // The bytes of one of these answers.
 const ONE: usize = 34;
@@ -131,7 +144,8 @@ const TOO_LONG: &[u8] = b"{\"n\":29,\"r\":\"no\"}\n";
 #[test]
 fn serves_each_line(rt: HostRuntime) -> std::result::Result<(), Fail> {
     let input = b"{\"t\":\"join\"}\n\n{\"t\":\"dance\"}\r\n[]\n{\"t\":\"read\"}";
-    let want = b"{\"r\":\"joined\",\"s\":1,\"v\":0,\"x\":\"\"}\n{\"n\":1,\"r\":\"no\"}\n{\"n\":3,\"r\":\"no\"}\n{\"n\":2,\"r\":\"no\"}\n{\"r\":\"text\",\"v\":0,\"x\":\"\"}\n";
+    let want =
+        b"{\"r\":\"joined\",\"s\":1,\"v\":0,\"x\":\"\"}\n{\"n\":1,\"r\":\"no\"}\n{\"n\":3,\"r\":\"no\"}\n{\"n\":2,\"r\":\"no\"}\n{\"r\":\"text\",\"v\":0,\"x\":\"\"}\n";
     let mut all = true;
     for step in [1, 3, 100] {
         all &= is_answered(rt.alloc(), input, step, want, 5)?;
@@ -147,7 +161,11 @@ fn reads_in_blocks(rt: HostRuntime) -> std::result::Result<(), Fail> {
     for _ in 0..3000 {
         input.extend_from_slice(b"[]\n")?;
     }
-    let told = run(rt.alloc(), slow_reader(&input, 1_000_000), short_writer(rt.alloc(), 1000))?;
+    let told = run(
+        rt.alloc(),
+        slow_reader(&input, 1_000_000),
+        short_writer(rt.alloc(), 1000),
+    )?;
     assert!(rt; told.end == Ok(()) && told.reader.reads == 2 && told.writer.writes == 3000);
     Ok(())
 }
@@ -195,8 +213,14 @@ fn tells_a_read_fault(rt: HostRuntime) -> std::result::Result<(), Fail> {
 
 #[test]
 fn writes_short_writes_to_their_end(rt: HostRuntime) -> std::result::Result<(), Fail> {
-    let told = run(rt.alloc(), slow_reader(JOINS, 100), short_writer(rt.alloc(), 10))?;
-    assert!(rt; told.end == Ok(()) && told.writer.taken.as_slice() == JOINED && told.writer.writes == 12);
+    let told = run(
+        rt.alloc(),
+        slow_reader(JOINS, 100),
+        short_writer(rt.alloc(), 10),
+    )?;
+    assert!(rt;
+        told.end == Ok(()) && told.writer.taken.as_slice() == JOINED && told.writer.writes == 12
+    );
     Ok(())
 }
 
@@ -226,11 +250,17 @@ fn tells_a_write_fault(rt: HostRuntime) -> std::result::Result<(), Fail> {
 fn a_long_answer_is_one_write(rt: HostRuntime) -> std::result::Result<(), Fail> {
     let mut input = b"{\"t\":\"join\"}\n".to_vec(rt.alloc())?;
     for n in 1..1100u32 {
-        let line = format!(in rt.alloc(); "{{\"t\":\"ins\",\"s\":1,\"n\":{n},\"v\":0,\"k\":0,\"x\":\"aaaaaaaaaaaaaaaaaaaaaaaaaaaaaaaaaaaaaaaaaaaaaaaaaaaaaaaaaaaaaaaa\"}}\n")?;
+        let line = format!(in rt.alloc();
+            "{{\"t\":\"ins\",\"s\":1,\"n\":{n},\"v\":0,\"k\":0,\"x\":\"aaaaaaaaaaaaaaaaaaaaaaaaaaaaaaaaaaaaaaaaaaaaaaaaaaaaaaaaaaaaaaaa\"}}\n"
+        )?;
         input.extend_from_slice(line.as_bytes())?;
     }
     input.extend_from_slice(b"{\"t\":\"read\"}\n")?;
-    let told = run(rt.alloc(), slow_reader(&input, 1_000_000), short_writer(rt.alloc(), usize::MAX))?;
+    let told = run(
+        rt.alloc(),
+        slow_reader(&input, 1_000_000),
+        short_writer(rt.alloc(), usize::MAX),
+    )?;
     let text = told.writer.taken.as_slice();
     assert!(rt; told.end == Ok(()) && told.writer.writes == 1101 && text.len() > 65_536 + ONE);
     Ok(())
@@ -260,7 +290,9 @@ impl Read for Asker<'_> {
         let (now, later) = self.bytes.split_at(n);
         for byte in now {
             if *byte == b'\n' {
-                self.record.given.set(self.record.given.get().saturating_add(1));
+                self.record
+                    .given
+                    .set(self.record.given.get().saturating_add(1));
             }
         }
         buf[..n].copy_from_slice(now);
@@ -276,7 +308,9 @@ struct Taker<'a> {
 
 impl Write for Taker<'_> {
     fn write(&mut self, buf: &[u8]) -> Result<usize> {
-        self.record.answered.set(self.record.answered.get().saturating_add(1));
+        self.record
+            .answered
+            .set(self.record.answered.get().saturating_add(1));
         Ok(buf.len())
     }
 
