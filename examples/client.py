@@ -1,0 +1,167 @@
+#!/usr/bin/env python3
+"""A session with an rgatext room, for authors of editors: Python 3 and its standard library.
+
+A `Session` speaks through a function `ask`, which sends one request, an object of docs/PROTOCOL.md, and gives the reply
+to it; it raises `Lost` where no answer came, whether or not the request arrived. `Pipe` is such a function over
+`rgatext lines`. Run as a program, the file types what it reads into a new room and prints the room's text.
+"""
+import json
+import subprocess
+import sys
+import time
+
+MOST = 64  # characters of a submission, edits of a pull
+
+
+class Lost(Exception):
+    """No answer came. The request may have been carried out."""
+
+
+class Refused(Exception):
+    """The room refused a request; `number` says why."""
+
+    def __init__(self, number):
+        super().__init__(f"refused {number}")
+        self.number = number
+
+
+class JoinAnew(Refused):
+    """The room and this session no longer speak of one text: join anew, and carry unsent work over by the new text."""
+
+
+class Pipe:
+    """Asks a program that answers each line of its input by one line."""
+
+    def __init__(self, *words):
+        self.child = subprocess.Popen(words, stdin=subprocess.PIPE, stdout=subprocess.PIPE)
+
+    def __call__(self, request):
+        self.child.stdin.write(json.dumps(request).encode() + b"\n")
+        self.child.stdin.flush()
+        line = self.child.stdout.readline()
+        if not line:
+            raise Lost
+        return json.loads(line)
+
+    def close(self):
+        """Ends the input, and waits for the program's end."""
+        self.child.stdin.close()
+        self.child.stdout.close()
+        return self.child.wait()
+
+
+def carried(place, edits):
+    """A caret's place in the text before the edits, as its place in the text after them: that of the same character,
+    unless it was deleted."""
+    for edit in edits:
+        if edit[0] == "i" and edit[1] <= place:
+            place += 1
+        elif edit[0] == "d" and edit[1] < place:
+            place -= 1
+    return place
+
+
+class Session:
+    """A session: the text and the version that it has, and the number of its last accepted submission."""
+
+    def __init__(self, ask, tries=20, pause=0.01):
+        self.ask = ask
+        self.tries = tries  # how often a request is sent whose answer is lost
+        self.pause = pause  # seconds before a request is sent again that found no memory
+        self.number = None
+        self.join()
+
+    # ---- asking
+
+    def _answer(self, request):
+        """The reply to a request that may be sent again: an accepted submission is not carried out twice."""
+        for _ in range(self.tries):
+            try:
+                reply = self.ask(request)
+            except Lost:
+                continue
+            if reply["r"] == "no" and reply["n"] in (25, 26):
+                time.sleep(self.pause)
+                continue
+            return reply
+        raise Lost
+
+    @staticmethod
+    def _refuse(number):
+        raise JoinAnew(number) if number in (5, 7, 9, 22) else Refused(number)
+
+    # ---- the session
+
+    def join(self):
+        """Opens a session. If the answer is lost, a session of the room stays unused."""
+        reply = self._answer({"t": "join"})
+        if reply["r"] == "no":
+            self._refuse(reply["n"])
+        self.session, self.version, self.text = reply["s"], reply["v"], list(reply["x"])
+        self.number = 0
+
+    def leave(self):
+        """Ends the session. A second `leave`, where the answer to the first was lost, is answered 5."""
+        reply = self._answer({"t": "leave", "s": self.session})
+        if reply["r"] == "no" and reply["n"] != 5:
+            self._refuse(reply["n"])
+
+    def follow(self, reply):
+        """Plays a reply, whenever and however often it comes, and gives the edits that it played."""
+        if reply["r"] != "edits" or reply["from"] != self.version:
+            return []
+        for edit in reply["es"]:
+            if edit[0] == "i":
+                self.text.insert(edit[1], edit[2])
+            elif edit[0] == "d":
+                del self.text[edit[1]]
+            self.version += 1
+        return reply["es"]
+
+    def pull(self):
+        """Brings the text up to the newest version, and gives the edits that led there."""
+        played = []
+        while True:
+            request = {"t": "pull", "s": self.session, "have": self.version, "max": MOST}
+            reply = self._answer(request)
+            if reply["r"] == "no":
+                self._refuse(reply["n"])
+            edits = self.follow(reply)
+            played += edits
+            if len(edits) < MOST:
+                return played
+
+    def _submit(self, request, place):
+        """Submits at a place of the session's text, as its next number. The version that it names is always one that
+        was sent, so 8 doesn't come."""
+        more = {"s": self.session, "n": self.number + 1, "v": self.version, "k": place}
+        reply = self._answer({**request, **more})
+        if reply["r"] == "no":
+            self._refuse(reply["n"])
+        self.number += 1
+
+    def insert(self, place, text):
+        """Puts a text in at a place. Its parts all name one version and place, so the last one is sent first."""
+        for start in reversed(range(0, len(text), MOST)):
+            self._submit({"t": "ins", "x": text[start : start + MOST]}, place)
+
+    def delete(self, place, count):
+        """Deletes characters from a place on. The places of the version that is named don't move."""
+        for start in range(0, count, MOST):
+            self._submit({"t": "del", "c": min(MOST, count - start)}, place + start)
+
+
+def main():
+    if len(sys.argv) < 2:
+        sys.exit("usage: client.py PROGRAM WORD.. < text, as in: client.py bin/rgatext lines < text")
+    pipe = Pipe(*sys.argv[1:])
+    session = Session(pipe)
+    session.insert(0, sys.stdin.read())
+    session.pull()
+    print("".join(session.text), end="")
+    session.leave()
+    sys.exit(pipe.close())
+
+
+if __name__ == "__main__":
+    main()
