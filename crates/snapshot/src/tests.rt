@@ -5,7 +5,6 @@ use opid::{OpKind, Refusal, Site};
 use replica::Replica;
 use std::alloc::Global;
 use std::test::Fail;
-use versions::Doc;
 
 const ONE_CHARACTER: &str =
     "{\"format\":1,\"ops\":[{\"c\":[[0,1]],\"k\":\"i\",\"p\":null,\"s\":0,\"x\":\"H\"}]}";
@@ -19,28 +18,42 @@ const TWO_IN_ORDER: &str =
 const TWO_EXCHANGED: &str =
     "{\"format\":1,\"ops\":[{\"c\":[[1,2]],\"k\":\"i\",\"p\":[1,1],\"s\":1,\"x\":\"b\"},{\"c\":[[1,1]],\"k\":\"i\",\"p\":null,\"s\":1,\"x\":\"a\"}]}";
 
-fn reads(doc: &Doc, version: u32, text: &str) -> Result<bool, Fail> {
-    Ok(doc.reading(version)?.as_str() == text)
+// Whether the bytes stand for a log of that version, which reads so.
+fn tells(alloc: Global, bytes: &[u8], version: u32, text: &str) -> Result<bool, Fail> {
+    let doc = load_doc(alloc, bytes)?;
+    Ok(doc.version() == version && doc.reading(version)?.as_str() == text)
 }
 
 fn is_no_log(alloc: Global, bytes: &[u8]) -> bool {
     matches!(&load_doc(alloc, bytes), Err(Refusal::BadSnapshot))
 }
 
-// What a replica of site 0 saves after an insertion, and what other replicas make of it.
-fn saves_and_loads(alloc: Global) -> Result<bool, Fail> {
+// Whether a replica of the site is refused so.
+fn is_refused(alloc: Global, bytes: &[u8], site: u8, why: Refusal) -> Result<bool, Fail> {
+    match load(alloc, bytes, Site::new(site)?) {
+        Ok(_) => Ok(false),
+        Err(e) => Ok(e == why),
+    }
+}
+
+// Whether a replica of site 1 opens over the bytes, at that version.
+fn opens(alloc: Global, bytes: &[u8], version: u32) -> Result<bool, Fail> {
+    Ok(load(alloc, bytes, Site::new(1)?)?.version() == version)
+}
+
+// Whether a replica of site 0 saves that after an insertion of the text.
+fn saves(alloc: Global, text: &str, wanted: &str) -> Result<bool, Fail> {
     let mut replica = Replica::new(alloc, Site::new(0)?);
-    let mut all = save(alloc, &replica)?.as_str() == "{\"format\":1,\"ops\":[]}";
-    replica.submit_ins(0, 0, "H")?;
-    let text = save(alloc, &replica)?;
-    all &= text.as_str() == ONE_CHARACTER;
-    let again = load(alloc, text.as_bytes(), Site::new(1)?)?;
-    all &= again.version() == 1;
-    all &= reads(again.doc(), 1, "H")?;
-    all &= reads(again.doc(), 0, "")?;
-    all &= matches!(&again.doc().reading(2), Err(Refusal::BadVersion));
-    let used = load(alloc, text.as_bytes(), Site::new(0)?);
-    all &= matches!(&used, Err(Refusal::SiteUsed));
+    replica.submit_ins(0, 0, text)?;
+    Ok(save(alloc, &replica)?.as_str() == wanted)
+}
+
+fn saves_and_loads(alloc: Global) -> Result<bool, Fail> {
+    let bytes = ONE_CHARACTER.as_bytes();
+    let mut all = saves(alloc, "H", ONE_CHARACTER)?;
+    all &= tells(alloc, bytes, 1, "H")?;
+    all &= opens(alloc, bytes, 1)?;
+    all &= is_refused(alloc, bytes, 0, Refusal::SiteUsed)?;
     Ok(all)
 }
 
@@ -52,13 +65,11 @@ fn what_is_saved_is_loaded_by_another_site(rt: HostRuntime) -> Result<(), Fail> 
 
 // Spaces and the order of the keys don't matter, and all else does.
 fn tells_logs_from_others(alloc: Global) -> Result<bool, Fail> {
-    let spaced = load_doc(alloc, b" { \"ops\" : [ ] ,\n\t\"format\" : 1 }\r")?;
-    let mut all = spaced.version() == 0;
-    all &= reads(&load_doc(alloc, TWO_IN_ORDER.as_bytes())?, 2, "ab")?;
+    let mut all = tells(alloc, b" { \"ops\" : [ ] ,\n\t\"format\" : 1 }\r", 0, "")?;
+    all &= tells(alloc, TWO_IN_ORDER.as_bytes(), 2, "ab")?;
     all &= is_no_log(alloc, TWO_EXCHANGED.as_bytes());
     all &= is_no_log(alloc, MISSING_PARENT.as_bytes());
-    let before_the_site = load(alloc, MISSING_PARENT.as_bytes(), Site::new(0)?);
-    all &= matches!(&before_the_site, Err(Refusal::BadSnapshot));
+    all &= is_refused(alloc, MISSING_PARENT.as_bytes(), 0, Refusal::BadSnapshot)?;
     all &= is_no_log(alloc, b"");
     all &= is_no_log(alloc, b"{\"format\":2,\"ops\":[]}");
     all &= is_no_log(alloc, b"{\"format\":1,\"ops\":[],\"site\":0}");
