@@ -1,11 +1,11 @@
 //! Saving a snapshot: the text of a replica's log.
 ghost use Rattle.std.specs.Prelude.{◌≡◌, ◌++◌, IfOk, IfErr, OnOk, string_bytes, codes, true, false};
 ghost use Rattle.opid.specs.declared.refusal.Refusal.TheVariants.{Memory};
-ghost use Rattle.wire_json.specs.Text.{IsOperationInRange, IsKindInRange, op_text};
+ghost use Rattle.wire_json.specs.Text.{IsOperationInRange, op_text};
 ghost use Rattle.snapshot.specs.Snapshot.{StandsFor, log_text};
 
 use causal_clock::Op;
-use opid::{OpKind, Refusal};
+use opid::Refusal;
 use replica::Replica;
 use std::alloc::Global;
 use wire_json::write_op;
@@ -23,12 +23,10 @@ pub fn save(alloc: Global, replica: &Replica) -> Result<String, Refusal>
     let mut text = String::from_str(alloc, "{\"format\":1,\"ops\":[")?;
     for place in 0..doc.version() {
         let op = doc.op(place);
-        check_range(&op);
         push_op(alloc, &mut text, &op, place == 0)?;
     }
     text.push_str("]}")?;
-    // Its contract brings that the text is UTF-8.
-    let _ = text.as_str();
+    prove!(text.as_str().len() == text.len());
     Ok(text)
 }
 
@@ -36,6 +34,7 @@ pub fn save(alloc: Global, replica: &Replica) -> Result<String, Refusal>
 fn push_op(alloc: Global, text: &mut String, op: &Op, is_first: bool) -> Result<(), Refusal>
     ensures first { is_first ≡ true → OnOk result (string_bytes text.new ≡ string_bytes text.old ++ op_text op.now) }
     ensures later { is_first ≡ false → OnOk result (string_bytes text.new ≡ string_bytes text.old ++ (codes "," ++ op_text op.now)) }
+    ensures in_range { OnOk result (IsOperationInRange op.now) }
     ensures memory { IfErr result (λ e. e ≡ Memory) }
 {
     let next = write_op(alloc, op)?;
@@ -44,33 +43,4 @@ fn push_op(alloc: Global, text: &mut String, op: &Op, is_first: bool) -> Result<
     }
     text.push_str(next.as_str())?;
     Ok(())
-}
-
-// What an operation names is within its range, which the types of its parts know.
-fn check_range(op: &Op)
-    ensures { IsOperationInRange op.now }
-{
-    let _ = op.site();
-    check_kind(op.kind());
-}
-
-// The same of what it does.
-fn check_kind(kind: OpKind)
-    ensures { IsKindInRange kind }
-{
-    match kind {
-        OpKind::Ins {
-            parent: None,
-            ch: _,
-        } => {}
-        OpKind::Ins {
-            parent: Some(stamp),
-            ch: _,
-        } => {
-            let _ = stamp.site.number();
-        }
-        OpKind::Del { target } => {
-            let _ = target.site.number();
-        }
-    }
 }

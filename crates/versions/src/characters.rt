@@ -1,6 +1,6 @@
 //! The text of a version.
-ghost use Rattle.std.specs.Prelude.{◌≡◌, encode_utf8_all, string_bytes};
-ghost use Rattle.std.specs.Str.{chars};
+ghost use Rattle.std.specs.Prelude.{◌≡◌, IsTrue, encode_utf8_all, string_bytes};
+ghost use Rattle.std.specs.Str.{all_scalars, chars};
 
 use std::alloc::AllocError;
 use std::marker::Model;
@@ -42,6 +42,7 @@ impl Characters {
     pub fn as_str(&self) -> &str
         ensures bytes { result.now ≡ encode_utf8_all self.now }
         ensures value { chars result.now ≡ self.now }
+        ensures scalars { IsTrue (all_scalars self.now) }
     {
         self.text.as_str()
     }

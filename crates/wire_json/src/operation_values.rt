@@ -1,9 +1,10 @@
 //! Writing operation objects.
-ghost use Rattle.std.specs.Prelude.{◌≡◌, ◌<◌, IfOk, IfErr, string_bytes};
+ghost use Rattle.std.specs.Prelude.{◌≡◌, ◌<◌, IfOk, IfErr, OnOk, string_bytes};
+ghost use Rattle.std.specs.List.{AllByRecursion};
 ghost use Rattle.opid.specs.declared.refusal.Refusal.TheVariants.{Memory};
 ghost use Rattle.serde_json.specs.View.{view, items_view};
 ghost use Rattle.opid.specs.Clocks.{entry};
-ghost use Rattle.wire_json.specs.Text.{op_text};
+ghost use Rattle.wire_json.specs.Text.{IsOperationInRange, IsKindInRange, op_text};
 ghost use Rattle.wire_json.specs.Written.{each_data, two_data, pair_data, pairs_data, stamp_data, parent_data, insertion_data, deletion_data, op_data};
 
 use causal_clock::{Clock, Op};
@@ -18,6 +19,7 @@ use std::alloc::{AllocError, Global};
 /// proportion to the text.
 pub fn write_op(alloc: Global, op: &Op) -> Result<String, Refusal>
     ensures text { IfOk result (λ s. string_bytes s ≡ op_text op.now) }
+    ensures in_range { OnOk result (IsOperationInRange op.now) }
     ensures memory { IfErr result (λ e. e ≡ Memory) }
 {
     let value = op_value(alloc, op)?;
@@ -26,7 +28,8 @@ pub fn write_op(alloc: Global, op: &Op) -> Result<String, Refusal>
 
 /// The JSON values of operations, in their order.
 pub(crate) fn op_values(alloc: Global, ops: &[Op]) -> Result<Vec<Value>, AllocError>
-    ensures { IfOk result (λ list. items_view list.items ≡ each_data op_data ops.now) }
+    ensures values { IfOk result (λ list. items_view list.items ≡ each_data op_data ops.now) }
+    ensures in_range { OnOk result (AllByRecursion IsOperationInRange ops.now) }
 {
     let mut list = Vec::with_capacity(alloc, ops.len())?;
     for op in ops {
@@ -38,13 +41,32 @@ pub(crate) fn op_values(alloc: Global, ops: &[Op]) -> Result<Vec<Value>, AllocEr
 
 /// The JSON value of an operation.
 pub(crate) fn op_value(alloc: Global, op: &Op) -> Result<Value, AllocError>
-    ensures { IfOk result (λ out. view out ≡ op_data op.now) }
+    ensures value { IfOk result (λ out. view out ≡ op_data op.now) }
+    ensures in_range { OnOk result (IsOperationInRange op.now) }
 {
     let site = op.site();
     let clock = op.clock();
+    check_kind(op.kind());
     match op.kind() {
         OpKind::Ins { parent, ch } => insertion_value(alloc, site, &clock, parent, ch),
         OpKind::Del { target } => deletion_value(alloc, site, &clock, target),
+    }
+}
+
+// What an operation names is within its range, as the types of its parts know.
+fn check_kind(kind: OpKind)
+    ensures { IsKindInRange kind }
+{
+    match kind {
+        OpKind::Ins {
+            parent: None,
+            ch: _,
+        } => {}
+        OpKind::Ins {
+            parent: Some(stamp),
+            ch: _,
+        } => prove!(stamp.site.number() < 32),
+        OpKind::Del { target } => prove!(target.site.number() < 32),
     }
 }
 

@@ -1,8 +1,9 @@
 //! Writing a reply.
-ghost use Rattle.std.specs.Prelude.{◌≡◌, IfOk, IfErr, string_bytes, encode_utf8_all};
+ghost use Rattle.std.specs.Prelude.{◌≡◌, IfOk, IfErr, OnOk, string_bytes, encode_utf8_all};
+ghost use Rattle.std.specs.List.{AllByRecursion};
 ghost use Rattle.serde_json.specs.View.{view, items_view};
 ghost use Rattle.opid.specs.declared.refusal.Refusal.TheVariants.{Memory};
-ghost use Rattle.wire_json.specs.Text.{text};
+ghost use Rattle.wire_json.specs.Text.{IsInRange, IsEditInRange, IsOperationInRange, IsOutcomeInRange, text};
 ghost use Rattle.wire_json.specs.Written.{joined_data, ok_data, edit_data, each_data, edits_data, left_data, part_data, outcome_data, put_data, text_data, no_data, data_of};
 
 use crate::operation_values::op_values;
@@ -17,6 +18,7 @@ use std::alloc::{AllocError, Global};
 /// Refused with `Memory`. Takes time and memory in proportion to the text.
 pub fn write_reply(alloc: Global, reply: &Reply) -> Result<String, Refusal>
     ensures text { IfOk result (λ s. string_bytes s ≡ text reply.now) }
+    ensures in_range { OnOk result (IsInRange reply.now) }
     ensures memory { IfErr result (λ e. e ≡ Memory) }
 {
     let value = value_of(alloc, reply)?;
@@ -24,7 +26,8 @@ pub fn write_reply(alloc: Global, reply: &Reply) -> Result<String, Refusal>
 }
 
 fn value_of(alloc: Global, reply: &Reply) -> Result<Value, AllocError>
-    ensures { IfOk result (λ v. view v ≡ data_of reply.now) }
+    ensures value { IfOk result (λ v. view v ≡ data_of reply.now) }
+    ensures in_range { OnOk result (IsInRange reply.now) }
 {
     match reply {
         Reply::Joined { s, v, x } => joined(alloc, *s, *v, x.as_str()),
@@ -51,14 +54,16 @@ fn accepted(alloc: Global, from: u32, to: u32) -> Result<Value, AllocError>
 }
 
 fn edits(alloc: Global, from: u32, es: &[Edit]) -> Result<Value, AllocError>
-    ensures { IfOk result (λ out. view out ≡ edits_data from es.now) }
+    ensures value { IfOk result (λ out. view out ≡ edits_data from es.now) }
+    ensures in_range { OnOk result (AllByRecursion IsEditInRange es.now) }
 {
     let list = edit_values(alloc, es)?;
     json!(in alloc; {"es": list, "from": from, "r": "edits"})
 }
 
 fn edit_values(alloc: Global, es: &[Edit]) -> Result<Vec<Value>, AllocError>
-    ensures { IfOk result (λ list. items_view list.items ≡ each_data edit_data es.now) }
+    ensures values { IfOk result (λ list. items_view list.items ≡ each_data edit_data es.now) }
+    ensures in_range { OnOk result (AllByRecursion IsEditInRange es.now) }
 {
     let mut list = Vec::with_capacity(alloc, es.len())?;
     for edit in es {
@@ -69,7 +74,8 @@ fn edit_values(alloc: Global, es: &[Edit]) -> Result<Vec<Value>, AllocError>
 }
 
 fn edit_value(alloc: Global, edit: Edit) -> Result<Value, AllocError>
-    ensures { IfOk result (λ out. view out ≡ edit_data edit) }
+    ensures value { IfOk result (λ out. view out ≡ edit_data edit) }
+    ensures in_range { OnOk result (IsEditInRange edit) }
 {
     match edit {
         Edit::Ins(place, ch) => json!(in alloc; ["i", place, ch.encode_utf8(&mut [0; 4])]),
@@ -79,21 +85,24 @@ fn edit_value(alloc: Global, edit: Edit) -> Result<Value, AllocError>
 }
 
 fn part(alloc: Global, from: u32, ops: &[Op]) -> Result<Value, AllocError>
-    ensures { IfOk result (λ out. view out ≡ part_data from ops.now) }
+    ensures value { IfOk result (λ out. view out ≡ part_data from ops.now) }
+    ensures in_range { OnOk result (AllByRecursion IsOperationInRange ops.now) }
 {
     let list = op_values(alloc, ops)?;
     json!(in alloc; {"from": from, "ops": list, "r": "ops"})
 }
 
 fn put(alloc: Global, outcomes: &[Outcome]) -> Result<Value, AllocError>
-    ensures { IfOk result (λ out. view out ≡ put_data outcomes.now) }
+    ensures value { IfOk result (λ out. view out ≡ put_data outcomes.now) }
+    ensures in_range { OnOk result (AllByRecursion IsOutcomeInRange outcomes.now) }
 {
     let list = outcome_values(alloc, outcomes)?;
     json!(in alloc; {"os": list, "r": "put"})
 }
 
 fn outcome_values(alloc: Global, outcomes: &[Outcome]) -> Result<Vec<Value>, AllocError>
-    ensures { IfOk result (λ list. items_view list.items ≡ each_data outcome_data outcomes.now) }
+    ensures values { IfOk result (λ list. items_view list.items ≡ each_data outcome_data outcomes.now) }
+    ensures in_range { OnOk result (AllByRecursion IsOutcomeInRange outcomes.now) }
 {
     let mut list = Vec::with_capacity(alloc, outcomes.len())?;
     for outcome in outcomes {
@@ -104,7 +113,8 @@ fn outcome_values(alloc: Global, outcomes: &[Outcome]) -> Result<Vec<Value>, All
 }
 
 fn outcome_value(alloc: Global, outcome: Outcome) -> Result<Value, AllocError>
-    ensures { IfOk result (λ out. view out ≡ outcome_data outcome) }
+    ensures value { IfOk result (λ out. view out ≡ outcome_data outcome) }
+    ensures in_range { OnOk result (IsOutcomeInRange outcome) }
 {
     match outcome {
         Outcome::Took(taken, dropped) => json!(in alloc; ["took", taken, dropped]),

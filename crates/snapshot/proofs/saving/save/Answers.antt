@@ -29,7 +29,7 @@ loop-place-preserved c =
     record {
       text = next_text head (string_bytes c.loop-place.text) (string_bytes c.push_op.new.text) (op_text x) (map op_text (take i log)) i long c.loop-place.invariant.text c.in_ok-push_op.ensures.first c.in_ok-push_op.ensures.later
           ∙ ap (λ ts. head ++ joined ts) (sym texts);
-      range = subst AreInRange (sym next) (in_range_push (take i log) x c.loop-place.invariant.range c.check_range.ensures);
+      range = subst AreInRange (sym next) (in_range_push (take i log) x c.loop-place.invariant.range c.in_ok-push_op.ensures.in_range);
     }
 
 pub returns-clause-text : goal.returns-clause-text
