@@ -5,6 +5,7 @@
 mod edit;
 mod kind;
 pub mod laws;
+mod limits;
 mod refusal;
 mod site;
 mod stamp;
@@ -12,6 +13,7 @@ pub mod worked;
 
 pub use edit::Edit;
 pub use kind::OpKind;
+pub use limits::MAX_COUNT;
 pub use refusal::Refusal;
 pub use site::{SITES, Site};
 pub use stamp::Stamp;

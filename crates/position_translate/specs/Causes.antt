@@ -1,14 +1,11 @@
 -- Why operations that are asked for by a place in a version of a log are refused, memory apart: the first of the
 -- causes, in this order. A place counts characters, as in Attiya and others 2016; the limits are this server's own.
-use Rattle.std.specs.Prelude.{ℕ, ◌+◌, Bool, ◌||◌, ◌==◌, nat_lt, if◌then◌else◌, Option, Some, None, List, length}
+use Rattle.std.specs.Prelude.{ℕ, ◌+◌, nat_lt, if◌then◌else◌, Option, Some, None, List, length}
 use Rattle.opid.specs.declared.refusal.Refusal.{Refusal}
 use Rattle.opid.specs.declared.refusal.Refusal.TheVariants.{BadVersion, BadPlace, BadText, BadCount, Full}
+use Rattle.opid.specs.Limits.{is_bad_count}
 use Rattle.opid.specs.Operations.{Operation}
 use Rattle.opid.specs.Reading.{visible_at}
-
--- none or more than 64 are asked for
-abbrev pub is_bad_count : ℕ → Bool
-is_bad_count n = n == 0 || nat_lt 64 n
 
 -- the characters are to be put in at place k of version v: the version is above the newest, there is no character or
 -- more than 64, the place is above the version's length, the log would exceed 131,072 operations

@@ -6,9 +6,9 @@ ghost use Rattle.opid.specs.Lawful.{IsLawful};
 ghost use Rattle.opid.specs.Asked.{deletion_run, asked_deletions};
 ghost use Rattle.position_translate.specs.Causes.{deletion_refusal};
 
-use crate::next::{MAX_COUNT, next_op};
+use crate::next::next_op;
 use causal_clock::{Clock, Op};
-use opid::{OpKind, Refusal, Site};
+use opid::{MAX_COUNT, OpKind, Refusal, Site};
 use std::alloc::{AllocError, Global};
 use versions::{Doc, MAX_OPERATIONS};
 
@@ -41,7 +41,7 @@ pub fn delete_ops(
         return Err(Refusal::BadVersion);
     }
     let count = count as usize;
-    if count == 0 || count > MAX_COUNT {
+    if count == 0 || count > MAX_COUNT as usize {
         return Err(Refusal::BadCount);
     }
     let first = place as usize;

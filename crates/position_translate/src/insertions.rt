@@ -7,9 +7,9 @@ ghost use Rattle.opid.specs.Lawful.{IsLawful};
 ghost use Rattle.opid.specs.Asked.{parent_at, insertion_run, asked_insertions, IsPlaced};
 ghost use Rattle.position_translate.specs.Causes.{insertion_refusal};
 
-use crate::next::{MAX_COUNT, next_op};
+use crate::next::next_op;
 use causal_clock::{Clock, Op};
-use opid::{OpKind, Refusal, Site, Stamp};
+use opid::{MAX_COUNT, OpKind, Refusal, Site, Stamp};
 use std::alloc::{AllocError, Global};
 use versions::{Doc, MAX_OPERATIONS};
 
@@ -43,7 +43,7 @@ pub fn insert_ops(
         return Err(Refusal::BadVersion);
     }
     let count = count_of(text);
-    if count == 0 || count > MAX_COUNT {
+    if count == 0 || count > MAX_COUNT as usize {
         return Err(Refusal::BadText);
     }
     let Some(parent) = parent_in(doc, version, place) else {

@@ -5,9 +5,6 @@ ghost use Rattle.opid.specs.Clocks.{raised};
 use causal_clock::{Clock, MAX_SUM, Op};
 use opid::{OpKind, Site};
 
-/// At most so many operations are asked for at once.
-pub(crate) const MAX_COUNT: usize = 64;
-
 /// The site's operation after those that the clock counts.
 pub(crate) fn next_op(clock: &Clock, site: Site, kind: OpKind) -> Op
     requires { sum clock.now < MAX_SUM }

@@ -4,12 +4,9 @@ ghost use Rattle.opid.specs.declared.refusal.Refusal.TheVariants.{Memory};
 ghost use Rattle.replica.specs.Part.{part_of};
 
 use causal_clock::Op;
-use opid::Refusal;
+use opid::{MAX_COUNT, Refusal};
 use std::alloc::Global;
 use versions::Doc;
-
-/// At most so many operations are told at once.
-const MAX_TOLD: u32 = 64;
 
 /// The operations of the log from a place on, at most `max`. Takes the steps of `Doc::ops_from` for them.
 #[tactic(auto, using(crate::proofs::Parts::part_of_end, crate::proofs::Parts::left_after, crate::proofs::Parts::some_left, opid::proofs::Gathered::gathered, opid::proofs::Gathered::gathered_all))]
@@ -17,7 +14,7 @@ pub(crate) fn copy_part(alloc: Global, doc: &Doc, after: u32, max: u32) -> Resul
     ensures ok { IfOk result (λ ops. part_of doc.now.log after max ≡ Ok ops.items) }
     ensures cause { IfErr result (λ e. (part_of doc.now.log after max ≡ Err e) ⊎ (IsOk (part_of doc.now.log after max) × (e ≡ Memory))) }
 {
-    if after > doc.version() || max == 0 || max > MAX_TOLD {
+    if after > doc.version() || max == 0 || max > MAX_COUNT {
         return Err(Refusal::BadRange);
     }
     let end = doc.version().min(after + max);

@@ -8,7 +8,8 @@ use Rattle.opid.specs.Operations.{Operation}
 use Rattle.opid.specs.Reading.{visible_at}
 use Rattle.opid.specs.Lawful.{IsLawful}
 use Rattle.opid.proofs.Placing.{asked_insertions-placed}
-use Rattle.position_translate.specs.Causes.{is_bad_count, insertion_refusal}
+use Rattle.opid.specs.Limits.{is_bad_count}
+use Rattle.position_translate.specs.Causes.{insertion_refusal}
 use Rattle.session_outbox.specs.declared.submission.Submission.TheVariants.{New, Repeat}
 use Rattle.session_outbox.specs.Sessions.{session_with}
 use Rattle.session_outbox.specs.Answers.{submission_of}

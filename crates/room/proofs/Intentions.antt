@@ -10,7 +10,8 @@ use Rattle.opid.specs.Lawful.{IsLawful}
 use Rattle.opid.specs.Asked.{asked_insertions, asked_deletions, IsPlaced}
 use Rattle.opid.proofs.Logs.{IsLawful-take}
 use Rattle.opid.proofs.Placing.{asked_insertions-placed}
-use Rattle.position_translate.specs.Causes.{is_bad_count, insertion_refusal, deletion_refusal}
+use Rattle.opid.specs.Limits.{is_bad_count}
+use Rattle.position_translate.specs.Causes.{insertion_refusal, deletion_refusal}
 use Rattle.position_translate.proofs.Asking.{length-asked_insertions, length-asked_deletions}
 use Rattle.session_outbox.specs.declared.submission.Submission.TheVariants.{New}
 use Rattle.session_outbox.specs.Sessions.{session_with}

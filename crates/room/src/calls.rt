@@ -1,6 +1,6 @@
 //! What each kind of call does with a room's document and its sessions.
 ghost use Rattle.std.specs.Prelude.{◌≡◌, ◌+◌, ◌-◌, ◌<◌, ◌≤◌, ℕ, [], List, None, false, IfOk, IsOk, OnErr, length, vec_capacity};
-ghost use Rattle.position_translate.specs.Causes.{is_bad_count};
+ghost use Rattle.opid.specs.Limits.{is_bad_count};
 ghost use Rattle.replica.specs.Part.{part_of};
 ghost use Rattle.replica.specs.Deliver.{Contents};
 ghost use Rattle.opid.specs.Reading.{reading};
@@ -18,14 +18,11 @@ use crate::outcomes::Outcomes;
 use crate::reply::Reply;
 use crate::reserved::push_reserved;
 use causal_clock::Op;
-use opid::{Edit, Refusal};
+use opid::{Edit, MAX_COUNT, Refusal};
 use replica::Replica;
-use session_outbox::{MAX_EDITS, Sessions, Submission};
+use session_outbox::{Sessions, Submission};
 use std::alloc::{AllocError, Global};
 use versions::{Characters, Doc};
-
-/// At most so many operations are handed over at once.
-const MAX_HANDED_OVER: usize = 64;
 
 /// Carries out a call that is recorded.
 pub(crate) fn perform(
@@ -160,7 +157,7 @@ fn pull(
     ensures err { OnErr result (outbox.new ≡ outbox.old) }
 {
     let version = replica.version();
-    let mut es = Vec::with_capacity(alloc, max.min(MAX_EDITS) as usize)?;
+    let mut es = Vec::with_capacity(alloc, max.min(MAX_COUNT) as usize)?;
     match outbox.pull(s, have, max, version) {
         Ok((from, to)) => {
             add_edits(replica.doc(), from, to, &mut es);
@@ -205,7 +202,7 @@ fn put(alloc: Global, replica: &mut Replica, ops: &Operations) -> Result<Reply, 
 {
     let ops = ops.as_slice();
     let count = ops.len();
-    if count == 0 || count > MAX_HANDED_OVER {
+    if count == 0 || count > MAX_COUNT as usize {
         return Ok(Reply::No(Refusal::BadCount));
     }
     let mut outcomes = Vec::with_capacity(alloc, count)?;

@@ -2,6 +2,7 @@
 use Rattle.std.specs.Prelude.{ℕ, ◌+◌, ◌==◌, ◌||◌, ◌&&◌, nat_lt, min, if◌then◌else◌, Option, Some, None, Result, Ok, Err, List, length}
 use Rattle.opid.specs.declared.refusal.Refusal.{Refusal}
 use Rattle.opid.specs.declared.refusal.Refusal.TheVariants.{NoSession, TooManySessions, BadNumber, BadVersion, BadCount, BadHave, Memory}
+use Rattle.opid.specs.Limits.{is_bad_count}
 use Rattle.session_outbox.specs.declared.submission.Submission.{Submission}
 use Rattle.session_outbox.specs.declared.submission.Submission.TheVariants.{New, Repeat}
 use Rattle.session_outbox.specs.Sessions.{Session}
@@ -20,7 +21,7 @@ submission_of (Some w) n v =
 abbrev pub pull_of : Option Session → ℕ → ℕ → ℕ → Result (ℕ × ℕ) Refusal
 pull_of None have max version = Err NoSession
 pull_of (Some w) have max version =
-    if max == 0 || nat_lt 64 max then Err BadCount else (
+    if is_bad_count max then Err BadCount else (
     if nat_lt have w.first || nat_lt w.sent have then Err BadHave else
     Ok (have, min (have + max) version))
 

@@ -4,10 +4,7 @@ ghost use Rattle.session_outbox.specs.Answers.{submission_of, pull_of};
 ghost use Rattle.session_outbox.specs.Kept.{session_of};
 
 use crate::submission::Submission;
-use opid::Refusal;
-
-/// At most so many edits are sent by one pull.
-pub const MAX_EDITS: u32 = 64;
+use opid::{MAX_COUNT, Refusal};
 
 /// The facts of a session.
 #[derive(Clone, Copy)]
@@ -45,7 +42,7 @@ impl Facts {
     pub(crate) fn edits(self, have: u32, max: u32, version: u32) -> Result<(u32, u32), Refusal>
         ensures { result ≡ pull_of (Some (session_of (0, self))) have max version }
     {
-        if max == 0 || max > MAX_EDITS {
+        if max == 0 || max > MAX_COUNT {
             return Err(Refusal::BadCount);
         }
         if have < self.first || have > self.sent {

@@ -7,6 +7,5 @@ mod submission;
 #[cfg(test)]
 mod tests;
 
-pub use facts::MAX_EDITS;
 pub use sessions::Sessions;
 pub use submission::Submission;
