@@ -11,7 +11,7 @@ use crate::op::Op;
 use crate::packed_kind::{PackedKind, site_of};
 use crate::replay::Replay;
 use crate::row::Row;
-use opid::{Refusal, SITES};
+use opid::{Refusal, SITES, push_reserved};
 use std::alloc::Global;
 use std::marker::Model;
 
@@ -130,16 +130,6 @@ impl OpLog {
         self.room = self.room.saturating_sub(1);
         Ok(())
     }
-}
-
-/// Adds an item that there is room for.
-fn push_reserved<T: Drop>(items: &mut Vec<T>, item: T)
-    requires { vec_len items.old < vec_capacity items.old }
-    ensures items { items.new.items ≡ items.old.items ++ item ∷ [] }
-    ensures len { vec_len items.new ≡ vec_len items.old + 1 }
-    ensures capacity { vec_capacity items.old ≤ vec_capacity items.new }
-{
-    let _ = items.push(item);
 }
 
 /// Reserves memory for `n` more operations.

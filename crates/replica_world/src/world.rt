@@ -1,5 +1,5 @@
 //! The world: rooms of several sites, one event after another.
-ghost use Rattle.std.specs.Prelude.{◌≡◌, ℕ, ◌+◌, ◌^◌, ◌⊎◌, ◌<◌, ◌≤◌, [], ◌∷◌, Some, None, length, take, slice_get, slice_set, IfOk, OnOk, OnErr, IfSome, IfNone, is_some, option_and_then, option_map, IfErr, vec_len, vec_capacity, ◌++◌};
+ghost use Rattle.std.specs.Prelude.{◌≡◌, ℕ, ◌+◌, ◌^◌, ◌⊎◌, ◌<◌, ◌≤◌, [], ◌∷◌, Some, None, length, take, slice_get, slice_set, IfOk, OnOk, OnErr, IfSome, IfNone, is_some, option_and_then, option_map, IfErr, ◌++◌};
 ghost use Rattle.opid.specs.Lawful.{IsLawful};
 ghost use Rattle.opid.specs.declared.refusal.Refusal.TheVariants.{NoRoom, Memory};
 ghost use Rattle.opid.specs.Reading.{reading};
@@ -14,7 +14,7 @@ ghost use Rattle.replica_world.specs.Kept.{IsWorld, Converges};
 
 use crate::event::{Event, WorldReply};
 use causal_clock::Op;
-use opid::{Refusal, Site};
+use opid::{Refusal, Site, push_reserved};
 use replica::Replica;
 use room::{Call, Characters, Operations, Room};
 use std::alloc::{AllocError, Global};
@@ -328,16 +328,5 @@ fn room_at(alloc: Global, site: Site, ops: &[Op]) -> Result<Room, AllocError>
     match Replica::over(alloc, site, ops) {
         Ok(replica) => Ok(Room::over(alloc, replica)),
         Err(_) => Err(AllocError),
-    }
-}
-
-/// Appends a reply for which there is room.
-fn push_reserved(replies: &mut Vec<WorldReply>, reply: WorldReply)
-    requires { vec_len replies.old < vec_capacity replies.old }
-    ensures { replies.new.items ≡ replies.old.items ++ reply ∷ [] }
-{
-    match replies.push(reply) {
-        Ok(()) => {}
-        Err(_) => unreachable!(),
     }
 }

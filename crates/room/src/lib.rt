@@ -12,7 +12,6 @@ mod outcome;
 mod outcomes;
 mod owned;
 mod reply;
-mod reserved;
 mod room;
 
 pub use call::Call;
