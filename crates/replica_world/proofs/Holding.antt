@@ -36,11 +36,11 @@ use Rattle.room.proofs.Histories.{consistent_over}
 use Rattle.room.proofs.Converging.{room_converges}
 use Rattle.room.proofs.KeepingUp.{room_keeps_up}
 use Rattle.room.proofs.Intentions.{keeps_intentions, only_grows}
-use Rattle.room.specs.History.{Account, IsConsistent}
+use Rattle.room.specs.History.{Account, IsConsistent, account_over}
 use Rattle.room.specs.Intention.{KeepsIntentions, OnlyGrows}
 use Rattle.replica_world.specs.declared.event.Event.{Event}
 use Rattle.replica_world.specs.declared.event.Event.TheVariants as events
-use Rattle.replica_world.specs.World.{room_of, logs_of, account_over, carry_of, carry_to, step, empty_rooms}
+use Rattle.replica_world.specs.World.{room_of, logs_of, carry_of, carry_to, step, empty_rooms}
 use Rattle.replica_world.specs.Carried.{IsCarried, IsWithoutLoss, TellsNoLoss, TellsCarried, LosesNothing}
 use Rattle.replica_world.specs.Received.{got}
 use Rattle.replica_world.specs.Kept.{IsSiteOf, IsWorld, ReadTheSame, Converges}

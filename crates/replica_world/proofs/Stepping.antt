@@ -23,13 +23,13 @@ use Rattle.room.specs.declared.call.Call.TheVariants.{Join, Ins, Del, Pull, Leav
 use Rattle.room.specs.declared.reply.Reply.TheVariants as replies
 use Rattle.room.specs.Deliveries.{outcome_of}
 use Rattle.room.specs.Machine.{State, room_over, recorded_answer, recorded_next, counted, may_record, answer, next}
-use Rattle.room.specs.History.{Account, mark_from, mark, recorded, called, IsConsistent}
+use Rattle.room.specs.History.{Account, mark_from, mark, recorded, called, IsConsistent, account_over}
 use Rattle.room.proofs.Histories.{consistent_called, consistent_over}
 use Rattle.opid.proofs.Logs.{IsLawful-take}
 use Rattle.replica_world.specs.declared.event.Event.{Event}
 use Rattle.replica_world.specs.declared.event.Event.TheVariants as events
 use Rattle.replica_world.specs.declared.event.WorldReply.TheVariants as worlds
-use Rattle.replica_world.specs.World.{Stepped, refused, room_of, with_room, logs_of, account_over, puts, call_of, carry_of, carry_to, fork_of, NamesSites, step}
+use Rattle.replica_world.specs.World.{Stepped, refused, room_of, with_room, logs_of, puts, call_of, carry_of, carry_to, fork_of, NamesSites, step}
 use Rattle.replica_world.specs.Carried.{IsAccepted}
 use Rattle.replica_world.specs.Received.{is_refused, taken_of, received, got}
 use Rattle.replica_world.specs.Kept.{AreLogs, IsReceived, IsSiteOf, IsWorld}

@@ -5,10 +5,10 @@ ghost use Rattle.opid.specs.declared.refusal.Refusal.TheVariants.{NoRoom, Memory
 ghost use Rattle.opid.specs.Reading.{reading};
 ghost use Rattle.room.specs.declared.call.Call.TheVariants as calls;
 ghost use Rattle.room.specs.Machine.{answer, room_over};
-ghost use Rattle.room.specs.History.{Account, mark, called};
+ghost use Rattle.room.specs.History.{Account, mark, called, account_over};
 ghost use Rattle.replica_world.specs.declared.event.Event.TheVariants as events;
 ghost use Rattle.replica_world.specs.declared.event.WorldReply.TheVariants as replies;
-ghost use Rattle.replica_world.specs.World.{room_of, puts, account_over, empty_rooms, call_of, fork_of, step, Runs, IsPlaceOf};
+ghost use Rattle.replica_world.specs.World.{room_of, puts, empty_rooms, call_of, fork_of, step, Runs, IsPlaceOf};
 ghost use Rattle.replica_world.specs.Carried.{LosesNothing};
 ghost use Rattle.replica_world.specs.Kept.{IsWorld, Converges};
 

@@ -4,13 +4,14 @@ use Rattle.std.specs.Io.KnownBytes.{IsAtEnd}
 use Rattle.opid.specs.Operations.{Operation}
 use Rattle.room.specs.declared.owned.RoomDesk.{RoomDesk}
 use Rattle.room.specs.History.{Account}
+use Rattle.room.specs.OwnedDesk.{room_step, room_fault}
 use Rattle.ws_server.specs.Answers.{Answers}
 use Rattle.ws_server.specs.Lines.{cut}
 use Rattle.ws_server.specs.ServedLines.{AreAnswered, Serves, ServesAll}
 use Rattle.ws_server.specs.declared.fault.ServeFault.{ServeFault}
 use Rattle.rgatext.specs.declared.stop.Stop.{Stop}
 use Rattle.rgatext.specs.declared.stop.Stop.TheVariants.{Fault}
-use Rattle.rgatext.specs.Played.{Opens, Closes, ServesRoom, room_step, room_fault}
+use Rattle.rgatext.specs.Played.{Opens, Closes, ServesRoom}
 
 -- no line is answered where nothing is held and nothing is read
 pub serves_nothing : (desk : RoomDesk) (held : List ℕ) → held ≡ [] → ServesAll (Answers room_step room_fault) desk (held ++ []) [] desk

@@ -8,12 +8,10 @@ use Rattle.opid.specs.declared.refusal.Refusal.TheVariants as Why
 use Rattle.opid.specs.declared.refusal.Refusal.TheVariants.{BadSnapshot, SiteUsed, BadVersion}
 use Rattle.opid.specs.Operations.{Operation}
 use Rattle.opid.specs.Reading.{reading_at}
-use Rattle.room.specs.declared.call.Call.{Call}
-use Rattle.room.specs.declared.reply.Reply.{Reply}
-use Rattle.room.specs.declared.desk.DeskFault.{DeskFault}
 use Rattle.room.specs.declared.owned.RoomDesk.{RoomDesk}
 use Rattle.room.specs.Machine.{room_over}
-use Rattle.room.specs.History.{Account, StepsRoom, FaultsRoom}
+use Rattle.room.specs.History.{Account, account_over}
+use Rattle.room.specs.OwnedDesk.{room_step, room_fault}
 use Rattle.snapshot.specs.Snapshot.{StandsFor, StandsForNone, LacksSite, HasSite, log_text}
 use Rattle.ws_server.specs.Answers.{Answers}
 use Rattle.ws_server.specs.Lines.{FallsShort, IsFirstLine, ended}
@@ -24,16 +22,6 @@ use Rattle.rgatext.specs.declared.plan.Plan.{Plan}
 use Rattle.rgatext.specs.declared.plan.Plan.TheVariants.{Lines, Text}
 use Rattle.rgatext.specs.declared.stop.Stop.{Stop}
 use Rattle.rgatext.specs.declared.stop.Stop.TheVariants.{Refused, Fault}
-
--- a site's room over a log, before any call
-abbrev pub opened : ℕ → List Operation → Account
-opened site log = record { opening = room_over site log; history = []; state = room_over site log }
-
-abbrev pub room_step : RoomDesk → Call → Reply → RoomDesk → Type 0
-room_step old call reply new = StepsRoom old.room call reply new.room
-
-abbrev pub room_fault : RoomDesk → Call → DeskFault → RoomDesk → Type 0
-room_fault old call why new = FaultsRoom old.room why new.room
 
 -- why a refusal stops a run: for want of memory it is a fault
 abbrev pub stop_of : Refusal → Stop
@@ -94,7 +82,7 @@ abbrev pub PlaysLines : {T : Type 0} → ℕ → Bool → Bool → List ℕ → 
 PlaysLines site resume snapshot got left written end =
     ((why : Stop) × OpensNot resume site left got why × (written ≡ []) × (end ≡ Err why))
     ⊎ ((over : Bool) × (log : List Operation) × (rest : List ℕ) × Opens resume site left got over log rest
-    × ServesRoom (opened site log) snapshot rest left written end)
+    × ServesRoom (account_over (room_over site log)) snapshot rest left written end)
 
 -- ---- `text`
 

@@ -1,12 +1,15 @@
 //! Runs `lines`: a room over a log, its requests, and its snapshot.
 ghost use Rattle.std.specs.Prelude.{◌≡◌, ◌+◌, ◌^◌, ◌<◌, ◌++◌, ℕ, List, [], true, Ok, MatchResult, IfOk, string_bytes};
 ghost use Rattle.std.specs.Io.KnownBytes.{Appends, Consumes, IsAtEnd};
+ghost use Rattle.room.specs.Machine.{room_over};
+ghost use Rattle.room.specs.History.{account_over};
+ghost use Rattle.room.specs.OwnedDesk.{room_step, room_fault};
 ghost use Rattle.snapshot.specs.Snapshot.{log_text};
 ghost use Rattle.ws_server.specs.Answers.{Answers};
 ghost use Rattle.ws_server.specs.Lines.{ended};
 ghost use Rattle.ws_server.specs.ServedLines.{Serves};
 ghost use Rattle.ws_server.specs.Counting.{Rises};
-ghost use Rattle.rgatext.specs.Played.{PlaysLines, ServesRoom, Opens, OpensNot, Closes, opened, room_step, room_fault, served_end};
+ghost use Rattle.rgatext.specs.Played.{PlaysLines, ServesRoom, Opens, OpensNot, Closes, served_end};
 
 use crate::sending::send;
 use crate::stop::Stop;
@@ -65,7 +68,7 @@ fn open<R: Source>(
     requires few_reads_failed { input.old.failures < 2 ^ 63 }
     ensures opens { (got : List ℕ) × Consumes (R.remaining input.old.inner) (R.remaining input.new.inner) got
         × MatchResult result
-        (λ o. (o.room ≡ opened site o.room.state.log) × Opens resume site (R.remaining input.new.inner) got o.is_over o.room.state.log window.new)
+        (λ o. (o.room ≡ account_over (room_over site o.room.state.log)) × Opens resume site (R.remaining input.new.inner) got o.is_over o.room.state.log window.new)
         (λ why. OpensNot resume site (R.remaining input.new.inner) got why) }
     ensures counted { Rises input.old.failures input.new.failures 0 0 (served_end result) }
 {

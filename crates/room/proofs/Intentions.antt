@@ -1,7 +1,7 @@
 -- What an accepted submission asked for stays in the log where it was put, and stands at its place.
 use Rattle.std.proofs.Common.{◌≡◌, ℕ, zero, suc, ◌+◌, ◌-◌, ◌<◌, ◌≤◌, Bool, true, false, Option, Some, None, Ok, Err, List, [], ◌∷◌, ◌++◌, length, take, drop, refl, ap, ◌∙◌, sym, subst, arith, append_assoc}
 use Rattle.std.specs.Prelude.{nat_lt, slice_get, if◌then◌else◌}
-use Rattle.std.proofs.lemmas.List.{take_at, drop_at, length-append}
+use Rattle.std.proofs.lemmas.List.{take_at, drop_at, take-append-le, length-append}
 use Rattle.opid.specs.declared.refusal.Refusal.{Refusal}
 use Rattle.opid.specs.declared.refusal.Refusal.TheVariants.{BadVersion, BadPlace, Full, HistoryFull}
 use Rattle.opid.specs.Operations.{Operation, insertions}
@@ -87,14 +87,7 @@ record Goes (S : State) (c : Call) (start end : ℕ) : Type 0 where
 -- a place in a version that is there is its place in any longer log
 placed-longer : (log more xs : List Operation) (v k : ℕ) → v ≤ length log → IsPlaced log v k xs → IsPlaced (log ++ more) v k xs
 placed-longer log more xs v k b p =
-    subst (λ (l : List Operation). visible (l ++ xs) ≡ take k (visible l) ++ insertions xs ++ drop k (visible l)) (sym (take-within log more v b)) p
-  where
-    take-within : (log more : List Operation) (v : ℕ) → v ≤ length log → take v (log ++ more) ≡ take v log
-    take-within [] [] zero b = refl
-    take-within [] (x ∷ more) zero b = refl
-    take-within [] more (suc v) b = absurd (omega (arith, b))
-    take-within (x ∷ log) more zero b = refl
-    take-within (x ∷ log) more (suc v) b = ap (λ l. x ∷ l) (take-within log more v (omega (arith, b)))
+    subst (λ (l : List Operation). visible (l ++ xs) ≡ take k (visible l) ++ insertions xs ++ drop k (visible l)) (sym (take-append-le v log more b)) p
 
 accepted-goes : (S : State) (c : Call) (start end : ℕ) → IsLawful S.log → S.site < 32 → check S c ≡ Ok New → accepted_answer S c ≡ replies.Ok start end → Goes S c start end
 accepted-goes S Join start end l b a e = absurd cc

@@ -35,13 +35,13 @@ impl Model for Room {
 
 impl Room {
     ghost use Rattle.room.specs.Machine.{State, empty_room, room_over, may_record, answer};
-    ghost use Rattle.room.specs.History.{mark, called, ran, IsConsistent, Runs, PlacesInsertion, StepsRoom};
+    ghost use Rattle.room.specs.History.{mark, account_over, called, ran, IsConsistent, Runs, PlacesInsertion, StepsRoom};
     ghost use Rattle.room.specs.Convergence.{EditorsConverge, EditorsKeepUp};
     ghost use Rattle.room.specs.Intention.{KeepsIntentions, OnlyGrows};
 
     /// The room of a site with an empty document. Constant time; takes no memory.
     pub fn new(alloc: Global, site: Site) -> Room
-        ensures { result ≡ record { opening = empty_room site; history = []; state = empty_room site } }
+        ensures { result ≡ account_over (empty_room site) }
     {
         Room::over(alloc, Replica::new(alloc, site))
     }
@@ -49,7 +49,7 @@ impl Room {
     /// The room of a replica that holds nothing back, opened over its log. Constant time; takes no memory.
     pub fn over(alloc: Global, replica: Replica) -> Room
         requires { replica.held ≡ [] }
-        ensures { result ≡ record { opening = room_over replica.site replica.log; history = []; state = room_over replica.site replica.log } }
+        ensures { result ≡ account_over (room_over replica.site replica.log) }
     {
         prove!(replica.site().number() < 32);
         let opened = replica.version() as usize;
