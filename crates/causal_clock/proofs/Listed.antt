@@ -9,7 +9,8 @@ use Rattle.std.proofs.Math.ListN.{drop_of_length-le}
 use Rattle.opid.specs.Clocks.{sites}
 use Rattle.opid.specs.Delivery.{count_of, clock_of}
 use mathlib.Core.Path.{ap₂}
-use Rattle.causal_clock.specs.Listing.{count_in, clock_with, AreRising, IsListing}
+use Rattle.causal_clock.specs.Listing.{count_in, clock_with}
+use Rattle.causal_clock.proofs.Listings.{AreRising, IsListing}
 
 -- the counts with each pair's put in
 abbrev pub fill : List ℕ → List (ℕ × ℕ) → List ℕ

@@ -1,7 +1,9 @@
 -- A clock told by pairs of a site and its count, as messages tell it: sites that aren't named have the count 0;
 -- the server's own.
-use Rattle.std.specs.Prelude.{ℕ, ◌<◌, ◌≤◌, ◌==◌, if◌then◌else◌, List, [], ◌∷◌, map}
-use Rattle.std.specs.List.{AllByRecursion, sum_by}
+use Rattle.std.specs.Prelude.{ℕ, ◌==◌, nat_lt, nat_le, Bool, true, ◌&&◌, if◌then◌else◌, Result, Ok, Err, List, [], ◌∷◌, map}
+use Rattle.std.specs.List.{list_all, sum_by}
+use Rattle.opid.specs.declared.refusal.Refusal.{Refusal}
+use Rattle.opid.specs.declared.refusal.Refusal.TheVariants.{BadClock}
 use Rattle.opid.specs.Clocks.{sites}
 
 -- the count of the site's pair, or 0
@@ -14,12 +16,14 @@ abbrev pub clock_with : List (ℕ × ℕ) → List ℕ
 clock_with pairs = map (count_in pairs) sites
 
 -- the site of each pair is below those of the pairs after it
-abbrev pub AreRising : List (ℕ × ℕ) → Type 0
-AreRising [] = Unit {0}
-AreRising (p ∷ ps) = AllByRecursion (λ q. p.0 < q.0) ps × AreRising ps
+abbrev pub rises : List (ℕ × ℕ) → Bool
+rises [] = true
+rises (p ∷ ps) = list_all (λ q. nat_lt p.0 q.0) ps && rises ps
 
--- pairs that tell a clock: their sites strictly rise, no count is 0, and the sum is within the limit
-pub record IsListing (pairs : List (ℕ × ℕ)) : Type 0 where
-  pub rising : AreRising pairs
-  pub counted : AllByRecursion (λ p. 0 < p.1) pairs
-  pub limit : sum_by (λ p. p.1) pairs ≤ 131072
+-- pairs that tell a clock: their sites strictly rise, no count is 0, and the sum is at most 131,072
+abbrev pub tells_clock : List (ℕ × ℕ) → Bool
+tells_clock pairs = rises pairs && list_all (λ p. nat_lt 0 p.1) pairs && nat_le (sum_by (λ p. p.1) pairs) 131072
+
+-- the clock that pairs tell, if they tell one
+abbrev pub clock_told : List (ℕ × ℕ) → Result (List ℕ) Refusal
+clock_told pairs = if tells_clock pairs then Ok (clock_with pairs) else Err BadClock

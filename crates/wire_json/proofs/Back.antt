@@ -14,10 +14,11 @@ use Rattle.opid.specs.Clocks.{entry}
 use Rattle.opid.specs.Operations.{Operation}
 use Rattle.causal_clock.specs.Kinds.{IsClock, IsOperation}
 use Rattle.wire_json.specs.Members.{◌>>=◌, number_of}
-use Rattle.wire_json.specs.Operations.{Offer, each, items_in, pair_of, stamp_of, parent_of, only_char, offer_of, site_of, sited_pair, sited_kind, sited, clock_of, counted, operation, op_of}
+use Rattle.wire_json.specs.Operations.{Offer, each, items_in, pair_of, stamp_told, parent_of, only_char, offer_of, site_of, sited_pair, sited_kind, sited, counted, operation, op_of}
 use Rattle.wire_json.specs.Text.{IsStampInRange, IsKindInRange, pairs_of}
 use Rattle.wire_json.specs.Written.{each_data, two_data, pair_data, stamp_data, op_data_of, op_data}
-use Rattle.wire_json.proofs.Told.{tells}
+use Rattle.causal_clock.specs.Listing.{clock_told}
+use Rattle.causal_clock.proofs.Listings.{tells}
 use Rattle.wire_json.proofs.Pairs.{listing_of, clock_with_pairs, pairs_sited, pairs_small}
 
 number_back : (n : ℕ) → n < 2 ^ 32 → number_of (Some (number (unsigned n))) ≡ Ok n
@@ -35,7 +36,7 @@ pairs_back (p ∷ ps) h = step (pairs_back ps h.1)
         ap (λ r. r >>= λ y. each pair_of (items_in (each_data pair_data ps)) >>= λ ys. Ok (y ∷ ys)) (two_back p.0 p.1 h.0.0 h.0.1)
         ∙ ap (λ r. r >>= λ ys. Ok (p ∷ ys)) rest
 
-stamp_back : (s : Stamp) → IsStampInRange s → stamp_of (stamp_data s) ≡ Ok s
+stamp_back : (s : Stamp) → IsStampInRange s → stamp_told (stamp_data s) ≡ Ok s
 stamp_back s h = ap (λ r. r >>= λ p. Ok (record { sum = p.0; site = p.1 })) (two_back s.sum s.site h.0 (omega (arith, h.1)))
 
 parent_back : (s : Stamp) → IsStampInRange s → parent_of (stamp_data s) ≡ Ok (Some s)
@@ -85,7 +86,7 @@ sited_back s clock kind h r =
 
 -- ---- clocks
 
-clock_back : (clock : List ℕ) → IsClock clock → clock_of (pairs_of clock) ≡ Ok clock
+clock_back : (clock : List ℕ) → IsClock clock → clock_told (pairs_of clock) ≡ Ok clock
 clock_back clock h = rw (tells (pairs_of clock) (listing_of clock h)) (ap Ok (clock_with_pairs clock h))
 
 counted_back : (s : ℕ) (clock : List ℕ) (kind : OpKind) → 0 < entry clock s → counted s clock kind ≡ Ok (record { site = s; clock = clock; kind = kind })

@@ -7,7 +7,8 @@ use Rattle.std.proofs.lemmas.List.FromFn.{fill_by_all}
 use Rattle.std.proofs.lemmas.List.Sums.{sum_by-cons, sum-map}
 use Rattle.opid.specs.Clocks.{sites, entry}
 use Rattle.causal_clock.specs.Kinds.{IsClock}
-use Rattle.causal_clock.specs.Listing.{count_in, clock_with, AreRising, IsListing}
+use Rattle.causal_clock.specs.Listing.{count_in, clock_with}
+use Rattle.causal_clock.proofs.Listings.{AreRising, IsListing}
 use Rattle.wire_json.specs.Text.{pairs_of}
 use Rattle.wire_json.proofs.Clocks.{pair_at, pairs_from}
 

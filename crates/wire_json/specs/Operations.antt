@@ -12,7 +12,7 @@ use Rattle.opid.specs.declared.kind.OpKind.{OpKind}
 use Rattle.opid.specs.declared.kind.OpKind.TheVariants.{Ins, Del}
 use Rattle.opid.specs.Clocks.{entry}
 use Rattle.opid.specs.Operations.{Operation}
-use Rattle.causal_clock.specs.Listing.{clock_with}
+use Rattle.causal_clock.specs.Listing.{clock_told}
 use Rattle.wire_json.specs.Members.{◌>>=◌, or_refuse, below, only_keys, number_of, number_at, text_at}
 
 -- an operation as it is offered: its site, the pairs of its clock, and what it does, with sites of any number
@@ -53,14 +53,14 @@ abbrev pub present : Option Data → Result Data Refusal
 present d = or_refuse BadField d
 
 -- a stamp is its sum and its site
-abbrev pub stamp_of : Data → Result Stamp Refusal
-stamp_of d = do
+abbrev pub stamp_told : Data → Result Stamp Refusal
+stamp_told d = do
   p ← pair_of d
   Ok (record { sum = p.0; site = p.1 })
 
 -- a stamp, or null for the head
 abbrev pub parent_of : Data → Result (Option Stamp) Refusal
-parent_of d = if is_some (as_null d) then Ok None else (stamp_of d >>= λ s. Ok (Some s))
+parent_of d = if is_some (as_null d) then Ok None else (stamp_told d >>= λ s. Ok (Some s))
 
 -- the one character of a text
 abbrev pub only_char : List ℕ → Option ℕ
@@ -89,7 +89,7 @@ deletion_of d = do
   pairs ← each pair_of c
   s ← number_at (codes "s") d
   t ← present (get (codes "t") d)
-  target ← stamp_of t
+  target ← stamp_told t
   Ok (record { site = s; pairs = pairs; kind = Del target })
 
 abbrev pub offer_named : List ℕ → Data → Result Offer Refusal
@@ -127,25 +127,13 @@ sited o = do
 
 -- ---- clocks
 
--- the sites strictly rise
-abbrev pub rises : List (ℕ × ℕ) → Bool
-rises [] = true
-rises (p ∷ ps) = list_all (λ q. nat_lt p.0 q.0) ps && rises ps
-
--- the sites strictly rise, no count is 0, and the sum is at most 131,072
-abbrev pub tells_clock : List (ℕ × ℕ) → Bool
-tells_clock pairs = rises pairs && list_all (λ p. nat_lt 0 p.1) pairs && nat_le (sum_by (λ p. p.1) pairs) 131072
-
-abbrev pub clock_of : List (ℕ × ℕ) → Result (List ℕ) Refusal
-clock_of pairs = if tells_clock pairs then Ok (clock_with pairs) else Err BadClock
-
 -- the operation with the clock, which has to count it
 abbrev pub counted : ℕ → List ℕ → OpKind → Result Operation Refusal
 counted s clock kind = if nat_lt 0 (entry clock s) then Ok (record { site = s; clock = clock; kind = kind }) else Err BadClock
 
 abbrev pub operation : Offer → Result Operation Refusal
 operation o = do
-  clock ← clock_of o.pairs
+  clock ← clock_told o.pairs
   counted o.site clock o.kind
 
 -- ---- an operation object, and a list of them

@@ -1,7 +1,8 @@
 -- The pairs of sites are those that the list begins with, unless they are too many to rise.
 use Rattle.std.proofs.Common.{◌≡◌, ◌<◌, length, take, sym, ap, ◌∙◌, arith, length-set}
 use Rattle.std.proofs.lemmas.List.{length-map, take_all}
-use Rattle.wire_json.specs.Operations.{clock_of, sited_pair}
+use Rattle.causal_clock.specs.Listing.{clock_told}
+use Rattle.wire_json.specs.Operations.{sited_pair}
 use Rattle.wire_json.specs.Offers.{pairs_in}
 use Rattle.wire_json.proofs.Told.{too_many}
 use Rattle.wire_json.proofs.Checked.{all_sited, same_at, put_more}
@@ -30,4 +31,4 @@ pub returns : goal.returns
 returns c =
     let n = length c.args.pairs.now in
     let all : c.loop-place.place ≡ n = omega arith in
-    c.clock_from.ensures ∙ ap clock_of (ap (λ m. take m c.loop-place.list) (sym all) ∙ c.loop-place.invariant.1 ∙ ap (λ m. pairs_in (take m c.args.pairs.now)) all ∙ ap pairs_in (take_all n c.args.pairs.now (omega arith)))
+    c.from_pairs.ensures ∙ ap clock_told (ap (λ m. take m c.loop-place.list) (sym all) ∙ c.loop-place.invariant.1 ∙ ap (λ m. pairs_in (take m c.args.pairs.now)) all ∙ ap pairs_in (take_all n c.args.pairs.now (omega arith)))
