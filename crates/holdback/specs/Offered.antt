@@ -9,7 +9,7 @@ use Rattle.holdback.specs.declared.held.Arrival.TheVariants.{Kept, Again}
 use Rattle.holdback.specs.Same.{is_same_operation}
 
 -- the operations that are held back, in order of arrival, and for how many there is memory, these included
-pub record Contents : Type 0 where
+pub record HeldOperations : Type 0 where
   pub ops : List Operation
   pub room : ℕ
 

@@ -34,9 +34,9 @@ pub struct Held {
 
 impl Model for Held {
     ghost use Rattle.std.specs.Prelude.{◌≤◌, vec_len, vec_capacity};
-    ghost use Rattle.holdback.specs.Offered.{Contents};
+    ghost use Rattle.holdback.specs.Offered.{HeldOperations};
 
-    ghost Value = { Contents };
+    ghost Value = { HeldOperations };
 
     ghost view = { λ h. record { ops = h.ops.items; room = h.room } };
 

@@ -14,7 +14,7 @@ use Rattle.replica.specs.Settle.{Settling, settle}
 
 -- a replica: its site, its log, what is held back in order of arrival, and for how many operations there is memory, those
 -- that are held included
-pub record Contents : Type 0 where
+pub record ReplicaState : Type 0 where
   pub site : ℕ
   pub log : List Operation
   pub held : List Operation

@@ -33,10 +33,10 @@ pub struct Replica {
 }
 
 impl Model for Replica {
-    ghost use Rattle.replica.specs.Deliver.{Contents};
+    ghost use Rattle.replica.specs.Deliver.{ReplicaState};
     ghost use Rattle.replica.specs.Kept.{AreReserved};
 
-    ghost Value = { Contents };
+    ghost Value = { ReplicaState };
 
     ghost view = { λ r. record { site = r.site; log = r.log.log; held = r.held.ops; room = r.room } };
 

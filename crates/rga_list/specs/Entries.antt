@@ -14,7 +14,7 @@ pub record Entry : Type 0 where
   pub shown : Bool
 
 -- every element in the linked order, deleted ones too, and how many insertions have their memory already
-pub record Contents : Type 0 where
+pub record LinkedElements : Type 0 where
   pub entries : List Entry
   pub room : ℕ
 

@@ -6,7 +6,7 @@ ghost use Rattle.opid.specs.declared.refusal.Refusal.TheVariants.{UnknownElement
 ghost use Rattle.opid.specs.declared.stamp.Stamp.{Stamp};
 ghost use Rattle.opid.specs.Operations.{Operation, stamp_of};
 ghost use Rattle.opid.specs.Lawful.{IsSound};
-ghost use Rattle.rga_list.specs.Entries.{Entry, Contents, placed, elem_of, entry_of, next_of, elem_before, has_stamp, IsAboveItsSite, IsGreatestOf, parent_refusal, refusal_of, hidden, is_shown, AreOfOwn};
+ghost use Rattle.rga_list.specs.Entries.{Entry, LinkedElements, placed, elem_of, entry_of, next_of, elem_before, has_stamp, IsAboveItsSite, IsGreatestOf, parent_refusal, refusal_of, hidden, is_shown, AreOfOwn};
 ghost use Rattle.rga_list.specs.Links.{row_at};
 ghost use Rattle.rga_list.specs.Listed.{listed};
 
@@ -39,9 +39,9 @@ pub struct Rga {
 
 impl Model for Rga {
     ghost use Rattle.std.specs.Prelude.{vec_len, vec_capacity};
-    ghost use Rattle.rga_list.specs.Entries.{Contents};
+    ghost use Rattle.rga_list.specs.Entries.{LinkedElements};
 
-    ghost Value = { Contents };
+    ghost Value = { LinkedElements };
 
     ghost use Rattle.rga_list.specs.Links.{entries_of, IsList, AreReserved};
 

@@ -13,7 +13,7 @@ use Rattle.replica.specs.declared.delivery.Delivery.{Delivery}
 use Rattle.replica.specs.declared.delivery.Delivery.TheVariants.{Took, Kept, Again}
 use Rattle.replica.specs.Refused.{refusal_of}
 use Rattle.replica.specs.Settle.{Settling, appended_or_dropped, taken_out, round_with, round, rounds, settle}
-use Rattle.replica.specs.Deliver.{Contents, Delivered, unchanged, hold, integrate, deliver_new, deliver_found, claims_site, deliver, taken_by}
+use Rattle.replica.specs.Deliver.{ReplicaState, Delivered, unchanged, hold, integrate, deliver_new, deliver_found, claims_site, deliver, taken_by}
 use Rattle.replica.proofs.Lawfully.{fewer}
 use Rattle.room.specs.declared.outcome.Outcome.{Outcome}
 use Rattle.room.specs.Deliveries.{Handed, outcome_of, hand_over}
@@ -174,29 +174,29 @@ deliver-held site log held x = by (claims_site site log x)
 -- ---- one after another, as a loop does
 
 -- what a delivery made of a replica: its outcome, and room for so many more
-pub record Delivers (R T : Contents) (x : Operation) (result : Result Delivery Refusal) : Type 0 where
+pub record Delivers (R T : ReplicaState) (x : Operation) (result : Result Delivery Refusal) : Type 0 where
   pub outcome : (deliver R.site R.log R.held x).outcome ≡ result
   pub site : T.site ≡ R.site
   pub log : T.log ≡ (deliver R.site R.log R.held x).log
   pub held : T.held ≡ (deliver R.site R.log R.held x).held
   pub room : (k : ℕ) → length R.held + suc k ≤ R.room → length T.held + k ≤ T.room
 
-pub delivers : (R T : Contents) (x : Operation) (result : Result Delivery Refusal) → IfOk result (λ d. (deliver R.site R.log R.held x).outcome ≡ Ok d)
+pub delivers : (R T : ReplicaState) (x : Operation) (result : Result Delivery Refusal) → IfOk result (λ d. (deliver R.site R.log R.held x).outcome ≡ Ok d)
     → IfOk result (λ d. T ≡ record R { log = (deliver R.site R.log R.held x).log; held = (deliver R.site R.log R.held x).held; room = R.room - taken_by d })
     → IfErr result (λ e. ((deliver R.site R.log R.held x).outcome ≡ Err e) ⊎ ((e ≡ Memory) × (R.room ≤ length R.held))) → OnErr result (T ≡ R) → length R.held < R.room → Delivers R T x result
 delivers R T x (Ok d) o n c e b = record {
   outcome = o;
-  site = ap (λ (q : Contents). q.site) n;
-  log = ap (λ (q : Contents). q.log) n;
-  held = ap (λ (q : Contents). q.held) n;
-  room = λ k h. omega (arith, h, ap (λ (q : Contents). length q.held) n, ap (λ (q : Contents). q.room) n, deliver-held R.site R.log R.held x d o);
+  site = ap (λ (q : ReplicaState). q.site) n;
+  log = ap (λ (q : ReplicaState). q.log) n;
+  held = ap (λ (q : ReplicaState). q.held) n;
+  room = λ k h. omega (arith, h, ap (λ (q : ReplicaState). length q.held) n, ap (λ (q : ReplicaState). q.room) n, deliver-held R.site R.log R.held x d o);
 }
 delivers R T x (Err w) o n (inl c) e b = record {
   outcome = c;
-  site = ap (λ (q : Contents). q.site) e;
-  log = ap (λ (q : Contents). q.log) e ∙ sym (ap (λ (q : Delivered). q.log) (deliver-refused R.site R.log R.held x w c));
-  held = ap (λ (q : Contents). q.held) e ∙ sym (ap (λ (q : Delivered). q.held) (deliver-refused R.site R.log R.held x w c));
-  room = λ k h. omega (arith, h, ap (λ (q : Contents). length q.held) e, ap (λ (q : Contents). q.room) e);
+  site = ap (λ (q : ReplicaState). q.site) e;
+  log = ap (λ (q : ReplicaState). q.log) e ∙ sym (ap (λ (q : Delivered). q.log) (deliver-refused R.site R.log R.held x w c));
+  held = ap (λ (q : ReplicaState). q.held) e ∙ sym (ap (λ (q : Delivered). q.held) (deliver-refused R.site R.log R.held x w c));
+  room = λ k h. omega (arith, h, ap (λ (q : ReplicaState). length q.held) e, ap (λ (q : ReplicaState). q.room) e);
 }
 delivers R T x (Err w) o n (inr c) e b = absurd (omega (arith, c.1, b))
 
@@ -204,7 +204,7 @@ delivers R T x (Err w) o n (inr c) e b = absurd (omega (arith, c.1, b))
 abbrev pub with_before : List Outcome → Handed → Handed
 with_before before rest = record rest { outcomes = before ++ rest.outcomes }
 
-pub handed_on : (R T : Contents) (ops : List Operation) (n : ℕ) (d : Operation) (result : Result Delivery Refusal) (before after : List Outcome) (o : Outcome) (whole : Handed) → n < length ops
+pub handed_on : (R T : ReplicaState) (ops : List Operation) (n : ℕ) (d : Operation) (result : Result Delivery Refusal) (before after : List Outcome) (o : Outcome) (whole : Handed) → n < length ops
     → Delivers R T (get_or ops n d) result → o ≡ outcome_of result → after ≡ before ++ o ∷ []
     → with_before before (hand_over R.site R.log R.held (drop n ops)) ≡ whole → with_before after (hand_over T.site T.log T.held (drop (n + 1) ops)) ≡ whole
 handed_on R T ops n d result before after o whole b s is pushed so_far =
@@ -225,7 +225,7 @@ handed_on R T ops n d result before after o whole b s is pushed so_far =
         ∙ ap (λ i. hand_over i T.log T.held (drop (suc n) ops)) s.site
         ∙ ap₂ (λ (l h : List Operation). hand_over R.site l h (drop (suc n) ops)) s.log s.held
 
-pub handed_all : (R : Contents) (ops : List Operation) (n : ℕ) (before : List Outcome) (whole : Handed) → length ops ≤ n → with_before before (hand_over R.site R.log R.held (drop n ops)) ≡ whole
+pub handed_all : (R : ReplicaState) (ops : List Operation) (n : ℕ) (before : List Outcome) (whole : Handed) → length ops ≤ n → with_before before (hand_over R.site R.log R.held (drop n ops)) ≡ whole
     → record { outcomes = before; log = R.log; held = R.held } ≡ whole
 handed_all R ops n before whole h so_far =
     ap (λ (os : List Outcome). let q : Handed = record { outcomes = os; log = R.log; held = R.held } in q) (sym (append-nil before))

@@ -6,7 +6,7 @@ use Rattle.std.specs.declared.alloc.AllocError.{AllocError}
 use Rattle.opid.specs.declared.refusal.Refusal.{Refusal}
 use Rattle.opid.specs.declared.refusal.Refusal.TheVariants.{Memory}
 use Rattle.opid.specs.Operations.{Operation}
-use Rattle.replica.specs.Deliver.{Contents}
+use Rattle.replica.specs.Deliver.{ReplicaState}
 use Rattle.session_outbox.specs.declared.submission.Submission.TheVariants.{New, Repeat}
 use Rattle.session_outbox.specs.Sessions.{Outbox, after_accept}
 use Rattle.room.specs.declared.call.Call.{Call}
@@ -20,7 +20,7 @@ found : (S : State) (c : Call) (f : Finding) (reply : Reply) (T : State) → che
     → (reply ≡ found_answer S c (check S c)) × (T ≡ found_next S c (check S c))
 found S c f reply T e a n = (a ∙ ap (found_answer S c) (sym e), n ∙ ap (found_next S c) (sym e))
 
-pub at_once : (R : Contents) (outbox : Outbox) (c : Call) (f : Finding) (r : Option Refusal) (reply : Reply) → ((count : ℕ) → check (state_with R outbox count) c ≡ first_of f r)
+pub at_once : (R : ReplicaState) (outbox : Outbox) (c : Call) (f : Finding) (r : Option Refusal) (reply : Reply) → ((count : ℕ) → check (state_with R outbox count) c ≡ first_of f r)
     → Some reply ≡ reply_at_once f → Does R outbox c reply R outbox
 at_once R outbox c f r reply e h = record { answered = λ count. (go count f (e count) h).0; done = λ count. (go count f (e count) h).1 }
   where
@@ -31,18 +31,18 @@ at_once R outbox c f r reply e h = record { answered = λ count. (go count f (e 
     go count (Ok New) k h = cc
 
 -- what the operations of a submission did, or why there are none
-abbrev pub Carried : Option Refusal → Result (ℕ × ℕ) Refusal → Contents → List Operation → ℕ → Contents → Type 0
+abbrev pub Carried : Option Refusal → Result (ℕ × ℕ) Refusal → ReplicaState → List Operation → ℕ → ReplicaState → Type 0
 Carried r (Ok p) R more n T = (r ≡ None) × (p ≡ (length R.log, length R.log + n)) × ((count : ℕ) (outbox : Outbox) → state_with T outbox count ≡ state_with (record R { log = R.log ++ more }) outbox count)
 Carried r (Err e) R more n T = ((r ≡ Some e) ⊎ ((r ≡ None) × (e ≡ Memory))) × (T ≡ R)
 
 -- the same, by the clauses of the calls that carry it out
-pub carries : (r : Option Refusal) (result : Result (ℕ × ℕ) Refusal) (R : Contents) (more : List Operation) (n room : ℕ) (T : Contents)
+pub carries : (r : Option Refusal) (result : Result (ℕ × ℕ) Refusal) (R : ReplicaState) (more : List Operation) (n room : ℕ) (T : ReplicaState)
     → IfOk result (λ p. p ≡ (length R.log, length R.log + n)) → OnOk result (r ≡ None) → OnOk result (T ≡ record R { log = R.log ++ more; room = room }) → IfErr result (λ e. (r ≡ Some e) ⊎ ((r ≡ None) × (e ≡ Memory)))
     → OnErr result (T ≡ R) → Carried r result R more n T
-carries r (Ok p) R more n room T a b c d e = (b, a, λ count outbox. ap (λ (q : Contents). state_with q outbox count) c)
+carries r (Ok p) R more n room T a b c d e = (b, a, λ count outbox. ap (λ (q : ReplicaState). state_with q outbox count) c)
 carries r (Err w) R more n room T a b c d e = (d, e)
 
-pub carried : (R : Contents) (outbox : Outbox) (c : Call) (f : Finding) (r : Option Refusal) (s : ℕ) (more : List Operation) (n : ℕ) (submitted : Result (ℕ × ℕ) Refusal) (T : Contents)
+pub carried : (R : ReplicaState) (outbox : Outbox) (c : Call) (f : Finding) (r : Option Refusal) (s : ℕ) (more : List Operation) (n : ℕ) (submitted : Result (ℕ × ℕ) Refusal) (T : ReplicaState)
     (result : Result Reply AllocError) (outbox' : Outbox)
     → ((count : ℕ) → check (state_with R outbox count) c ≡ first_of f r)
     → ((count : ℕ) → accepted_answer (state_with R outbox count) c ≡ replies.Ok (length R.log) (length R.log + n))
@@ -69,5 +69,5 @@ carried R outbox c f r s more n submitted T result outbox' e a t h k w = go f r 
     go (Ok New) (Some y) (Err x) (Ok reply) e h (inl q, m) w =
         let same : reply ≡ replies.No y = w.1 ∙ (cc) in
         let both : (count : ℕ) → (reply ≡ _) × (state_with T outbox' count ≡ _) = λ count.
-        found (state_with R outbox count) c (Err y) reply (state_with T outbox' count) (e count) same (ap₂ (λ (q : Contents) (o : Outbox). state_with q o count) m w.2) in
+        found (state_with R outbox count) c (Err y) reply (state_with T outbox' count) (e count) same (ap₂ (λ (q : ReplicaState) (o : Outbox). state_with q o count) m w.2) in
         record { answered = λ count. (both count).0; done = λ count. (both count).1 }

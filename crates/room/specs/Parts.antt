@@ -4,7 +4,7 @@ use Rattle.std.specs.declared.alloc.AllocError.{AllocError}
 use Rattle.opid.specs.declared.refusal.Refusal.{Refusal}
 use Rattle.opid.specs.declared.refusal.Refusal.TheVariants.{Memory}
 use Rattle.opid.specs.Operations.{Operation}
-use Rattle.replica.specs.Deliver.{Contents}
+use Rattle.replica.specs.Deliver.{ReplicaState}
 use Rattle.room.specs.declared.outcome.Outcome.{Outcome}
 use Rattle.room.specs.Deliveries.{hand_over}
 use Rattle.session_outbox.specs.declared.submission.Submission.TheVariants.{New, Repeat}
@@ -15,11 +15,11 @@ use Rattle.room.specs.declared.reply.Reply.TheVariants as replies
 use Rattle.room.specs.Machine.{State, Finding, recorded_answer, recorded_next}
 
 -- the state of these parts, with so many calls counted
-abbrev pub state_with : Contents → Outbox → ℕ → State
+abbrev pub state_with : ReplicaState → Outbox → ℕ → State
 state_with replica outbox count = record { site = replica.site; log = replica.log; held = replica.held; outbox = outbox; count = count }
 
 -- a call that is recorded, however many were: its answer, and the replica and the sessions then
-pub record Does (replica : Contents) (outbox : Outbox) (c : Call) (reply : Reply) (replica' : Contents) (outbox' : Outbox) : Type 0 where
+pub record Does (replica : ReplicaState) (outbox : Outbox) (c : Call) (reply : Reply) (replica' : ReplicaState) (outbox' : Outbox) : Type 0 where
   pub answered : (count : ℕ) → reply ≡ recorded_answer (state_with replica outbox count) c
   pub done : (count : ℕ) → state_with replica' outbox' count ≡ recorded_next (state_with replica outbox count) c
 
@@ -37,6 +37,6 @@ Accepts s (Err e) old (Ok reply) new = (e ≢ Memory) × (reply ≡ replies.No e
 Accepts s (Err e) old (Err why) new = (e ≡ Memory) × (new ≡ old)
 
 -- the operations were handed over to the replica, one after another
-pub record IsHandedOver (R : Contents) (ops : List Operation) (outcomes : List Outcome) (T : Contents) : Type 0 where
+pub record IsHandedOver (R : ReplicaState) (ops : List Operation) (outcomes : List Outcome) (T : ReplicaState) : Type 0 where
   pub site : T.site ≡ R.site
   pub handed : record { outcomes = outcomes; log = T.log; held = T.held } ≡ hand_over R.site R.log R.held ops

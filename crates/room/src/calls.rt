@@ -2,7 +2,7 @@
 ghost use Rattle.std.specs.Prelude.{◌≡◌, ◌+◌, ◌-◌, ◌<◌, ◌≤◌, ℕ, [], List, None, false, IfOk, IsOk, OnErr, length, vec_capacity};
 ghost use Rattle.opid.specs.Limits.{is_bad_count};
 ghost use Rattle.replica.specs.Part.{part_of};
-ghost use Rattle.replica.specs.Deliver.{Contents};
+ghost use Rattle.replica.specs.Deliver.{ReplicaState};
 ghost use Rattle.opid.specs.Reading.{reading};
 ghost use Rattle.session_outbox.specs.Sessions.{Outbox, session_with, MayAccept};
 ghost use Rattle.session_outbox.specs.Answers.{submission_of};
@@ -169,7 +169,7 @@ fn pull(
 
 /// Ends session `s`.
 fn leave(outbox: &mut Sessions, s: u32) -> Reply
-    ensures does { (replica : Contents) → Does replica outbox.old (Leave s) result replica outbox.new }
+    ensures does { (replica : ReplicaState) → Does replica outbox.old (Leave s) result replica outbox.new }
     ensures numbers { outbox.new.next_number ≡ outbox.old.next_number }
 {
     match outbox.leave(s) {

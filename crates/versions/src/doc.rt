@@ -38,9 +38,9 @@ pub struct Doc {
 
 impl Model for Doc {
     ghost use Rattle.std.specs.Prelude.{vec_len, vec_capacity};
-    ghost use Rattle.versions.specs.Contents.{Contents};
+    ghost use Rattle.versions.specs.Document.{Document};
 
-    ghost Value = { Contents };
+    ghost Value = { Document };
 
     ghost use Rattle.versions.specs.Kept.{IsDocument, AreReserved};
 

@@ -2,7 +2,7 @@
 use Rattle.std.proofs.Common.{◌≡◌, ◌∙◌, None, Some, List, ap, sym, position}
 use Rattle.opid.specs.Clocks.{is_next}
 use Rattle.opid.specs.Operations.{Operation}
-use Rattle.holdback.specs.Offered.{Contents}
+use Rattle.holdback.specs.Offered.{HeldOperations}
 use Rattle.holdback.specs.Ready.{first_ready, without_first_ready}
 use Rattle.holdback.proofs.Places.{none_taken, all_left, taken-ready}
 use Rattle.holdback.proofs.held.Held.take_first_ready.Goals as goal
@@ -11,14 +11,14 @@ pub returns-in-None-clause-taken : goal.returns-in-None-clause-taken
 returns-in-None-clause-taken c =
     let clock = c.args.clock.now in
     let none : None ≡ position (λ (x : Operation). is_next x.site x.clock clock) c.self.inside.ops.items = c.in-None.ensures ∙ ap (position (λ (x : Operation). is_next x.site x.clock clock)) c.as_slice.ensures.value in
-    none_taken clock c.self.inside.ops.items none ∙ ap (λ (h : Contents). first_ready clock h.ops) c.self.view_is
+    none_taken clock c.self.inside.ops.items none ∙ ap (λ (h : HeldOperations). first_ready clock h.ops) c.self.view_is
 
 pub returns-in-None-clause-others : goal.returns-in-None-clause-others
 returns-in-None-clause-others c =
     let clock = c.args.clock.now in
     let none : None ≡ position (λ (x : Operation). is_next x.site x.clock clock) c.self.inside.ops.items = c.in-None.ensures ∙ ap (position (λ (x : Operation). is_next x.site x.clock clock)) c.as_slice.ensures.value in
-    let with_ops : List Operation → Contents = λ ops. record { ops = ops; room = c.self.inside.room } in
-    let others_of : Contents → Contents = λ h. record { ops = without_first_ready clock h.ops; room = h.room } in
+    let with_ops : List Operation → HeldOperations = λ ops. record { ops = ops; room = c.self.inside.room } in
+    let others_of : HeldOperations → HeldOperations = λ h. record { ops = without_first_ready clock h.ops; room = h.room } in
     sym c.self.view_is ∙ ap with_ops (all_left clock c.self.inside.ops.items none) ∙ ap others_of c.self.view_is
 
 pub returns-in-Some-clause-ready : goal.returns-in-Some-clause-ready

@@ -2,14 +2,14 @@
 use Rattle.std.proofs.Common.{◌∙◌, ◌<◌, ◌-◌, ℕ, ap, sym, arith}
 use Rattle.std.specs.Prelude.{slice_get, option_and_then}
 use Rattle.holdback.specs.Offered.{with_number}
-use Rattle.versions.specs.Contents.{Contents}
+use Rattle.versions.specs.Document.{Document}
 use Rattle.replica.proofs.Numbers.{with_number-zero, with_number-row, row-within}
 use Rattle.replica.proofs.log.Log.find.Goals as goal
 
 pub returns-then-sequence-eq0 : goal.returns-then-sequence-eq0
 returns-then-sequence-eq0 c =
     sym (ap (λ (n : ℕ). with_number (c.args.number.0, n) c.args.self.now.log) c.if-sequence-eq0.true
-    ∙ ap (λ (r : Contents). with_number (c.args.number.0, 0) r.log) (sym c.self.view_is)
+    ∙ ap (λ (r : Document). with_number (c.args.number.0, 0) r.log) (sym c.self.view_is)
     ∙ with_number-zero c.self.inside.doc.log c.self.invariant.lawful c.args.number.0)
 
 pub op-requires : goal.op-requires
@@ -21,7 +21,7 @@ pub returns-in-None : goal.returns-in-None
 returns-in-None c =
     let log = c.self.inside.doc.log in
     let positive : 0 < c.args.number.1 = omega arith in
-    sym (ap (λ (r : Contents). with_number c.args.number r.log) (sym c.self.view_is)
+    sym (ap (λ (r : Document). with_number c.args.number r.log) (sym c.self.view_is)
     ∙ with_number-row log c.self.inside.places.rows c.args.number c.self.invariant.lawful c.self.invariant.numbered c.get.ensures.sited positive
     ∙ ap (option_and_then (slice_get log)) (sym c.get.ensures.value ∙ c.in-None.is))
 
@@ -29,7 +29,7 @@ pub returns-in-Some : goal.returns-in-Some
 returns-in-Some c =
     let log = c.self.inside.doc.log in
     let positive : 0 < c.args.number.1 = omega arith in
-    sym (ap (λ (r : Contents). with_number c.args.number r.log) (sym c.self.view_is)
+    sym (ap (λ (r : Document). with_number c.args.number r.log) (sym c.self.view_is)
     ∙ with_number-row log c.self.inside.places.rows c.args.number c.self.invariant.lawful c.self.invariant.numbered c.get.ensures.sited positive
     ∙ ap (option_and_then (slice_get log)) (sym c.get.ensures.value ∙ c.in-Some.is)
     ∙ c.op.ensures.value)

@@ -1,6 +1,6 @@
 -- The table names what is found along the linked order.
 use Rattle.std.proofs.Common.{◌≡◌, ◌∙◌, ◌<◌, ap, arith, get_or, subst, sym, length, IfSome}
-use Rattle.rga_list.specs.Entries.{Contents, elem_of}
+use Rattle.rga_list.specs.Entries.{LinkedElements, elem_of}
 use Rattle.rga_list.specs.Rows.{Row, find_id}
 use Rattle.rga_list.specs.Links.{row_at}
 use Rattle.rga_list.proofs.Ordered.{named-elem_of, elem_of-within, row_same}
@@ -14,10 +14,10 @@ returns-clause-value c =
     c.find.ensures
     ∙ ap (λ (r : Row). find_id c.args.stamp.sum r.ids) row
     ∙ named-elem_of c.self.inside.nodes.items c.self.inside.first c.self.inside.tables c.args.stamp c.self.invariant.0
-    ∙ ap (λ (r : Contents). elem_of c.args.stamp r.entries) c.self.view_is
+    ∙ ap (λ (r : LinkedElements). elem_of c.args.stamp r.entries) c.self.view_is
 
 pub returns-clause-within : goal.returns-clause-within
 returns-clause-within c =
     subst (λ o. IfSome o (λ k. k < length c.args.self.now.entries)) (sym (returns-clause-value c))
-    (subst (λ (r : Contents). IfSome (elem_of c.args.stamp r.entries) (λ k. k < length r.entries)) c.self.view_is
+    (subst (λ (r : LinkedElements). IfSome (elem_of c.args.stamp r.entries) (λ k. k < length r.entries)) c.self.view_is
     (elem_of-within c.self.inside.nodes.items c.self.inside.first c.self.inside.tables c.args.stamp c.self.invariant.0))

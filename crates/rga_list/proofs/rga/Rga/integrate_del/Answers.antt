@@ -1,7 +1,7 @@
 -- A deletion hides the element that the table names for its stamp.
 use Rattle.std.proofs.Common.{◌≡◌, ◌∙◌, ◌<◌, ℕ, true, List, refl, ap, subst, sym, set, length, arith}
 use mathlib.Core.Path.{ap₂}
-use Rattle.rga_list.specs.Entries.{Contents, Entry, has_stamp, hidden, is_shown}
+use Rattle.rga_list.specs.Entries.{LinkedElements, Entry, has_stamp, hidden, is_shown}
 use Rattle.rga_list.specs.Links.{entries_of, IsList}
 use Rattle.rga_list.proofs.Ordered.{has_stamp-some, has_stamp-none}
 use Rattle.rga_list.proofs.Deleted.{off, target-within, deleted}
@@ -14,13 +14,13 @@ after : (c : goal.After-self-1) → IsList (set c.self.inside.nodes.items c.in-S
     × (c.index_mut-node.result.now.shown ≡ is_shown c.args.target c.args.self.now.entries)
 after c =
     deleted c.self.inside.nodes.items c.self.inside.first c.self.inside.tables c.args.target c.in-Some.elem c.index_mut-node.result.now c.args.self.now.entries
-    c.self.invariant.0 (ap (λ (r : Contents). r.entries) c.self.view_is) (sym c.elem_of.ensures.value ∙ c.in-Some.is) c.index_mut-node.ensures.value
+    c.self.invariant.0 (ap (λ (r : LinkedElements). r.entries) c.self.view_is) (sym c.elem_of.ensures.value ∙ c.in-Some.is) c.index_mut-node.ensures.value
 
 pub index_mut-node-requires : goal.index_mut-node-requires
 index_mut-node-requires c =
     let within : c.in-Some.elem < length c.self.inside.nodes.items =
     target-within c.self.inside.nodes.items c.self.inside.first c.self.inside.tables c.args.target c.in-Some.elem c.args.self.now.entries
-    c.self.invariant.0 (ap (λ (r : Contents). r.entries) c.self.view_is) (sym c.elem_of.ensures.value ∙ c.in-Some.is) in
+    c.self.invariant.0 (ap (λ (r : LinkedElements). r.entries) c.self.view_is) (sym c.elem_of.ensures.value ∙ c.in-Some.is) in
     omega arith
 
 pub invariant_of-self : goal.invariant_of-self
@@ -31,7 +31,7 @@ returns-in-None-clause-cause c = (refl, has_stamp-none c.args.target c.args.self
 
 pub returns-in-Some-clause-list : goal.returns-in-Some-clause-list
 returns-in-Some-clause-list c =
-    ap₂ (λ (e : List Entry) (n : ℕ). let r : Contents = record { entries = e; room = n } in r) (after c).1 (ap (λ (r : Contents). r.room) c.self.view_is)
+    ap₂ (λ (e : List Entry) (n : ℕ). let r : LinkedElements = record { entries = e; room = n } in r) (after c).1 (ap (λ (r : LinkedElements). r.room) c.self.view_is)
 
 pub returns-in-Some-clause-shown : goal.returns-in-Some-clause-shown
 returns-in-Some-clause-shown c = (after c).2

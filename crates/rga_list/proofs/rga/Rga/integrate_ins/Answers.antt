@@ -4,7 +4,7 @@ use mathlib.Core.Path.{ap₂}
 use Rattle.std.specs.Prelude.{option_and_then}
 use Rattle.std.specs.List.{AllByRecursion as Each}
 use Rattle.rga_list.specs.declared.links.Node.{Node}
-use Rattle.rga_list.specs.Entries.{Contents, Entry, elem_of, elem_before, placed, parent_refusal, IsAboveItsSite}
+use Rattle.rga_list.specs.Entries.{LinkedElements, Entry, elem_of, elem_before, placed, parent_refusal, IsAboveItsSite}
 use Rattle.rga_list.specs.Rows.{Row}
 use Rattle.rga_list.specs.Links.{entries_of, row_at, IsList, following, Ends, Walked, put_in, first_then}
 use Rattle.rga_list.proofs.Ordered.{length-entries, row_same, row-below}
@@ -15,14 +15,14 @@ use Rattle.rga_list.proofs.rga.Rga.integrate_ins.Goals as goal
 
 pub after-at-requires : goal.after-at-requires
 after-at-requires c =
-    let shows : entries_of c.self.inside.nodes.items c.self.inside.first ≡ c.args.self.now.entries = ap (λ (r : Contents). r.entries) c.self.view_is in
+    let shows : entries_of c.self.inside.nodes.items c.self.inside.first ≡ c.args.self.now.entries = ap (λ (r : LinkedElements). r.entries) c.self.view_is in
     rw c.as_slice.ensures.value
     (parent-within c.self.inside.nodes.items c.self.inside.first c.self.inside.tables c.args.parent c.in_ok-before.before c.self.invariant.0
     (subst (λ v. c.in_ok-before.before ≡ option_and_then (λ p. elem_of p v) c.args.parent) (sym shows) c.in_ok-before.ensures.elem))
 
 pub walk-last-requires : goal.walk-last-requires
 walk-last-requires c =
-    let shows : entries_of c.self.inside.nodes.items c.self.inside.first ≡ c.args.self.now.entries = ap (λ (r : Contents). r.entries) c.self.view_is in
+    let shows : entries_of c.self.inside.nodes.items c.self.inside.first ≡ c.args.self.now.entries = ap (λ (r : LinkedElements). r.entries) c.self.view_is in
     subst (λ (v : List Node). Ends v c.after-at.result) (sym c.as_slice-2.ensures.value)
     (walk-ends c.self.inside.nodes.items c.self.inside.first c.self.inside.tables c.args.stamp c.args.parent c.in_ok-before.before c.after-at.result c.args.self.now.entries
     c.self.invariant.0 shows c.in_ok-before.ensures.ok c.in_ok-before.ensures.elem
@@ -30,7 +30,7 @@ walk-last-requires c =
 
 pub push-requires : goal.push-requires
 push-requires c =
-    let shows : entries_of c.self.inside.nodes.items c.self.inside.first ≡ c.args.self.now.entries = ap (λ (r : Contents). r.entries) c.self.view_is in
+    let shows : entries_of c.self.inside.nodes.items c.self.inside.first ≡ c.args.self.now.entries = ap (λ (r : LinkedElements). r.entries) c.self.view_is in
     let place : c.from-site.result ≡ c.args.stamp.site = c.from-site.ensures ∙ c.number.ensures.value in
     let row : get_or c.self.inside.tables c.from-site.result c.index-self-site.result ≡ row_at c.self.inside.tables c.args.stamp.site =
     row_same c.self.inside.tables c.from-site.result c.args.stamp.site c.index-self-site.result place (omega (arith, c.from-site.ensures, c.number.ensures.range, c.self.invariant.0.width)) in
@@ -40,7 +40,7 @@ push-requires c =
 
 pub link-requires-clause-within : goal.link-requires-clause-within
 link-requires-clause-within c =
-    let shows : entries_of c.self.inside.nodes.items c.self.inside.first ≡ c.args.self.now.entries = ap (λ (r : Contents). r.entries) c.self.view_is in
+    let shows : entries_of c.self.inside.nodes.items c.self.inside.first ≡ c.args.self.now.entries = ap (λ (r : LinkedElements). r.entries) c.self.view_is in
     let size : length c.self.inside.nodes.items ≡ vec_len c.reserve.new.self = omega (arith, c.reserve.ensures.len) in
     subst (λ n. IfSome c.walk-last.result.0 (λ k. k < n)) size
     (walk-last c.self.inside.nodes.items c.self.inside.first c.self.inside.tables c.args.stamp c.args.parent c.in_ok-before.before c.after-at.result c.walk-last.result.0 c.walk-last.result.1 c.args.self.now.entries
@@ -53,7 +53,7 @@ after : (c : goal.After-self-1) → IsList c.link.new.nodes.items c.link.new.fir
     × (entries_of c.link.new.nodes.items c.link.new.first ≡ placed c.args.parent (record { elem = length c.args.self.now.entries; stamp = c.args.stamp; ch = c.args.ch; shown = true }) c.args.self.now.entries)
     × (c.walk-last.result.0 ≡ elem_before c.len-elem.result None (entries_of c.link.new.nodes.items c.link.new.first))
 after c =
-    let shows : entries_of c.self.inside.nodes.items c.self.inside.first ≡ c.args.self.now.entries = ap (λ (r : Contents). r.entries) c.self.view_is in
+    let shows : entries_of c.self.inside.nodes.items c.self.inside.first ≡ c.args.self.now.entries = ap (λ (r : LinkedElements). r.entries) c.self.view_is in
     let few : length c.self.inside.nodes.items < 131072 = search rules in
     let size : c.len-elem.result ≡ length c.self.inside.nodes.items = omega (arith, c.len-elem.ensures, c.reserve.ensures.len) in
     inserted c.self.inside.nodes.items c.link.new.nodes.items c.self.inside.first c.link.new.first c.self.inside.tables c.from-site.result
@@ -86,9 +86,9 @@ invariant_of-self-2 c =
 
 pub returns-clause-list : goal.returns-clause-list
 returns-clause-list c =
-    ap₂ (λ (e : List Entry) (n : ℕ). let r : Contents = record { entries = e; room = n } in r)
+    ap₂ (λ (e : List Entry) (n : ℕ). let r : LinkedElements = record { entries = e; room = n } in r)
     (after c).1
-    (c.saturating_sub-self-inside.ensures ∙ ap (λ (r : Contents). r.room - 1) c.self.view_is)
+    (c.saturating_sub-self-inside.ensures ∙ ap (λ (r : LinkedElements). r.room - 1) c.self.view_is)
 
 pub returns-clause-before : goal.returns-clause-before
 returns-clause-before c = (after c).2
@@ -108,5 +108,5 @@ pub returns-clause-grown : goal.returns-clause-grown
 returns-clause-grown c =
     let new : length (entries_of c.link.new.nodes.items c.link.new.first) ≡ length c.link.new.nodes.items = length-entries c.link.new.nodes.items c.link.new.first (after c).0.linked in
     let old : length c.args.self.now.entries ≡ length c.self.inside.nodes.items =
-    sym (ap (λ (r : Contents). length r.entries) c.self.view_is) ∙ length-entries c.self.inside.nodes.items c.self.inside.first c.self.invariant.0.linked in
+    sym (ap (λ (r : LinkedElements). length r.entries) c.self.view_is) ∙ length-entries c.self.inside.nodes.items c.self.inside.first c.self.invariant.0.linked in
     omega (arith, new, old, c.link.ensures.len, c.reserve.ensures.len)

@@ -1,7 +1,7 @@
 -- The greatest of a row is the greatest stamp of its site.
 use Rattle.std.proofs.Common.{◌≡◌, ◌≢◌, ◌∙◌, ap, arith, get_or, subst, sym}
 use Rattle.std.specs.List.{AllByRecursion}
-use Rattle.rga_list.specs.Entries.{Contents, IsGreatestOf}
+use Rattle.rga_list.specs.Entries.{LinkedElements, IsGreatestOf}
 use Rattle.rga_list.specs.Rows.{Row, IsGreatest}
 use Rattle.rga_list.specs.Links.{row_at}
 use Rattle.rga_list.proofs.Ordered.{greatest, no_greatest, above_greatest, above_none, row_same}
@@ -13,7 +13,7 @@ returns-in_err-sum-clause-none c =
     let row : get_or c.self.inside.tables c.from.result c.index-self-from.result ≡ row_at c.self.inside.tables c.args.site =
     row_same c.self.inside.tables c.from.result c.args.site c.index-self-from.result place (omega (arith, c.from.ensures, c.number.ensures.range, c.self.told)) in
     rw c.from_residual.ensures
-    (subst (λ (r : Contents). AllByRecursion (λ e. e.stamp.site ≢ c.args.site) r.entries) c.self.view_is
+    (subst (λ (r : LinkedElements). AllByRecursion (λ e. e.stamp.site ≢ c.args.site) r.entries) c.self.view_is
     (no_greatest c.self.inside.nodes.items c.self.inside.first c.self.inside.tables c.args.site c.self.invariant.0
     (ap (λ (r : Row). r.ids) (sym row) ∙ c.in_err-sum.ensures.none)))
 
@@ -22,7 +22,7 @@ returns-clause-some c =
     let place : c.from.result ≡ c.args.site = c.from.ensures ∙ c.number.ensures.value in
     let row : get_or c.self.inside.tables c.from.result c.index-self-from.result ≡ row_at c.self.inside.tables c.args.site =
     row_same c.self.inside.tables c.from.result c.args.site c.index-self-from.result place (omega (arith, c.from.ensures, c.number.ensures.range, c.self.told)) in
-    subst (λ (r : Contents). IsGreatestOf r.entries c.args.site (record { sum = c.in_ok-sum.sum; site = c.args.site })) c.self.view_is
+    subst (λ (r : LinkedElements). IsGreatestOf r.entries c.args.site (record { sum = c.in_ok-sum.sum; site = c.args.site })) c.self.view_is
     (greatest c.self.inside.nodes.items c.self.inside.first c.self.inside.tables c.args.site c.in_ok-sum.sum c.self.invariant.0
     (subst (λ (r : Row). IsGreatest r.ids c.in_ok-sum.sum) row c.in_ok-sum.ensures.some))
 

@@ -3,7 +3,7 @@ use Rattle.opid.specs.Operations.{Operation}
 use Rattle.opid.specs.Reading.{reading}
 use Rattle.opid.specs.Splice.{apply}
 use Rattle.opid.proofs.Logs.{IsSound-lawful}
-use Rattle.versions.specs.Contents.{Contents}
+use Rattle.versions.specs.Document.{Document}
 use Rattle.versions.proofs.doc.Doc.integrate.Goals as goal
 
 pub refusal_of-requires-clause-sound : goal.refusal_of-requires-clause-sound
@@ -11,5 +11,5 @@ refusal_of-requires-clause-sound c = IsSound-lawful c.self.inside.log.ops c.self
 
 pub returns-clause-leads : goal.returns-clause-leads
 returns-clause-leads c =
-    ap (λ (l : List Operation). apply (reading l) c.integrate-edit.result) (sym (c.make_room.ensures.log ∙ ap (λ (r : Contents). r.log) c.self.view_is))
+    ap (λ (l : List Operation). apply (reading l) c.integrate-edit.result) (sym (c.make_room.ensures.log ∙ ap (λ (r : Document). r.log) c.self.view_is))
     ∙ c.integrate-edit.ensures.leads

@@ -3,6 +3,6 @@ use Rattle.std.specs.Prelude.{ℕ, List}
 use Rattle.opid.specs.Operations.{Operation}
 
 -- the log, and how many further operations have their memory already
-pub record Contents : Type 0 where
+pub record Document : Type 0 where
   pub log : List Operation
   pub room : ℕ
