@@ -2,14 +2,7 @@
 #![tactic(auto)]
 
 mod command_line;
-#[cfg(test)]
-mod conversations;
-#[cfg(test)]
-mod exchanges;
-#[cfg(test)]
-mod kept;
-#[cfg(test)]
-mod page;
+mod ending;
 mod plan;
 mod play;
 mod play_lines;
@@ -18,14 +11,13 @@ mod sending;
 mod stop;
 
 use command_line::plan;
+use ending::Ending;
 use plan::PlanFault;
 use play::play;
+use std::alloc::AllocError;
 use std::process::ExitCode;
 use std::{env, io};
 use ws_server::Counted;
-
-/// The words are bad.
-const BAD_WORDS: u8 = 2;
 
 // The words of the command line, the program's name first.
 fn words_of(rt: &HostRuntime) -> io::Result<Vec<String>> {
@@ -36,42 +28,46 @@ fn words_of(rt: &HostRuntime) -> io::Result<Vec<String>> {
     Ok(words)
 }
 
-fn main(rt: HostRuntime) -> ExitCode {
-    let alloc = rt.alloc();
-    let words = match words_of(&rt) {
+// Why there are no words.
+fn wordless(rt: &HostRuntime, why: &io::Error) -> Result<PlanFault, AllocError> {
+    if why.kind() == io::ErrorKind::OutOfMemory {
+        return Ok(PlanFault::Memory);
+    }
+    let text = "error: a word of the command line is no UTF-8\n";
+    Ok(PlanFault::Words(String::from_str(rt.alloc(), text)?))
+}
+
+// Does what the words ask for.
+fn run(rt: &HostRuntime) -> Result<(), Ending> {
+    let words = match words_of(rt) {
         Ok(words) => words,
-        Err(e) if e.kind() == io::ErrorKind::OutOfMemory => {
-            let _ = eprintln!(rt; "rgatext: fault memory");
-            return ExitCode::FAILURE;
-        }
-        Err(_) => {
-            let _ = eprintln!(rt; "error: a word of the command line is no UTF-8");
-            return ExitCode::from(BAD_WORDS);
+        Err(why) => {
+            let fault = wordless(rt, &why).unwrap_or(PlanFault::Memory);
+            return Err(Ending::Unplanned(fault));
         }
     };
-    match plan(alloc, &words) {
-        Ok(plan) => {
-            let mut input = Counted::new(rt.stdin());
-            let mut output = Counted::new(rt.stdout());
-            match play(alloc, &plan, &mut input, &mut output) {
-                Ok(()) => ExitCode::SUCCESS,
-                Err(stop) => {
-                    let _ = eprintln!(rt; "rgatext: {stop}");
-                    ExitCode::FAILURE
-                }
+    let plan = match plan(rt.alloc(), &words) {
+        Ok(plan) => plan,
+        Err(why) => return Err(Ending::Unplanned(why)),
+    };
+    let mut input = Counted::new(rt.stdin());
+    let mut output = Counted::new(rt.stdout());
+    match play(rt.alloc(), &plan, &mut input, &mut output) {
+        Ok(()) => Ok(()),
+        Err(why) => Err(Ending::Stopped(why)),
+    }
+}
+
+fn main(rt: HostRuntime) -> ExitCode {
+    match run(&rt) {
+        Ok(()) => ExitCode::SUCCESS,
+        Err(ending) => {
+            if ending.is_output() {
+                let _ = print!(rt; "{ending}");
+            } else {
+                let _ = eprint!(rt; "{ending}");
             }
-        }
-        Err(PlanFault::Help(text)) => {
-            let _ = print!(rt; "{text}");
-            ExitCode::SUCCESS
-        }
-        Err(PlanFault::Words(text)) => {
-            let _ = eprint!(rt; "{text}");
-            ExitCode::from(BAD_WORDS)
-        }
-        Err(PlanFault::Memory) => {
-            let _ = eprintln!(rt; "rgatext: fault memory");
-            ExitCode::FAILURE
+            ExitCode::from(ending.status())
         }
     }
 }

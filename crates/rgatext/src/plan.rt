@@ -33,7 +33,7 @@ pub enum PlanFault {
     #[error("{0}")]
     Words(String),
     /// Memory was refused.
-    #[error("memory was refused\n")]
+    #[error("rgatext: fault memory\n")]
     Memory,
 }
 
