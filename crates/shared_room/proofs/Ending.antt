@@ -125,10 +125,10 @@ pub is_pass : (room : SharedRoom) (p : Pass) → locks.IsPassOf room.lock p.pass
 is_pass room p h idle = record {
   pass = h;
   idle = idle;
-  legal = legal_calls (locks.sight p.pass).seen h.whole.0.room h.whole.1 (record { rising = h.whole.0.rising; limit = h.whole.0.limit });
-  short = short_calls (locks.sight p.pass) room.lock.table.shared.key.value.room h.whole.0.room h.opening h.whole.1 h.whole.0.short;
-  owns = owns_calls (locks.sight p.pass).mine (locks.sight p.pass).seen h.whole.0.room h.mine h.whole.1 h.whole.0.rising;
-  distinct = distinct_calls (locks.sight p.pass).mine h.made.0.room h.made.1 h.made.0.rising;
+  legal = legal_calls (locks.sight p.pass).seen h.whole.0.room.value h.whole.1 (record { rising = h.whole.0.rising; limit = h.whole.0.limit });
+  short = short_calls (locks.sight p.pass) room.lock.table.shared.key.value.room.value h.whole.0.room.value h.opening h.whole.1 h.whole.0.short;
+  owns = owns_calls (locks.sight p.pass).mine (locks.sight p.pass).seen h.whole.0.room.value h.mine h.whole.1 h.whole.0.rising;
+  distinct = distinct_calls (locks.sight p.pass).mine h.made.0.room.value h.made.1 h.made.0.rising;
 }
 
 -- ---- a whole turn

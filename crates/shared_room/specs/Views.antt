@@ -48,7 +48,7 @@ left p = (view p).left
 
 -- how the room was opened
 abbrev pub opening : SharedRoom → State
-opening room = opening_in (locks.opening_of (λ (kept : KeptRoom). trail_of kept.room) room.lock)
+opening room = opening_in (locks.opening_of (λ (kept : KeptRoom). trail_of kept.room.value) room.lock)
 
 -- no two of the calls have one ticket
 abbrev pub AreDistinct : List (ℕ × Call) → Type 0

@@ -9,7 +9,7 @@ ghost use Rattle.shared_room.specs.Trails.{trail_of};
 
 use history_lock::Trailed;
 use room::{Call, Reply, Room};
-use std::alloc::AllocError;
+use std::alloc::{AllocError, Global};
 use std::marker::Model;
 
 /// How a room was opened. No value of it is made.
@@ -33,51 +33,53 @@ pub(crate) enum Item {
     Made(u64, Call),
 }
 
-/// The room under its lock. What a turn finds, and what a meeting tells of, is the trail of some value of this type, so
-/// its ghost fields hold of each history that a pass has seen.
+/// The room under its lock, boxed, since each turn moves the value out of the lock's slot and back. What a turn finds, and
+/// what a meeting tells of, is the trail of some value of this type, so its ghost fields hold of each history that a pass
+/// has seen.
 #[derive(Drop)]
 pub(crate) struct KeptRoom {
-    pub(crate) room: Room,
-    ghost rising: { AreRisingFrom 0 room.history } by { AreRisingFrom-prop 0 room.history },
-    ghost limit: { length room.history ≤ 1048576 },
-    ghost short: { length (state_of room.opening room.history).log ≤ 131072 },
+    pub(crate) room: Box<Room>,
+    ghost rising: { AreRisingFrom 0 room.value.history } by { AreRisingFrom-prop 0 room.value.history },
+    ghost limit: { length room.value.history ≤ 1048576 },
+    ghost short: { length (state_of room.value.opening room.value.history).log ≤ 131072 },
 }
 
 impl Trailed for KeptRoom {
     type Entry = Item;
 
-    ghost trail = { λ kept. trail_of kept.room };
+    ghost trail = { λ kept. trail_of kept.room.value };
 
-    ghost mark = { λ kept. mark kept.room.history };
+    ghost mark = { λ kept. mark kept.room.value.history };
 }
 
 impl KeptRoom {
     /// The room for its lock.
-    pub(crate) fn new(room: Room) -> KeptRoom
-        ensures { result.room ≡ room }
+    pub(crate) fn new(alloc: Global, room: Room) -> Result<KeptRoom, AllocError>
+        ensures { IfOk result (λ kept. kept.room.value ≡ room) }
     {
         prove!(room.history().len() <= 1_048_576);
-        KeptRoom { room }
+        let room = Box::new(alloc, room)?;
+        Ok(KeptRoom { room })
     }
 
     /// The room again.
     pub(crate) fn into_room(self) -> Room
-        ensures { result ≡ self.room }
+        ensures { result ≡ self.room.value }
     {
         let KeptRoom { room } = self;
-        room
+        Box::into_inner(room)
     }
 
     /// Answers a call and records it, as `Room::call` does.
     pub(crate) fn call(&mut self, ticket: u64, call: Call) -> Result<Reply, AllocError>
-        requires least { mark self.old.room.history ≤ ticket }
+        requires least { mark self.old.room.value.history ≤ ticket }
         requires most { ticket < 2 ^ 62 }
-        ensures answered { IfOk result (λ reply. reply ≡ answer self.old.room.state call) }
-        ensures called { OnOk result (self.new.room ≡ called self.old.room ticket call) }
-        ensures err { OnErr result (self.new.room ≡ self.old.room) }
-        ensures full { IfOk result (λ reply. (reply ≡ No HistoryFull) ↔ (length self.old.room.history ≡ 1048576)) }
-        ensures before { IsConsistent self.old.room }
-        ensures consistent { IsConsistent self.new.room }
+        ensures answered { IfOk result (λ reply. reply ≡ answer self.old.room.value.state call) }
+        ensures called { OnOk result (self.new.room.value ≡ called self.old.room.value ticket call) }
+        ensures err { OnErr result (self.new.room.value ≡ self.old.room.value) }
+        ensures full { IfOk result (λ reply. (reply ≡ No HistoryFull) ↔ (length self.old.room.value.history ≡ 1048576)) }
+        ensures before { IsConsistent self.old.room.value }
+        ensures consistent { IsConsistent self.new.room.value }
     {
         prove!(self.room.history().len() <= 1_048_576);
         self.room.call(ticket, call)

@@ -26,14 +26,14 @@ pub struct SharedRoom {
 impl SharedRoom {
     /// Shares a room that has recorded no call. The first pass may make 2^62 calls.
     ///
-    /// Takes memory for the lock, whatever the room's size. The only error is for want of it; the room is dropped then.
+    /// Takes memory for the lock and a box, whatever the room's size. The only error is for want of it; the room is dropped then.
     pub fn new(alloc: Global, room: Room) -> Result<(SharedRoom, Pass), AllocError>
         requires { room.history ≡ [] }
         ensures pass { IfOk result (λ r. IsPassOf r.0 r.1) }
         ensures opening { IfOk result (λ r. opening r.0 ≡ room.opening) }
         ensures opened { IfOk result (λ r. view r.1 ≡ record { seen = []; found = []; mine = []; drawn = 0; left = 2 ^ 62; lost = 0 }) }
     {
-        let (lock, pass) = TicketLock::new(alloc, KeptRoom::new(room))?;
+        let (lock, pass) = TicketLock::new(alloc, KeptRoom::new(alloc, room)?)?;
         Ok((SharedRoom { lock }, Pass { pass }))
     }
 
@@ -149,9 +149,9 @@ impl SharedRoom {
     ) -> Result<Reply, Refusal>
         requires pass { locks.IsPassOf self.now.lock pass.old.pass }
         requires hold { locks.HasHold pass.old.pass hold }
-        requires found { (sight pass.old.pass).found ≡ trail_of hold.value.room }
-        requires seen { (sight pass.old.pass).seen ≡ trail_of hold.value.room }
-        requires marked { mark hold.value.room.history ≤ ticket_of hold }
+        requires found { (sight pass.old.pass).found ≡ trail_of hold.value.room.value }
+        requires seen { (sight pass.old.pass).seen ≡ trail_of hold.value.room.value }
+        requires marked { mark hold.value.room.value.history ≤ ticket_of hold }
         requires most { ticket_of hold < 2 ^ 62 }
         ensures pass { IsPassOf self.now pass.new }
         ensures ends { Ends (opening self.now) (view pass.old) (view pass.new) call result }
