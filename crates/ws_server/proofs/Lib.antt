@@ -6,3 +6,4 @@ pub mod Held
 pub mod Reading
 pub mod Rounds
 pub mod Arms
+pub mod Making

@@ -1,6 +1,7 @@
 -- What a read that goes on gives.
 use Rattle.std.proofs.Common.{◌≡◌, ◌≢◌, ℕ, ◌+◌, ◌<◌, List, [], ◌∷◌, ◌++◌, length, take, drop, Option, None, Some, sym, ap, ◌∙◌, append_assoc, arith, length-append}
 use Rattle.std.specs.Io.KnownBytes.{Consumes}
+use Rattle.std.proofs.lemmas.List.{take_at}
 use Rattle.std.proofs.lemmas.List.Elements.{All-append, All-same}
 use Rattle.ws_server.specs.Lines.{IsLine}
 use Rattle.ws_server.specs.Turns.{Skips, Cuts}
@@ -39,6 +40,15 @@ pub skip_more : (a b d : Option (List ℕ)) (skipped held got filled bytes : Lis
 skip_more a b d skipped held got filled bytes c plain none c' f e front =
     let gb : got ≡ bytes = sym (e ∙ f ∙ ap (λ t. t ++ got) none) in
     (skipped ++ got, Consumes-then a b d skipped got c c', plain_append skipped got plain (plain_same got bytes gb front))
+
+-- more was read behind bytes that have no LF
+pub line_more : (a b d : Option (List ℕ)) (start got window more new bytes : List ℕ) (seen : ℕ)
+    → Consumes a b got → window ≡ start ++ got → Consumes b d more → new ≡ window ++ more → bytes ≡ window → IsLine bytes → seen ≡ length window
+    → ((all : List ℕ) × Consumes a d all × (new ≡ start ++ all)) × IsLine (take seen new)
+line_more a b d start got window more new bytes seen c w c' e same plain s = (
+  (got ++ more, Consumes-then a b d got more c c', e ∙ ap (λ t. t ++ more) w ∙ append_assoc start got more),
+  plain_same (take seen new) bytes (ap (take seen) e ∙ take_at window more seen (sym s) ∙ sym same) plain,
+)
 
 -- the bytes at hand were too many for a line, and the rest of it was skipped
 pub long_skipped : (limit : ℕ) (a b d : Option (List ℕ)) (start got window bytes held : List ℕ) (r : Option Next)

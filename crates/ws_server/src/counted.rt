@@ -2,11 +2,11 @@
 ghost use Rattle.std.specs.Prelude.{◌≡◌, ◌⊎◌, ◌+◌, ◌-◌, ◌^◌, ℕ, List, [], Result, ◌<◌, ◌≤◌, take, length, MatchOption, MatchBool, IfOk};
 ghost use Rattle.std.specs.Io.KnownBytes.{Keeps, Appends, Consumes, IsAtEnd};
 ghost use Rattle.std.specs.declared.io.Error.{Error};
-ghost use Rattle.ws_server.specs.Calls.{Makes, failed_reads};
+ghost use Rattle.ws_server.specs.Calls.{Makes, failed_reads, CountsWrites};
 ghost use Rattle.ws_server.specs.Counting.{ReadGave, WriteTook, WroteAll};
 
+use crate::sink::Sink;
 use crate::source::Source;
-use std::io::Write;
 
 /// A reader or writer with the number of its calls that failed, or that wrote 0 bytes.
 #[derive(Debug, Drop)]
@@ -60,9 +60,9 @@ impl<R: Source> Counted<R> {
         requires few_failed { self.old.failures < 2 ^ 63 }
         ensures gave { ReadGave (R.remaining self.old.inner) (R.remaining self.new.inner) result buf.new }
         ensures counted { MatchOption result (self.new.failures ≡ self.old.failures + 1) (λ _. self.new.failures ≡ self.old.failures) }
-        ensures made { (results : List (Result ℕ Error)) × Makes R.reads self.old.inner results self.new.inner
+        ensures made { (results : List (Result ℕ Error)) × Makes (λ s r t. R.reads s (length buf.old) r t) self.old.inner results self.new.inner
             × ((self.new.failures ≡ self.old.failures + failed_reads results)
-            ⊎ ((self.old.calls ≡ 2 ^ 64 - 1) × (results ≡ []) × (self.new.failures ≡ self.old.failures + 1))) }
+            ⊎ ((self.old.calls ≡ 2 ^ 64 - 1) × (self.new.calls ≡ self.old.calls) × (results ≡ []) × (self.new.failures ≡ self.old.failures + 1))) }
         ensures calls { MatchOption result (self.old.calls ≤ self.new.calls) (λ _. self.new.calls ≡ self.old.calls + 1) }
     {
         if self.calls == u64::MAX {
@@ -80,16 +80,17 @@ impl<R: Source> Counted<R> {
     }
 }
 
-impl<W: Write> Counted<W> {
+impl<W: Sink> Counted<W> {
     /// One write: how many bytes it took, or `None` where it failed or took none. Takes the time of one call of the
     /// writer.
     pub fn write(&mut self, buf: &[u8]) -> Option<usize>
         requires few_failed { self.old.failures < 2 ^ 63 }
         ensures took { WriteTook (W.contents self.old.inner) (W.contents self.new.inner) result buf.now }
         ensures counted { MatchOption result (self.new.failures ≡ self.old.failures + 1) (λ _. self.new.failures ≡ self.old.failures) }
+        ensures made { CountsWrites W.writes self.old.inner self.old.failures self.new.inner self.new.failures }
         ensures reads { self.new.calls ≡ self.old.calls }
     {
-        match self.inner.write(buf) {
+        match self.inner.write_once(buf) {
             Ok(0) => {
                 self.failures += 1;
                 None
@@ -104,10 +105,12 @@ impl<W: Write> Counted<W> {
 
     /// Writes all the bytes, in one call where the writer takes them whole. `false` where a call failed or took none:
     /// then some of the bytes may be written. Makes at most as many calls as there are bytes.
+    #[tactic(auto, using(crate::proofs::Making::writes_none, crate::proofs::Making::writes_more))]
     pub fn write_all(&mut self, bytes: &[u8]) -> bool
         requires few_failed { self.old.failures < 2 ^ 63 }
         ensures wrote { WroteAll (W.contents self.old.inner) (W.contents self.new.inner) result bytes.now }
         ensures counted { MatchBool result (self.new.failures ≡ self.old.failures) (self.new.failures ≡ self.old.failures + 1) }
+        ensures made { CountsWrites W.writes self.old.inner self.old.failures self.new.inner self.new.failures }
         ensures reads { self.new.calls ≡ self.old.calls }
     {
         let mut rest = bytes;

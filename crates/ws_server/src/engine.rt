@@ -6,6 +6,7 @@ ghost use Rattle.room.specs.declared.reply.Reply.TheVariants.{No};
 ghost use Rattle.wire_json.specs.Text.{text};
 ghost use Rattle.ws_server.specs.Answers.{Answers};
 ghost use Rattle.ws_server.specs.ServedLines.{Serves, StartsNot};
+ghost use Rattle.ws_server.specs.Calls.{for_a_block, CountsReads, CountsWrites};
 ghost use Rattle.ws_server.specs.Counting.{Rises};
 ghost use Rattle.ws_server.specs.Turns.{Turn, after_sending, SentOn, work};
 
@@ -14,15 +15,15 @@ use crate::fault::ServeFault;
 use crate::fixed::refusal_line;
 use crate::protocol::Protocol;
 use crate::requests::Requests;
+use crate::sink::Sink;
 use crate::source::Source;
 use crate::window::{Next, Window, next_line};
 use opid::Refusal;
 use room::Desk;
 use std::alloc::Global;
-use std::io::Write;
 
 // Answers one line and sends the answer.
-fn serve_line<P: Protocol, W: Write>(
+fn serve_line<P: Protocol, W: Sink>(
     alloc: Global,
     state: &mut P::State,
     line: &[u8],
@@ -34,6 +35,7 @@ fn serve_line<P: Protocol, W: Write>(
     ensures sent { (text : List ℕ) × P.answers state.old line.now text state.new
         × SentOn (W.contents output.old.inner) (W.contents output.new.inner) text result }
     ensures counted { Rises 0 0 output.old.failures output.new.failures result }
+    ensures writes { CountsWrites W.writes output.old.inner output.old.failures output.new.inner output.new.failures }
 {
     let Ok(made) = P::answer(alloc, state, line) else {
         return Err(ServeFault::Memory);
@@ -46,11 +48,12 @@ fn serve_line<P: Protocol, W: Write>(
 }
 
 // Sends the answer to a line that was too long.
-fn refuse_long<W: Write>(output: &mut Counted<W>) -> Result<(), ServeFault>
+fn refuse_long<W: Sink>(output: &mut Counted<W>) -> Result<(), ServeFault>
     requires few_failed { output.old.failures < 2 ^ 63 }
     ensures sent { SentOn (W.contents output.old.inner) (W.contents output.new.inner) (text (No TooLong)) result }
     ensures write { IfErr result (λ why. why ≡ ServeFault.Write) }
     ensures counted { Rises 0 0 output.old.failures output.new.failures result }
+    ensures writes { CountsWrites W.writes output.old.inner output.old.failures output.new.inner output.new.failures }
 {
     if output.write_all(refusal_line(Refusal::TooLong)) {
         Ok(())
@@ -60,7 +63,8 @@ fn refuse_long<W: Write>(output: &mut Counted<W>) -> Result<(), ServeFault>
 }
 
 // One turn: reads the next line and serves it. `Ok(false)` at the input's end.
-fn serve_next<P: Protocol, R: Source, W: Write>(
+#[tactic(auto, using(crate::proofs::Making::writes_none))]
+fn serve_next<P: Protocol, R: Source, W: Sink>(
     alloc: Global,
     window: &mut Window,
     state: &mut P::State,
@@ -76,6 +80,8 @@ fn serve_next<P: Protocol, R: Source, W: Write>(
         × Appends (W.contents output.old.inner) (W.contents output.new.inner) written
         × Turn P.answers state.old (window.old ++ got) (R.remaining input.new.inner) window.new written result state.new }
     ensures counts { Rises input.old.failures input.new.failures output.old.failures output.new.failures result }
+    ensures reads { CountsReads (for_a_block R.reads) input.old.inner input.old.failures input.new.inner input.new.calls input.new.failures }
+    ensures writes { CountsWrites W.writes output.old.inner output.old.failures output.new.inner output.new.failures }
     ensures smaller { IfOk result (λ goes_on. IsTrue goes_on → work input.new.calls window.new < work input.old.calls window.old) }
 {
     let Some(next) = next_line(P::LIMIT, window, input) else {
@@ -123,7 +129,7 @@ fn goes_on(sent: Result<(), ServeFault>, more: bool) -> Result<bool, ServeFault>
 ///
 /// Reads into all the room behind the bytes held, at least 65,536 bytes, and writes each answer in one call, where the
 /// writer takes it whole.
-pub fn serve<P: Protocol, R: Source, W: Write>(
+pub fn serve<P: Protocol, R: Source, W: Sink>(
     alloc: Global,
     window: &mut Window,
     state: &mut P::State,
@@ -139,6 +145,8 @@ pub fn serve<P: Protocol, R: Source, W: Write>(
         × Appends (W.contents output.old.inner) (W.contents output.new.inner) written
         × Serves P.answers state.old (window.old ++ got) (R.remaining input.new.inner) written result state.new }
     ensures counted { Rises input.old.failures input.new.failures output.old.failures output.new.failures result }
+    ensures reads { CountsReads (for_a_block R.reads) input.old.inner input.old.failures input.new.inner input.new.calls input.new.failures }
+    ensures writes { CountsWrites W.writes output.old.inner output.old.failures output.new.inner output.new.failures }
 {
     'serving: loop {
         match serve_next::<P, R, W>(alloc, window, state, input, output) {
@@ -154,7 +162,8 @@ pub fn serve<P: Protocol, R: Source, W: Write>(
 /// A line is a request (`wire_json::read_request`); a refused one is answered by its refusal and makes no call. A line
 /// of more than 65,536 bytes is answered by 29. A desk that is worn is told by 25; want of memory, at the desk or at the
 /// reading of a request, by 26. After `Memory` nothing was read, or it ended as `serve` tells.
-pub fn serve_lines<D: Desk, R: Source, W: Write>(
+#[tactic(auto, using(crate::proofs::Making::reads_none, crate::proofs::Making::writes_none))]
+pub fn serve_lines<D: Desk, R: Source, W: Sink>(
     alloc: Global,
     desk: &mut D,
     input: &mut Counted<R>,
@@ -170,6 +179,8 @@ pub fn serve_lines<D: Desk, R: Source, W: Write>(
         × (StartsNot desk.old got written result desk.new
         ⊎ Serves (Answers D.step D.fault) desk.old got (R.remaining input.new.inner) written result desk.new) }
     ensures counted { Rises input.old.failures input.new.failures output.old.failures output.new.failures result }
+    ensures reads { CountsReads (for_a_block R.reads) input.old.inner input.old.failures input.new.inner input.new.calls input.new.failures }
+    ensures writes { CountsWrites W.writes output.old.inner output.old.failures output.new.inner output.new.failures }
 {
     let Ok(mut window) = Window::new(alloc) else {
         return Err(ServeFault::Memory);

@@ -8,6 +8,7 @@ mod fixed;
 mod protocol;
 mod reply_line;
 mod requests;
+mod sink;
 mod source;
 mod taking;
 #[cfg(test)]
@@ -20,6 +21,7 @@ pub use fault::ServeFault;
 pub use protocol::Protocol;
 pub use reply_line::ReplyLine;
 pub use requests::Requests;
+pub use sink::Sink;
 pub use source::Source;
 pub use taking::{FirstLine, first_line, whole_input};
 pub use window::Window;

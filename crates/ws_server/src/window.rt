@@ -1,6 +1,7 @@
 //! The bytes that were read and not yet served, in one buffer that is kept, and the next line of them.
 ghost use Rattle.std.specs.Prelude.{◌≡◌, ℕ, ◌+◌, ◌-◌, ◌*◌, ◌^◌, ◌<◌, ◌≤◌, List, [], ◌∷◌, ◌++◌, length, take, drop, vec_len, OnOk, IfOk, IsNone, IsSome, OnSome, MatchOption, All, Some};
 ghost use Rattle.std.specs.Io.KnownBytes.{Keeps, Consumes, IsAtEnd};
+ghost use Rattle.ws_server.specs.Calls.{for_a_block, CountsReads};
 ghost use Rattle.ws_server.specs.Lines.{IsLine};
 ghost use Rattle.ws_server.specs.Turns.{work, Cuts, Skips, EndsAtLast, Fills};
 
@@ -93,6 +94,7 @@ impl Window {
         requires few_failed { input.old.failures < 2 ^ 63 }
         ensures fills { Fills (R.remaining input.old.inner) (R.remaining input.new.inner) self.old result self.new }
         ensures counted { MatchOption result (input.new.failures ≡ input.old.failures + 1) (λ _. input.new.failures ≡ input.old.failures) }
+        ensures made { CountsReads (for_a_block R.reads) input.old.inner input.old.failures input.new.inner input.new.calls input.new.failures }
         ensures work { OnSome result (work input.new.calls self.new < work input.old.calls self.old) }
     {
         self.start = moved_start(&mut self.buf, self.start, self.len);
@@ -114,7 +116,7 @@ fn moved_start(buf: &mut Vec<u8>, start: usize, len: usize) -> usize
     requires room { len ≤ 65600 }
     ensures held { take len (drop result buf.new.items) ≡ take len (drop start buf.old.items) }
     ensures size { length buf.new.items ≡ 131136 }
-    ensures room { result + len < 131136 }
+    ensures room { result + len + 65536 ≤ 131136 }
 {
     if start + len <= ROOM - BLOCK_BYTES {
         return start;
@@ -125,11 +127,12 @@ fn moved_start(buf: &mut Vec<u8>, start: usize, len: usize) -> usize
 
 // Reads into the buffer from `at` on.
 fn read_behind<R: Source>(buf: &mut [u8], at: usize, input: &mut Counted<R>) -> Option<usize>
-    requires room { at < length buf.old }
+    requires room { at + 65536 ≤ length buf.old }
     requires few_failed { input.old.failures < 2 ^ 63 }
     ensures front { take at buf.new ≡ take at buf.old }
     ensures bound { MatchOption result (Keeps (R.remaining input.old.inner) (R.remaining input.new.inner)) (λ n. (at + n ≤ length buf.new) × Consumes (R.remaining input.old.inner) (R.remaining input.new.inner) (take n (drop at buf.new)) × (n ≡ 0 → IsAtEnd (R.remaining input.new.inner))) }
     ensures counted { MatchOption result (input.new.failures ≡ input.old.failures + 1) (λ _. input.new.failures ≡ input.old.failures) }
+    ensures made { CountsReads (for_a_block R.reads) input.old.inner input.old.failures input.new.inner input.new.calls input.new.failures }
     ensures calls { MatchOption result (input.old.calls ≤ input.new.calls) (λ _. input.new.calls ≡ input.old.calls + 1) }
 {
     input.read(&mut buf[at..])
@@ -148,6 +151,7 @@ pub(crate) fn find_end(bytes: &[u8], from: usize) -> Option<usize>
 }
 
 /// Reads until the bytes held have a whole line, or the input ends. `None` where a read failed.
+#[tactic(auto, using(crate::proofs::Making::reads_none, crate::proofs::Making::reads_more))]
 pub(crate) fn next_line<R: Source>(
     limit: usize,
     window: &mut Window,
@@ -158,6 +162,7 @@ pub(crate) fn next_line<R: Source>(
     ensures cuts { (got : List ℕ) × Consumes (R.remaining input.old.inner) (R.remaining input.new.inner) got × Cuts limit (window.old ++ got) result window.new }
     ensures ends { EndsAtLast result (R.remaining input.new.inner) }
     ensures counted { MatchOption result (input.new.failures ≡ input.old.failures + 1) (λ _. input.new.failures ≡ input.old.failures) }
+    ensures made { CountsReads (for_a_block R.reads) input.old.inner input.old.failures input.new.inner input.new.calls input.new.failures }
     ensures work { OnSome result (work input.new.calls window.new ≤ work input.old.calls window.old) }
     ensures long { result ≡ Some Next.Long → work input.new.calls window.new < work input.old.calls window.old }
 {
@@ -183,12 +188,14 @@ pub(crate) fn next_line<R: Source>(
 }
 
 // Skips the rest of a line that was too long, with its LF, and keeps none of it.
+#[tactic(auto, using(crate::proofs::Making::reads_none, crate::proofs::Making::reads_more))]
 fn skip_line<R: Source>(window: &mut Window, input: &mut Counted<R>) -> Option<Next>
     requires empty { window.old ≡ [] }
     requires few_failed { input.old.failures < 2 ^ 63 }
     ensures skips { (got : List ℕ) × Consumes (R.remaining input.old.inner) (R.remaining input.new.inner) got × Skips got result window.new }
     ensures ends { EndsAtLast result (R.remaining input.new.inner) }
     ensures counted { MatchOption result (input.new.failures ≡ input.old.failures + 1) (λ _. input.new.failures ≡ input.old.failures) }
+    ensures made { CountsReads (for_a_block R.reads) input.old.inner input.old.failures input.new.inner input.new.calls input.new.failures }
     ensures work { OnSome result (work input.new.calls window.new < work input.old.calls window.old) }
 {
     'skipping: loop {

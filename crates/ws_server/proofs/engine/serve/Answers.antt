@@ -2,6 +2,8 @@
 use Rattle.std.proofs.Common.{[], ◌++◌, Ok, Err, refl, ◌∙◌, append-nil}
 use Rattle.std.proofs.lemmas.List.Elements.{All-nil}
 use Rattle.ws_server.specs.Lines.{IsLine}
+use Rattle.ws_server.specs.Calls.{for_a_block}
+use Rattle.ws_server.proofs.Making.{reads_none, reads_more, writes_none, writes_more}
 use Rattle.ws_server.proofs.Known.{Consumes-none, Appends-none}
 use Rattle.ws_server.proofs.Rounds.{round_on, round_last, Serves-err}
 use Rattle.ws_server.proofs.engine.serve.Goals as goal
@@ -21,6 +23,8 @@ serving-init g c = record {
   );
   reads = refl;
   writes = refl;
+  reads_made = reads_none (for_a_block g.R.Source.reads) c.args.input.now.inner c.args.input.now.failures c.args.input.now.calls;
+  writes_made = writes_none g.W.Sink.writes c.args.output.now.inner c.args.output.now.failures;
 }
 
 pub serving-preserved : goal.serving-preserved
@@ -35,6 +39,8 @@ serving-preserved g c =
           c.args.window.now c.serving.window c.serve_next.new.window i.served e;
       reads = c.in-Ok-true.ensures.counts.0 ∙ i.reads;
       writes = c.in-Ok-true.ensures.counts.1 ∙ i.writes;
+      reads_made = reads_more (for_a_block g.R.Source.reads) c.args.input.now.inner c.serving.input.inner c.serve_next.new.input.inner c.args.input.now.failures c.serving.input.calls c.serving.input.failures c.serve_next.new.input.calls c.serve_next.new.input.failures i.reads_made i.reads c.in-Ok-true.ensures.reads;
+      writes_made = writes_more g.W.Sink.writes c.args.output.now.inner c.serving.output.inner c.serve_next.new.output.inner c.args.output.now.failures c.serving.output.failures c.serve_next.new.output.failures i.writes_made c.in-Ok-true.ensures.writes;
     }
 
 pub returns-in-Ok-false-clause-serves : goal.returns-in-Ok-false-clause-serves
@@ -55,3 +61,23 @@ returns-in-Err-clause-serves g c =
     (g.W.Write.contents c.args.output.now.inner) (g.W.Write.contents c.serving.output.inner) (g.W.Write.contents c.serve_next.new.output.inner)
     c.args.window.now c.serving.window (Err c.in-Err.why) i.served
     (e.0, e.1, e.2, e.3, Serves-err g.P.Protocol.answers c.serving.state c.serve_next.new.state (c.serving.window ++ e.0) (g.R.Read.remaining c.serve_next.new.input.inner) e.1 c.in-Err.why e.4)
+
+pub returns-in-Ok-false-clause-reads : goal.returns-in-Ok-false-clause-reads
+returns-in-Ok-false-clause-reads g c =
+    let i = c.serving.invariant in
+    reads_more (for_a_block g.R.Source.reads) c.args.input.now.inner c.serving.input.inner c.serve_next.new.input.inner c.args.input.now.failures c.serving.input.calls c.serving.input.failures c.serve_next.new.input.calls c.serve_next.new.input.failures i.reads_made i.reads c.in-Ok-false.ensures.reads
+
+pub returns-in-Ok-false-clause-writes : goal.returns-in-Ok-false-clause-writes
+returns-in-Ok-false-clause-writes g c =
+    let i = c.serving.invariant in
+    writes_more g.W.Sink.writes c.args.output.now.inner c.serving.output.inner c.serve_next.new.output.inner c.args.output.now.failures c.serving.output.failures c.serve_next.new.output.failures i.writes_made c.in-Ok-false.ensures.writes
+
+pub returns-in-Err-clause-reads : goal.returns-in-Err-clause-reads
+returns-in-Err-clause-reads g c =
+    let i = c.serving.invariant in
+    reads_more (for_a_block g.R.Source.reads) c.args.input.now.inner c.serving.input.inner c.serve_next.new.input.inner c.args.input.now.failures c.serving.input.calls c.serving.input.failures c.serve_next.new.input.calls c.serve_next.new.input.failures i.reads_made i.reads c.in-Err.ensures.reads
+
+pub returns-in-Err-clause-writes : goal.returns-in-Err-clause-writes
+returns-in-Err-clause-writes g c =
+    let i = c.serving.invariant in
+    writes_more g.W.Sink.writes c.args.output.now.inner c.serving.output.inner c.serve_next.new.output.inner c.args.output.now.failures c.serving.output.failures c.serve_next.new.output.failures i.writes_made c.in-Err.ensures.writes

@@ -1,6 +1,7 @@
 -- The bytes held are those from before with those that were read, and those that were searched have no LF.
 use Rattle.std.proofs.Common.{◌≡◌, ◌≤◌, ℕ, List, ◌++◌, length, take}
 use Rattle.std.specs.Io.KnownBytes.{Consumes}
+use Rattle.ws_server.specs.Calls.{for_a_block, CountsReads}
 use Rattle.ws_server.specs.Lines.{IsLine}
 use Rattle.ws_server.specs.Turns.{work}
 use Rattle.ws_server.proofs.window.next_line.Given as goal
@@ -11,6 +12,7 @@ invariant-lines g l = record {
   within : l.seen ≤ length l.window;
   before : IsLine (take l.seen l.window);
   counted : l.input.failures ≡ l.fn.input.failures;
+  made : CountsReads (for_a_block g.R.Source.reads) l.fn.input.inner l.fn.input.failures l.input.inner l.input.calls l.input.failures;
   falls : work l.input.calls l.window ≤ work l.fn.input.calls l.fn.window;
 }
 

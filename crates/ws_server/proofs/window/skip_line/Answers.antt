@@ -1,5 +1,7 @@
 -- A block with no LF is skipped whole, and one with an LF up to it.
 use Rattle.std.proofs.Common.{◌≡◌, arith, ap, length, ◌∙◌}
+use Rattle.ws_server.specs.Calls.{for_a_block}
+use Rattle.ws_server.proofs.Making.{reads_more}
 use Rattle.ws_server.proofs.Reading.{skip_done, skip_more}
 use Rattle.ws_server.proofs.window.skip_line.Goals as goal
 
@@ -22,5 +24,6 @@ skipping-preserved g c =
           i.skipped.1 i.skipped.2 i.empty f.1 f.2 c.bytes.ensures c.in_default.ensures;
       empty = c.clear.ensures;
       counted = c.in_ok-got.ensures.counted ∙ i.counted;
+      made = reads_more (for_a_block g.R.Source.reads) c.args.input.now.inner c.skipping.input.inner c.fill.new.input.inner c.args.input.now.failures c.skipping.input.calls c.skipping.input.failures c.fill.new.input.calls c.fill.new.input.failures i.made i.counted c.in_ok-got.ensures.made;
       falls = omega (arith, c.in_ok-got.ensures.work, i.falls);
     }
