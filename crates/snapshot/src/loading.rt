@@ -88,8 +88,7 @@ fn integrate_all(alloc: Global, values: &[Value]) -> Result<Doc, Refusal>
         let op = read_op(value)?;
         append(&mut doc, &op)?;
     }
-    // Its contract brings that the log is lawful and within its limit.
-    let _ = doc.version();
+    prove!(doc.version() <= 131_072);
     Ok(doc)
 }
 
@@ -111,7 +110,6 @@ fn lacks_site(doc: &Doc, site: Site) -> bool
     ensures yes { result ≡ true → LacksSite site doc.now.log }
     ensures no { result ≡ false → LacksSite site doc.now.log → ⊥ }
 {
-    // Its contract brings that the site is below 32.
-    let _ = site.number();
+    prove!(site.number() < 32);
     doc.clock().entry(site) == 0
 }
