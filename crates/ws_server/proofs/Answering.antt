@@ -24,7 +24,7 @@ Answers-asked {S} step fault old new line call (Err why) is h =
     inl (subst P (sym is) (inr (why, h, refl)))
 
 -- a refusal for want of memory is not that of a line that is too long
-within_limit : (line : List ℕ) (refusal : Refusal) (asked : Result Call Refusal) → asked ≡ Err refusal → refusal ≡ NoMemory
+pub within_limit : {A : Type 0} (line : List ℕ) (refusal : Refusal) (asked : Result A Refusal) → asked ≡ Err refusal → refusal ≡ NoMemory
     → (65536 < length line → asked ≡ Err TooLong) → length line ≤ 65536
 within_limit line refusal asked is none long =
     ⊎_elim (λ (h : 65536 < length line). let e = long h in cc) (λ (h : length line ≤ 65536). h) (cases_lt 65536 (length line))

@@ -7,3 +7,5 @@ pub mod Reading
 pub mod Rounds
 pub mod Arms
 pub mod Making
+pub mod Opening
+pub mod Passes

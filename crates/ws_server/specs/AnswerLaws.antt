@@ -1,5 +1,5 @@
 -- That a line above a request's limit is refused. No clause cites this.
-use Rattle.std.proofs.Common.{◌≡◌, ℕ, ◌<◌, List, length, true, Result, Ok, Err, refl, sym, subst, inl}
+use Rattle.std.proofs.Common.{◌≡◌, ℕ, ◌<◌, List, length, Result, Err, refl, sym, subst, inl}
 use Rattle.std.proofs.lemmas.Bool.{lt-ltb}
 use Rattle.opid.specs.declared.refusal.Refusal.{Refusal}
 use Rattle.opid.specs.declared.refusal.Refusal.TheVariants.{TooLong}

@@ -6,3 +6,7 @@ pub mod ServedLines
 pub mod Calls
 pub mod Counting
 pub mod Turns
+pub mod PassSteps
+pub mod Halls
+pub mod Frames
+pub mod Serving

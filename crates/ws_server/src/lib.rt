@@ -1,27 +1,38 @@
-//! The line engine: a line of answer for each line of an input, over any reader and writer.
+//! The line engine: a line of answer for each line of an input, over any reader and writer. And rooms behind WebSockets: a
+//! hall of rooms by name, and an answer for each message.
 #![tactic(auto)]
 
+mod conn;
 mod counted;
 mod engine;
 mod fault;
 mod fixed;
+mod frame;
+mod gate;
+mod hall;
 mod protocol;
 mod reply_line;
 mod requests;
 mod sink;
+mod socket;
 mod source;
 mod taking;
 #[cfg(test)]
 mod tests;
 mod window;
 
+pub use conn::Conn;
 pub use counted::Counted;
 pub use engine::{serve, serve_lines};
 pub use fault::ServeFault;
+pub use frame::answer_frame;
+pub use gate::Gate;
+pub use hall::{Hall, HallPass};
 pub use protocol::Protocol;
 pub use reply_line::ReplyLine;
 pub use requests::Requests;
 pub use sink::Sink;
+pub use socket::{limits, serve_one, serve_socket};
 pub use source::Source;
 pub use taking::{FirstLine, first_line, whole_input};
 pub use window::Window;

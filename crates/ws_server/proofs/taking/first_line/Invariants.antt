@@ -1,5 +1,5 @@
 -- What was held at first and what was read are the bytes kept, which have no LF, and those held.
-use Rattle.std.proofs.Common.{◌≡◌, ◌≤◌, ℕ, List, ◌++◌}
+use Rattle.std.proofs.Common.{◌≡◌, ℕ, List, ◌++◌}
 use Rattle.std.specs.Io.KnownBytes.{Consumes}
 use Rattle.ws_server.specs.Lines.{IsLine}
 use Rattle.ws_server.specs.Turns.{work}

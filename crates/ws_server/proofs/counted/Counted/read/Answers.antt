@@ -1,5 +1,5 @@
 -- One call was made, and its result is the one that is counted; or none, past the last that is.
-use Rattle.std.proofs.Common.{◌∷◌, [], Ok, Err, inl, inr, refl, arith}
+use Rattle.std.proofs.Common.{◌∷◌, [], Ok, Err, inl, refl, arith}
 use Rattle.ws_server.proofs.counted.Counted.read.Goals as goal
 
 pub returns-in-Ok-clause-made : goal.returns-in-Ok-clause-made

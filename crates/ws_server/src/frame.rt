@@ -1,0 +1,191 @@
+//! The answer to one message.
+ghost use Rattle.std.specs.Prelude.{◌≡◌, ℕ, ◌<◌, List, IfOk, IfErr, IfSome, MatchResult, None, Ok, length, string_bytes};
+ghost use Rattle.wire_json.specs.Text.{text};
+ghost use Rattle.shared_room.specs.Turns.{Answers, FaultsPass};
+ghost use Rattle.shared_room.specs.Views.{view, opening, IsPassOf};
+ghost use Rattle.ws_server.specs.declared.fault.ServeFault.TheVariants.{Memory};
+ghost use Rattle.ws_server.specs.Answers.{reply_of};
+ghost use Rattle.ws_server.specs.Halls.{rooms_of, IsHallPassOf, IsConnOf};
+ghost use Rattle.ws_server.specs.Frames.{AnswersOver, AnswersFrame, Opens};
+
+use crate::conn::Conn;
+use crate::fault::ServeFault;
+use crate::gate::Gate;
+use crate::hall::{Hall, HallPass};
+use opid::Refusal;
+use room::{Call, Desk, DeskFault, Reply};
+use shared_room::{Pass, PassDesk, SharedRoom};
+use std::alloc::Global;
+use std::sync::Wait;
+use wire_json::{read_open, read_request, write_reply};
+
+// The text that tells that a room was opened.
+const OPENED: &str = "{\"r\":\"opened\"}";
+
+/// What answers a message, and the number of the call that it made, if it made one.
+#[derive(Drop)]
+pub(crate) struct Answered {
+    pub(crate) text: String,
+    pub(crate) call: Option<u64>,
+}
+
+// The text of a reply.
+fn told(alloc: Global, reply: &Reply) -> Result<String, ServeFault>
+    ensures text { IfOk result (λ made. string_bytes made ≡ text reply.now) }
+    ensures memory { IfErr result (λ why. why ≡ Memory) }
+{
+    match write_reply(alloc, reply) {
+        Ok(text) => Ok(text),
+        Err(_) => Err(ServeFault::Memory),
+    }
+}
+
+// What the room tells, through the pass, at its turn.
+fn ask<R: Wait>(rt: &R, room: &SharedRoom, pass: &mut Pass, call: Call) -> Result<Reply, DeskFault>
+    requires { IsPassOf room.now pass.old }
+    ensures pass { IsPassOf room.now pass.new }
+    ensures answered { MatchResult result (λ reply. Answers (opening room.now) (view pass.old) (view pass.new) call reply)
+        (λ why. FaultsPass (view pass.old) why (view pass.new)) }
+{
+    let mut desk = PassDesk::new(rt, room, pass);
+    desk.call(call)
+}
+
+// What a desk did, as a reply.
+fn reply_of(done: Result<Reply, DeskFault>) -> Reply
+    ensures { result ≡ reply_of done }
+{
+    match done {
+        Ok(reply) => reply,
+        Err(DeskFault::Worn) => Reply::No(Refusal::Worn),
+        Err(DeskFault::Memory) => Reply::No(Refusal::Memory),
+    }
+}
+
+// The answer over the pass of the opened room. A fault leaves what the message did.
+fn answer_over<R: Wait, G: Gate>(
+    rt: &R,
+    alloc: Global,
+    room: &SharedRoom,
+    pass: &mut Pass,
+    calls: &mut u64,
+    bytes: &[u8],
+    gate: &mut G,
+) -> Result<Answered, ServeFault>
+    requires { IsPassOf room.now pass.old }
+    ensures pass { IsPassOf room.now pass.new }
+    ensures answered { (answer : List ℕ) × AnswersOver room.now pass.old bytes.now answer pass.new × IfOk result (λ made. string_bytes made.text ≡ answer) }
+    ensures memory { IfErr result (λ why. why ≡ Memory) }
+{
+    match read_request(alloc, bytes) {
+        Ok(call) => {
+            *calls = calls.saturating_add(1);
+            let n = *calls;
+            gate.before(n);
+            let reply = reply_of(ask(rt, room, pass, call));
+            match told(alloc, &reply) {
+                Ok(text) => Ok(Answered {
+                    text,
+                    call: Some(n),
+                }),
+                Err(why) => Err(why),
+            }
+        }
+        Err(refusal) => match told(alloc, &Reply::No(refusal)) {
+            Ok(text) => Ok(Answered { text, call: None }),
+            Err(why) => Err(why),
+        },
+    }
+}
+
+// The answer to a message of a connection that has opened no room.
+fn open(
+    alloc: Global,
+    hall: &Hall,
+    opened: &mut Option<usize>,
+    bytes: &[u8],
+) -> Result<String, ServeFault>
+    requires { opened.old ≡ None }
+    ensures opened { (answer : List ℕ) × Opens hall.now bytes.now answer opened.new × IfOk result (λ made. string_bytes made ≡ answer) }
+    ensures within { IfSome opened.new (λ at. at < length (rooms_of hall.now)) }
+    ensures memory { IfErr result (λ why. why ≡ Memory) }
+{
+    let name = match read_open(alloc, bytes) {
+        Ok(name) => name,
+        Err(why) => return told(alloc, &Reply::No(why)),
+    };
+    match hall.place(name.as_str()) {
+        Some(at) => {
+            *opened = Some(at);
+            match String::from_str(alloc, OPENED) {
+                Ok(text) => Ok(text),
+                Err(_) => Err(ServeFault::Memory),
+            }
+        }
+        None => told(alloc, &Reply::No(Refusal::NoRoom)),
+    }
+}
+
+// The answer to a message, as `answer_frame` tells.
+pub(crate) fn answer_message<R: Wait, G: Gate>(
+    rt: &R,
+    alloc: Global,
+    hall: &Hall,
+    pass: &mut HallPass,
+    conn: &mut Conn,
+    bytes: &[u8],
+    gate: &mut G,
+) -> Result<Answered, ServeFault>
+    requires pass { IsHallPassOf hall.now pass.old }
+    requires conn { IsConnOf hall.now conn.old }
+    ensures pass { IsHallPassOf hall.now pass.new }
+    ensures conn { IsConnOf hall.now conn.new }
+    ensures answered { (answer : List ℕ) × AnswersFrame hall.now conn.old.opened pass.old.passes.items bytes.now answer conn.new.opened pass.new.passes.items
+        × IfOk result (λ made. string_bytes made.text ≡ answer) }
+    ensures memory { IfErr result (λ why. why ≡ Memory) }
+{
+    match conn.opened {
+        None => match open(alloc, hall, &mut conn.opened, bytes) {
+            Ok(text) => Ok(Answered { text, call: None }),
+            Err(why) => Err(why),
+        },
+        Some(at) => answer_over(
+            rt,
+            alloc,
+            hall.room(at),
+            &mut pass.passes[at],
+            &mut conn.calls,
+            bytes,
+            gate,
+        ),
+    }
+}
+
+/// The text that answers one message's bytes, which are taken whole, also where they hold an LF or are none.
+///
+/// Until the connection has opened a room, an `open` (`wire_json::read_open`) is answered, and everything else is
+/// refused: an unknown room by 4. From then on the bytes are a request, as a line is for the line engine, at the opened
+/// room, and a further `open` is one of an unknown kind.
+///
+/// The only fault is `Memory`, where the text finds none; what the message did stays. Waits for those who drew a ticket
+/// of the room before.
+pub fn answer_frame<R: Wait, G: Gate>(
+    rt: &R,
+    alloc: Global,
+    hall: &Hall,
+    pass: &mut HallPass,
+    conn: &mut Conn,
+    bytes: &[u8],
+    gate: &mut G,
+) -> Result<String, ServeFault>
+    requires pass { IsHallPassOf hall.now pass.old }
+    requires conn { IsConnOf hall.now conn.old }
+    ensures pass { IsHallPassOf hall.now pass.new }
+    ensures conn { IsConnOf hall.now conn.new }
+    ensures answered { (answer : List ℕ) × AnswersFrame hall.now conn.old.opened pass.old.passes.items bytes.now answer conn.new.opened pass.new.passes.items
+        × IfOk result (λ made. string_bytes made ≡ answer) }
+    ensures memory { IfErr result (λ why. why ≡ Memory) }
+{
+    let Answered { text, call: _ } = answer_message(rt, alloc, hall, pass, conn, bytes, gate)?;
+    Ok(text)
+}
