@@ -10,3 +10,4 @@ pub mod PassSteps
 pub mod Halls
 pub mod Frames
 pub mod Serving
+pub mod Names
