@@ -1,13 +1,15 @@
 -- Which plan the rows of a subcommand ask for, and when they ask for none.
-use Rattle.std.proofs.Common.{◌≡◌, ℕ, List, Option, Some, Bool, false, refl, sym, ap, ap₂, ◌∙◌, ◌||◌, arith, codes, slice_index}
-use Rattle.clap.specs.Words.{Row, first_of}
+use Rattle.std.proofs.Common.{◌≡◌, ℕ, ◌+◌, ◌<◌, ◌≤◌, List, [], ◌∷◌, ◌++◌, length, map, take, Option, None, Some, Bool, false, refl, sym, ap, ap₂, ◌∙◌, ◌||◌, arith, codes, slice_index, slice_index_or}
+use Rattle.std.proofs.lemmas.List.{map-append, take_more}
+use Rattle.clap.specs.Words.{Row, all_of, first_of}
 use Rattle.rgatext.specs.declared.plan.Plan.{Plan}
-use Rattle.rgatext.specs.declared.plan.Plan.TheVariants.{Lines, Text as TextOf}
+use Rattle.rgatext.specs.declared.plan.Plan.TheVariants.{Lines, Text as TextOf, Serve}
 use Rattle.rgatext.specs.CommandLine.{AsksNothing, ReadsTo}
 
--- a text that begins with `l` is none that begins with `t`
-first_differs : (a b : List ℕ) → a ≡ b → slice_index a 0 ≡ 108 → slice_index b 0 ≡ 116 → ⊥
-first_differs a b is l t = let e : slice_index a 0 ≡ slice_index b 0 = ap (λ (x : List ℕ). slice_index x 0) is in omega (arith, e, l, t)
+-- texts whose first bytes differ are two
+two_names : (name a b : List ℕ) (x y : ℕ) → slice_index a 0 ≡ x → slice_index b 0 ≡ y → (x ≡ y → ⊥) → name ≡ a → name ≡ b → ⊥
+two_names name a b x y first second apart is named =
+    apart (sym first ∙ ap (λ (t : List ℕ). slice_index t 0) (sym is ∙ named) ∙ second)
 
 -- an option that isn't global leaves a command without any
 pub or_none : (n a b : Bool) → n ≡ (a || b) → a ≡ false → b ≡ false → n ≡ false
@@ -17,17 +19,56 @@ or_none n a b is f g = is ∙ ap₂ (λ (x y : Bool). x || y) f g
 pub lines_nothing : (name : List ℕ) (rows : List Row) → name ≡ codes "lines"
     → ((site : ℕ) → ReadsTo 31 (first_of (codes "site") rows) (Some site) → ⊥) → AsksNothing (Some (name, rows))
 lines_nothing name rows is none (Lines site resume snapshot) (named, read, r, s) = none site read
-lines_nothing name rows is none (TextOf version) (named, read) =
-    absurd (first_differs (codes "lines") (codes "text") (sym is ∙ named) refl refl)
+lines_nothing name rows is none (TextOf version) (named, read) = absurd (two_names name (codes "lines") (codes "text") 108 116 refl refl (λ e. omega (arith, e)) is named)
+lines_nothing name rows is none (Serve port site conns names) h = absurd (two_names name (codes "lines") (codes "serve") 108 115 refl refl (λ e. omega (arith, e)) is h.0)
 
 -- `text` with a version that isn't read
 pub text_nothing : (name : List ℕ) (rows : List Row) → name ≡ codes "text"
     → ((version : Option ℕ) → ReadsTo 4294967295 (first_of (codes "version") rows) version → ⊥) → AsksNothing (Some (name, rows))
 text_nothing name rows is none (TextOf version) (named, read) = none version read
-text_nothing name rows is none (Lines site resume snapshot) (named, read, r, s) =
-    absurd (first_differs (codes "lines") (codes "text") (sym named ∙ is) refl refl)
+text_nothing name rows is none (Lines site resume snapshot) (named, read, r, s) = absurd (two_names name (codes "text") (codes "lines") 116 108 refl refl (λ e. omega (arith, e)) is named)
+text_nothing name rows is none (Serve port site conns names) h = absurd (two_names name (codes "text") (codes "serve") 116 115 refl refl (λ e. omega (arith, e)) is h.0)
+
+-- `serve` with no port
+pub serve_no_port : (rows : List Row) → ((port : ℕ) → 1 ≤ port → ReadsTo 65535 (first_of (codes "port") rows) (Some port) → ⊥)
+    → AsksNothing (Some (codes "serve", rows))
+serve_no_port rows none (Serve port site conns names) (named, some, read, at, one, many, all) = none port some read
+serve_no_port rows none (Lines site resume snapshot) h = absurd (two_names (codes "serve") (codes "serve") (codes "lines") 115 108 refl refl (λ e. omega (arith, e)) refl h.0)
+serve_no_port rows none (TextOf version) h = absurd (two_names (codes "serve") (codes "serve") (codes "text") 115 116 refl refl (λ e. omega (arith, e)) refl h.0)
+
+-- with no site
+pub serve_no_site : (rows : List Row) → ((site : ℕ) → ReadsTo 31 (first_of (codes "site") rows) (Some site) → ⊥)
+    → AsksNothing (Some (codes "serve", rows))
+serve_no_site rows none (Serve port site conns names) (named, some, read, at, one, many, all) = none site at
+serve_no_site rows none (Lines site resume snapshot) h = absurd (two_names (codes "serve") (codes "serve") (codes "lines") 115 108 refl refl (λ e. omega (arith, e)) refl h.0)
+serve_no_site rows none (TextOf version) h = absurd (two_names (codes "serve") (codes "serve") (codes "text") 115 116 refl refl (λ e. omega (arith, e)) refl h.0)
+
+-- with no number of connections
+pub serve_no_conns : (rows : List Row) → ((conns : ℕ) → 1 ≤ conns → ReadsTo 65536 (first_of (codes "conns") rows) (Some conns) → ⊥)
+    → AsksNothing (Some (codes "serve", rows))
+serve_no_conns rows none (Serve port site conns names) (named, some, read, at, one, many, all) = none conns one many
+serve_no_conns rows none (Lines site resume snapshot) h = absurd (two_names (codes "serve") (codes "serve") (codes "lines") 115 108 refl refl (λ e. omega (arith, e)) refl h.0)
+serve_no_conns rows none (TextOf version) h = absurd (two_names (codes "serve") (codes "serve") (codes "text") 115 116 refl refl (λ e. omega (arith, e)) refl h.0)
+
+-- with no names
+pub serve_no_names : (rows : List Row) → all_of (codes "name") rows ≡ None → AsksNothing (Some (codes "serve", rows))
+serve_no_names rows none (Serve port site conns names) (named, some, read, at, one, many, all) = absurd (cc (sym none ∙ all))
+serve_no_names rows none (Lines site resume snapshot) h = absurd (two_names (codes "serve") (codes "serve") (codes "lines") 115 108 refl refl (λ e. omega (arith, e)) refl h.0)
+serve_no_names rows none (TextOf version) h = absurd (two_names (codes "serve") (codes "serve") (codes "text") 115 116 refl refl (λ e. omega (arith, e)) refl h.0)
+
+-- one more word is owned
+pub owned_more : {X Y N : Type 0} (f : X → Y) (h : N → Y) (names : List N) (n : N) (xs : List X) (i : ℕ) (x : X)
+    → i < length xs → slice_index_or xs i x ≡ x → map h names ≡ map f (take i xs) → h n ≡ f x
+    → map h (names ++ n ∷ []) ≡ map f (take (i + 1) xs)
+owned_more {X} {Y} {N} f h names n xs i x below at same is =
+    let one : List N = n ∷ [] in
+    let last : List X = slice_index_or xs i x ∷ [] in
+    map-append h names one ∙ ap₂ (λ (a b : List Y). a ++ b) same (ap (λ (y : Y). y ∷ []) (is ∙ sym (ap f at)))
+    ∙ sym (ap (map f) (take_more xs i x below) ∙ map-append f (take i xs) last)
 
 -- another subcommand
-pub other_nothing : (name : List ℕ) (rows : List Row) → (name ≡ codes "lines" → ⊥) → (name ≡ codes "text" → ⊥) → AsksNothing (Some (name, rows))
-other_nothing name rows a b (Lines site resume snapshot) (named, read, r, s) = a named
-other_nothing name rows a b (TextOf version) (named, read) = b named
+pub other_nothing : (name : List ℕ) (rows : List Row) → (name ≡ codes "lines" → ⊥) → (name ≡ codes "text" → ⊥) → (name ≡ codes "serve" → ⊥)
+    → AsksNothing (Some (name, rows))
+other_nothing name rows a b d (Lines site resume snapshot) (named, read, r, s) = a named
+other_nothing name rows a b d (TextOf version) (named, read) = b named
+other_nothing name rows a b d (Serve port site conns names) h = d h.0

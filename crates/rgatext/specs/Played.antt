@@ -19,9 +19,9 @@ use Rattle.ws_server.specs.ServedLines.{Serves}
 use Rattle.ws_server.specs.declared.fault.ServeFault.{ServeFault}
 use Rattle.ws_server.specs.declared.fault.ServeFault.TheVariants.{Read, Write, Memory}
 use Rattle.rgatext.specs.declared.plan.Plan.{Plan}
-use Rattle.rgatext.specs.declared.plan.Plan.TheVariants.{Lines, Text}
+use Rattle.rgatext.specs.declared.plan.Plan.TheVariants.{Lines, Text, Serve}
 use Rattle.rgatext.specs.declared.stop.Stop.{Stop}
-use Rattle.rgatext.specs.declared.stop.Stop.TheVariants.{Refused, Fault}
+use Rattle.rgatext.specs.declared.stop.Stop.TheVariants.{Refused, Fault, Socket}
 
 -- why a refusal stops a run: for want of memory it is a fault
 abbrev pub stop_of : Refusal → Stop
@@ -33,6 +33,7 @@ abbrev pub served_end : {T : Type 0} → Result T Stop → Result (Unit {0}) Ser
 served_end (Ok done) = Ok tt
 served_end (Err (Refused why)) = Ok tt
 served_end (Err (Fault why)) = Err why
+served_end (Err Socket) = Ok tt
 
 -- ---- `lines`
 
@@ -47,6 +48,7 @@ abbrev pub OpensNot : Bool → ℕ → Option (List ℕ) → List ℕ → Stop �
 OpensNot resume site left got (Fault Read) = resume ≡ true
 OpensNot resume site left got (Fault Write) = ⊥
 OpensNot resume site left got (Fault Memory) = resume ≡ false → got ≡ []
+OpensNot resume site left got Socket = ⊥
 OpensNot resume site left got (Refused why) = (resume ≡ true)
     × ((line : List ℕ) × (rest : List ℕ) × (over : Bool) × IsFirstLine over left got line rest
     × (((why ≡ BadSnapshot) × StandsForNone line) ⊎ ((why ≡ SiteUsed) × HasSite site line)))
@@ -58,6 +60,7 @@ Writes text written (Err (Fault Read)) = ⊥
 Writes text written (Err (Fault Write)) = FallsShort written text
 Writes text written (Err (Fault Memory)) = written ≡ []
 Writes text written (Err (Refused why)) = ⊥
+Writes text written (Err Socket) = ⊥
 
 -- what comes after the answers, once all lines were served: nothing, or the snapshot's line
 abbrev pub Closes : {T U : Type 0} → Bool → List Operation → List ℕ → Result T ServeFault → Result U Stop → Type 0
@@ -103,6 +106,12 @@ PlaysText version got left written end = IsAtEnd left
 
 -- ---- a plan
 
+-- it runs from a reader to a writer, as all do but `serve`
+abbrev pub IsPlayed : Plan → Type 0
+IsPlayed (Serve port site conns names) = ⊥
+IsPlayed plan = Unit {0}
+
 abbrev pub Plays : {T : Type 0} → Plan → List ℕ → Option (List ℕ) → List ℕ → Result T Stop → Type 0
 Plays (Lines site resume snapshot) got left written end = PlaysLines site resume snapshot got left written end
 Plays (Text version) got left written end = PlaysText version got left written end
+Plays (Serve port site conns names) got left written end = ⊥

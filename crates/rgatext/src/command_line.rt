@@ -5,6 +5,7 @@ ghost use Rattle.rgatext.specs.declared.plan.Plan.{Plan};
 ghost use Rattle.rgatext.specs.CommandLine.{rgatext, site_option, flag_option, version_option, Asks, AsksNothing, ReadsTo, Refuses, ToldBy, is_set};
 
 use crate::plan::{Plan, PlanFault};
+use crate::serve_words::{serve_command, serve_plan};
 use clap::error::ErrorKind;
 use clap::{Arg, ArgAction, ArgMatches, Command, value_parser};
 use opid::Site;
@@ -14,7 +15,9 @@ use std::alloc::{AllocError, Global};
 ///
 /// `lines` serves standard input: `--site N` gives the room's site, 0 to 31, or 0 where it isn't given; with `--resume`
 /// the first line is a snapshot, and with `--snapshot` one is written last. `text` prints a snapshot's reading:
-/// `--version V`, 0 to 4,294,967,295, names the version, and else it is the newest. `--help` and `help`, also of a
+/// `--version V`, 0 to 4,294,967,295, names the version, and else it is the newest. `serve` serves rooms of the names
+/// that follow: `--port P` gives the port, 1 to 65535, `--site N` is as for `lines`, and `--conns C`, 1 to 65,536, or 65,536
+/// where it isn't given, the number of connections. `--help` and `help`, also of a
 /// subcommand, are answered by `Help`; all other words by `Words`, which says what is wrong with them; want of memory by
 /// `Memory`. Takes time and memory in proportion to the words.
 pub fn plan(alloc: Global, words: &[String]) -> Result<Plan, PlanFault>
@@ -58,10 +61,12 @@ fn command<'a>(alloc: Global) -> Result<Command<'a>, AllocError>
         .about("A replicated text server")
         .subcommand_required(true);
     let top = top.subcommand(lines)?;
-    top.subcommand(text)
+    let top = top.subcommand(text)?;
+    let serve = serve_command(alloc)?;
+    top.subcommand(serve)
 }
 
-fn site_arg<'a>(alloc: Global) -> Arg<'a>
+pub(crate) fn site_arg<'a>(alloc: Global) -> Arg<'a>
     ensures rule { rule_of result ≡ site_option }
     ensures local { result.global ≡ false }
 {
@@ -99,40 +104,41 @@ fn read_plan(alloc: Global, matches: &ArgMatches<'_>) -> Result<Plan, PlanFault>
     ensures planned { IfOk result (λ made. Asks (subcommand_rows_of matches.now) made) }
     ensures refused { IfErr result (Refuses [] (subcommand_rows_of matches.now)) }
 {
-    match subcommand_plan(matches) {
+    match subcommand_plan(alloc, matches)? {
         Some(plan) => Ok(plan),
         None => Err(PlanFault::Words(String::from_str(alloc, "error: there is no plan\n")?)),
     }
 }
 
-fn subcommand_plan(matches: &ArgMatches<'_>) -> Option<Plan>
-    ensures some { IfSome result (λ made. Asks (subcommand_rows_of matches.now) made) }
-    ensures none { IfNone result (AsksNothing (subcommand_rows_of matches.now)) }
+fn subcommand_plan(alloc: Global, matches: &ArgMatches<'_>) -> Result<Option<Plan>, AllocError>
+    ensures some { IfOk result (λ made. IfSome made (λ plan. Asks (subcommand_rows_of matches.now) plan)) }
+    ensures none { IfOk result (λ made. IfNone made (AsksNothing (subcommand_rows_of matches.now))) }
 {
     match matches.subcommand() {
-        Some((name, used)) => plan_named(name, used),
-        None => None,
+        Some((name, used)) => plan_named(alloc, name, used),
+        None => Ok(None),
     }
 }
 
-fn plan_named(name: &str, used: &ArgMatches<'_>) -> Option<Plan>
-    ensures some { IfSome result (λ made. Asks (Some (name.now, rows_of (found_of used.now))) made) }
-    ensures none { IfNone result (AsksNothing (Some (name.now, rows_of (found_of used.now)))) }
+fn plan_named(alloc: Global, name: &str, used: &ArgMatches<'_>) -> Result<Option<Plan>, AllocError>
+    ensures some { IfOk result (λ made. IfSome made (λ plan. Asks (Some (name.now, rows_of (found_of used.now))) plan)) }
+    ensures none { IfOk result (λ made. IfNone made (AsksNothing (Some (name.now, rows_of (found_of used.now))))) }
 {
     match name {
         "lines" => match site_in(used.get_str("site")) {
-            Some(site) => Some(Plan::Lines {
+            Some(site) => Ok(Some(Plan::Lines {
                 site,
                 resume: flag(used, "resume"),
                 snapshot: flag(used, "snapshot"),
-            }),
-            None => None,
+            })),
+            None => Ok(None),
         },
         "text" => match version_in(used.get_str("version")) {
-            Some(version) => Some(Plan::Text { version }),
-            None => None,
+            Some(version) => Ok(Some(Plan::Text { version })),
+            None => Ok(None),
         },
-        _ => None,
+        "serve" => serve_plan(alloc, used),
+        _ => Ok(None),
     }
 }
 
@@ -145,7 +151,7 @@ fn flag(used: &ArgMatches<'_>, name: &str) -> bool
     }
 }
 
-fn site_in(text: Option<&str>) -> Option<Site>
+pub(crate) fn site_in(text: Option<&str>) -> Option<Site>
     ensures some { IfSome result (λ site. ReadsTo 31 (option_map (λ t. t.now) text.entry) (Some site)) }
     ensures none { IfNone result ((site : ℕ) → ReadsTo 31 (option_map (λ t. t.now) text.entry) (Some site) → ⊥) }
 {

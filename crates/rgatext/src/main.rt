@@ -3,20 +3,24 @@
 
 mod command_line;
 mod ending;
+mod host;
 mod plan;
 mod play;
 mod play_lines;
 mod play_text;
 mod sending;
+mod serve_words;
 mod stop;
 
 use command_line::plan;
 use ending::Ending;
-use plan::PlanFault;
+use host::host;
+use plan::{Plan, PlanFault};
 use play::play;
 use std::alloc::AllocError;
 use std::process::ExitCode;
 use std::{env, io};
+use stop::Stop;
 use ws_server::Counted;
 
 // The words of the command line, the program's name first.
@@ -37,6 +41,23 @@ fn wordless(rt: &HostRuntime, why: &io::Error) -> Result<PlanFault, AllocError> 
     Ok(PlanFault::Words(String::from_str(rt.alloc(), text)?))
 }
 
+// Runs the plan: a server of its own, or from standard input to standard output.
+fn run_plan(rt: &HostRuntime, plan: &Plan) -> Result<(), Stop> {
+    match plan {
+        Plan::Serve {
+            port,
+            site,
+            conns,
+            names,
+        } => host(rt, rt.alloc(), *port, *site, *conns, names),
+        _ => {
+            let mut input = Counted::new(rt.stdin());
+            let mut output = Counted::new(rt.stdout());
+            play(rt.alloc(), plan, &mut input, &mut output)
+        }
+    }
+}
+
 // Does what the words ask for.
 fn run(rt: &HostRuntime) -> Result<(), Ending> {
     let words = match words_of(rt) {
@@ -50,9 +71,7 @@ fn run(rt: &HostRuntime) -> Result<(), Ending> {
         Ok(plan) => plan,
         Err(why) => return Err(Ending::Unplanned(why)),
     };
-    let mut input = Counted::new(rt.stdin());
-    let mut output = Counted::new(rt.stdout());
-    match play(rt.alloc(), &plan, &mut input, &mut output) {
+    match run_plan(rt, &plan) {
         Ok(()) => Ok(()),
         Err(why) => Err(Ending::Stopped(why)),
     }

@@ -5,7 +5,7 @@ use std::alloc::AllocError;
 use thiserror::Error;
 
 /// What the program is to do.
-#[derive(Clone, Copy, Debug, PartialEq, Eq)]
+#[derive(Debug, Drop, PartialEq, Eq)]
 pub enum Plan {
     /// Serve requests from standard input to standard output, with a room of this site.
     Lines {
@@ -20,6 +20,17 @@ pub enum Plan {
     Text {
         /// The version; the newest where it isn't named.
         version: Option<u32>,
+    },
+    /// Serve rooms over WebSockets, and end once so many connections have ended.
+    Serve {
+        /// The port of 127.0.0.1 that is listened on, 1 to 65535.
+        port: u16,
+        /// The site of each room.
+        site: Site,
+        /// How many connections are accepted, 1 to 65,536.
+        conns: u32,
+        /// The names of the rooms.
+        names: Vec<String>,
     },
 }
 

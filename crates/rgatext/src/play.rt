@@ -2,7 +2,7 @@
 ghost use Rattle.std.specs.Prelude.{◌^◌, ◌<◌, ℕ, List, Result, Ok};
 ghost use Rattle.std.specs.Io.KnownBytes.{Appends, Consumes};
 ghost use Rattle.ws_server.specs.Counting.{Rises};
-ghost use Rattle.rgatext.specs.Played.{Plays, served_end};
+ghost use Rattle.rgatext.specs.Played.{Plays, IsPlayed, served_end};
 
 use crate::plan::Plan;
 use crate::play_lines::play_lines;
@@ -12,7 +12,7 @@ use std::alloc::Global;
 use std::io::Write;
 use ws_server::{Counted, Source};
 
-/// Runs the plan from the reader to the writer.
+/// Runs a plan other than `serve` from the reader to the writer.
 ///
 /// `lines` serves a room of its site, and `text` prints a reading. An `Err` tells the refusal or the fault that ended it:
 /// a snapshot that is none or whose log has an operation of the site, a version above the newest, a read or a write that
@@ -24,6 +24,7 @@ pub fn play<R: Source, W: Write>(
     input: &mut Counted<R>,
     output: &mut Counted<W>,
 ) -> Result<(), Stop>
+    requires played { IsPlayed plan.now }
     requires few_reads_failed { input.old.failures < 2 ^ 63 }
     requires few_writes_failed { output.old.failures < 2 ^ 63 }
     ensures plays { (got : List ℕ) × (written : List ℕ)
@@ -39,5 +40,6 @@ pub fn play<R: Source, W: Write>(
             snapshot,
         } => play_lines(alloc, site, resume, snapshot, input, output),
         Plan::Text { version } => play_text(alloc, version, input, output),
+        Plan::Serve { .. } => unreachable!(),
     }
 }

@@ -10,6 +10,8 @@ pub enum Stop {
     Refused(Refusal),
     /// A read or a write failed, or memory was refused.
     Fault(ServeFault),
+    /// A listener, a connection or a thread can't be had.
+    Socket,
 }
 
 impl Stop {
@@ -33,6 +35,7 @@ impl fmt::Display for Stop {
         match self {
             Stop::Refused(why) => write!(f, "refused {} {}", why.number(), why.name()),
             Stop::Fault(why) => write!(f, "{why}"),
+            Stop::Socket => f.write_str("fault socket"),
         }
     }
 }

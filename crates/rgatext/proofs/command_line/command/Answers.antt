@@ -26,4 +26,5 @@ returns c =
     let globals_lines = c.in_ok-lines-3.ensures.globals in
     let globals_text = c.in_ok-text.ensures.globals in
     let first = c.in_ok-top.ensures.shape (search (rules, or_none)) ∙ ap₂ with_subcommand top_is (ap (λ (a : App). a.top) lines_is) in
-    IfOk-weaker c.subcommand-2.result _ _ (λ made h. h.shape (search (rules, or_none)) ∙ ap₂ with_subcommand first (ap (λ (a : App). a.top) text_is)) c.subcommand-2.ensures
+    let second = c.in_ok-top-2.ensures.shape (search (rules, or_none)) ∙ ap₂ with_subcommand first (ap (λ (a : App). a.top) text_is) in
+    IfOk-weaker c.subcommand-3.result _ _ (λ made h. h.shape c.in_ok-serve.ensures.local ∙ ap₂ with_subcommand second (ap (λ (a : App). a.top) c.in_ok-serve.ensures.shape)) c.subcommand-3.ensures

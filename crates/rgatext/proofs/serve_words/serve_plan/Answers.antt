@@ -1,0 +1,44 @@
+-- The values that the subcommand's rows have are those that were read.
+use Rattle.std.proofs.Common.{◌≡◌, ◌∙◌, ℕ, List, Option, Some, sym, ap, subst, codes, refl}
+use Rattle.clap.specs.Words.{found_of, rows_of}
+use Rattle.clap.proofs.WalkLemmas.{first_value-rows, raw_values-rows}
+use Rattle.rgatext.specs.CommandLine.{ReadsTo}
+use Rattle.rgatext.proofs.Planning.{serve_no_port, serve_no_site, serve_no_conns, serve_no_names}
+use Rattle.rgatext.proofs.serve_words.serve_plan.Goals as goal
+
+pub returns-in_ok-owned-in-Some-get_strs-clause-some : goal.returns-in_ok-owned-in-Some-get_strs-clause-some
+returns-in_ok-owned-in-Some-get_strs-clause-some c =
+    let port = c.get_str.ensures ∙ first_value-rows (found_of c.args.used.now) (codes "port") in
+    let site = c.get_str-in-Some.ensures ∙ first_value-rows (found_of c.args.used.now) (codes "site") in
+    let conns = c.get_str-in-Some-site_in.ensures ∙ first_value-rows (found_of c.args.used.now) (codes "conns") in
+    let names = c.in-Some-get_strs.ensures ∙ raw_values-rows (found_of c.args.used.now) (codes "name") in (
+      refl,
+      c.in-Some.ensures.some.0,
+      subst (λ (t : Option (List ℕ)). ReadsTo 65535 t (Some c.in-Some.port)) port c.in-Some.ensures.some.1,
+      subst (λ (t : Option (List ℕ)). ReadsTo 31 t (Some c.in-Some-site_in.site)) site c.in-Some-site_in.ensures.some,
+      c.in-Some-conns_in.ensures.some.0,
+      subst (λ (t : Option (List ℕ)). ReadsTo 65536 t (Some c.in-Some-conns_in.conns)) conns c.in-Some-conns_in.ensures.some.1,
+      sym names ∙ ap Some (sym c.in_ok-owned-in-Some-get_strs.ensures),
+    )
+
+pub returns-in-None-get_strs-clause-none : goal.returns-in-None-get_strs-clause-none
+returns-in-None-get_strs-clause-none c =
+    serve_no_names (rows_of (found_of c.args.used.now)) (sym (c.in-None-get_strs.ensures ∙ raw_values-rows (found_of c.args.used.now) (codes "name")))
+
+pub returns-in-None-conns_in-clause-none : goal.returns-in-None-conns_in-clause-none
+returns-in-None-conns_in-clause-none c =
+    let at = c.get_str-in-Some-site_in.ensures ∙ first_value-rows (found_of c.args.used.now) (codes "conns") in
+    serve_no_conns (rows_of (found_of c.args.used.now))
+    (λ conns some h. c.in-None-conns_in.ensures.none conns some (subst (λ (t : Option (List ℕ)). ReadsTo 65536 t (Some conns)) (sym at) h))
+
+pub returns-in-None-site_in-clause-none : goal.returns-in-None-site_in-clause-none
+returns-in-None-site_in-clause-none c =
+    let at = c.get_str-in-Some.ensures ∙ first_value-rows (found_of c.args.used.now) (codes "site") in
+    serve_no_site (rows_of (found_of c.args.used.now))
+    (λ site h. c.in-None-site_in.ensures.none site (subst (λ (t : Option (List ℕ)). ReadsTo 31 t (Some site)) (sym at) h))
+
+pub returns-in-None-clause-none : goal.returns-in-None-clause-none
+returns-in-None-clause-none c =
+    let at = c.get_str.ensures ∙ first_value-rows (found_of c.args.used.now) (codes "port") in
+    serve_no_port (rows_of (found_of c.args.used.now))
+    (λ port some h. c.in-None.ensures.none port some (subst (λ (t : Option (List ℕ)). ReadsTo 65535 t (Some port)) (sym at) h))

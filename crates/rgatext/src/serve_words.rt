@@ -1,0 +1,118 @@
+//! The words of `serve`.
+ghost use Rattle.std.specs.Prelude.{◌≡◌, ◌≤◌, Some, Option, ℕ, false, IfOk, IfSome, IfNone, MatchOption, map, option_map, string_bytes, codes};
+ghost use Rattle.clap.specs.Words.{app_of, found_of, rows_of, rule_of, all_of};
+ghost use Rattle.clap.specs.declared.builder.command.Command.TheViews.{out-Command};
+ghost use Rattle.rgatext.specs.declared.plan.Plan.{Plan};
+ghost use Rattle.rgatext.specs.CommandLine.{serve, port_option, conns_option, name_words, AsksIn, AsksNothing, ReadsTo};
+
+use crate::command_line::{site_arg, site_in};
+use crate::plan::Plan;
+use clap::{Arg, ArgAction, ArgMatches, Command, value_parser};
+use std::alloc::{AllocError, Global};
+
+// The subcommand as `clap` is told of it.
+pub(crate) fn serve_command<'a>(alloc: Global) -> Result<Command<'a>, AllocError>
+    ensures shape { IfOk result (λ made. app_of made ≡ serve) }
+    ensures local { IfOk result (λ made. (out-Command made).has_globals ≡ false) }
+{
+    let port = port_arg(alloc);
+    let site = site_arg(alloc);
+    let conns = conns_arg(alloc);
+    let name = name_arg(alloc);
+    let serve = Command::new(alloc, "serve").about("Serves rooms over WebSockets");
+    let serve = serve.arg(port)?;
+    let serve = serve.arg(site)?;
+    let serve = serve.arg(conns)?;
+    serve.arg(name)
+}
+
+fn port_arg<'a>(alloc: Global) -> Arg<'a>
+    ensures rule { rule_of result ≡ port_option }
+    ensures local { result.global ≡ false }
+{
+    Arg::new(alloc, "port")
+        .long("port")
+        .required(true)
+        .value_name("P")
+        .value_parser(value_parser!(u16).range(1..=65535))
+        .help("The port of 127.0.0.1, 1 to 65535")
+}
+
+fn conns_arg<'a>(alloc: Global) -> Arg<'a>
+    ensures rule { rule_of result ≡ conns_option }
+    ensures local { result.global ≡ false }
+{
+    Arg::new(alloc, "conns")
+        .long("conns")
+        .value_name("C")
+        .value_parser(value_parser!(u32).range(1..=65536))
+        .default_value("65536")
+        .help("How many connections are accepted, 1 to 65536")
+}
+
+fn name_arg<'a>(alloc: Global) -> Arg<'a>
+    ensures rule { rule_of result ≡ name_words }
+    ensures local { result.global ≡ false }
+{
+    Arg::new(alloc, "name")
+        .action(ArgAction::Append)
+        .required(true)
+        .value_name("NAME")
+        .help("The rooms' names: 1 to 64 of them, each 1 to 32 of a-z, 0-9 and -")
+}
+
+// The plan that the subcommand's rows ask for.
+pub(crate) fn serve_plan(alloc: Global, used: &ArgMatches<'_>) -> Result<Option<Plan>, AllocError>
+    ensures some { IfOk result (λ made. IfSome made (λ plan. AsksIn (codes "serve") (rows_of (found_of used.now)) plan)) }
+    ensures none { IfOk result (λ made. IfNone made (AsksNothing (Some (codes "serve", rows_of (found_of used.now))))) }
+{
+    match port_in(used.get_str("port")) {
+        Some(port) => match site_in(used.get_str("site")) {
+            Some(site) => match conns_in(used.get_str("conns")) {
+                Some(conns) => match used.get_strs("name") {
+                    Some(words) => Ok(Some(Plan::Serve {
+                        port,
+                        site,
+                        conns,
+                        names: owned(alloc, words)?,
+                    })),
+                    None => Ok(None),
+                },
+                None => Ok(None),
+            },
+            None => Ok(None),
+        },
+        None => Ok(None),
+    }
+}
+
+// The words, as texts of their own.
+fn owned(alloc: Global, words: &[&str]) -> Result<Vec<String>, AllocError>
+    ensures { IfOk result (λ names. map string_bytes names.items ≡ map (λ w. w.now) words.now) }
+{
+    let mut names = Vec::new(alloc);
+    for word in words {
+        names.push(String::from_str(alloc, word)?)?;
+    }
+    Ok(names)
+}
+
+fn port_in(text: Option<&str>) -> Option<u16>
+    ensures some { IfSome result (λ port. (1 ≤ port) × ReadsTo 65535 (option_map (λ t. t.now) text.entry) (Some port)) }
+    ensures none { IfNone result ((port : ℕ) → 1 ≤ port → ReadsTo 65535 (option_map (λ t. t.now) text.entry) (Some port) → ⊥) }
+{
+    match text?.parse::<u16>() {
+        Ok(port) if 1 <= port => Some(port),
+        _ => None,
+    }
+}
+
+fn conns_in(text: Option<&str>) -> Option<u32>
+    ensures some { IfSome result (λ conns. (1 ≤ conns) × ReadsTo 65536 (option_map (λ t. t.now) text.entry) (Some conns)) }
+    ensures none { IfNone result ((conns : ℕ) → 1 ≤ conns → ReadsTo 65536 (option_map (λ t. t.now) text.entry) (Some conns) → ⊥) }
+{
+    match text?.parse::<u32>() {
+        Ok(conns) if 1 <= conns && conns <= 65_536 => Some(conns),
+        _ => None,
+    }
+}
