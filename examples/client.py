@@ -3,7 +3,7 @@
 
 A `Session` speaks through a function `ask`, which sends one request, an object of docs/PROTOCOL.md, and gives the reply
 to it; it raises `Lost` where no answer came, whether or not the request arrived. `Pipe` is such a function over
-`rgatext lines`. Run as a program, the file types what it reads into a new room and prints the room's text.
+`rgatext lines`, and `Socket` one over `rgatext serve`, by the library `websockets`. Run as a program, the file types what it reads into a new room and prints the room's text.
 """
 import json
 import subprocess
@@ -48,6 +48,38 @@ class Pipe:
         self.child.stdin.close()
         self.child.stdout.close()
         return self.child.wait()
+
+
+class Socket:
+    """Asks a room of a server, as Socket("ws://127.0.0.1:8000", "notes"). After a lost answer it connects anew."""
+
+    def __init__(self, address, room):
+        import asyncio
+        import websockets
+
+        self.run, self.wait, self.connect = asyncio.new_event_loop().run_until_complete, asyncio.wait_for, websockets.connect
+        self.gone = (OSError, asyncio.TimeoutError, websockets.WebSocketException)
+        self.address, self.room, self.line = address, room, None
+
+    async def opened(self):
+        line = await self.connect(self.address, max_size=None)
+        await line.send(json.dumps({"t": "open", "room": self.room}))
+        reply = json.loads(await line.recv())
+        if reply["r"] == "no":
+            raise Refused(reply["n"])
+        return line
+
+    async def answer(self, request):
+        self.line = self.line or await self.opened()
+        await self.line.send(json.dumps(request))
+        return json.loads(await self.line.recv())
+
+    def __call__(self, request):
+        try:
+            return self.run(self.wait(self.answer(request), 60))
+        except self.gone:
+            self.line = None
+            raise Lost from None
 
 
 def carried(place, edits):
