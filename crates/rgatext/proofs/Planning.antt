@@ -3,7 +3,7 @@ use Rattle.std.proofs.Common.{◌≡◌, ℕ, ◌+◌, ◌<◌, ◌≤◌, List,
 use Rattle.std.proofs.lemmas.List.{map-append, take_more}
 use Rattle.clap.specs.Words.{Row, all_of, first_of}
 use Rattle.rgatext.specs.declared.plan.Plan.{Plan}
-use Rattle.rgatext.specs.declared.plan.Plan.TheVariants.{Lines, Text as TextOf, Serve}
+use Rattle.rgatext.specs.declared.plan.Plan.TheVariants.{Lines, Text as TextOf, Serve, World}
 use Rattle.rgatext.specs.CommandLine.{AsksNothing, ReadsTo}
 
 -- texts whose first bytes differ are two
@@ -21,6 +21,7 @@ pub lines_nothing : (name : List ℕ) (rows : List Row) → name ≡ codes "line
 lines_nothing name rows is none (Lines site resume snapshot) (named, read, r, s) = none site read
 lines_nothing name rows is none (TextOf version) (named, read) = absurd (two_names name (codes "lines") (codes "text") 108 116 refl refl (λ e. omega (arith, e)) is named)
 lines_nothing name rows is none (Serve port site conns names) h = absurd (two_names name (codes "lines") (codes "serve") 108 115 refl refl (λ e. omega (arith, e)) is h.0)
+lines_nothing name rows is none (World sites) (named, some, read) = absurd (two_names name (codes "lines") (codes "world") 108 119 refl refl (λ e. omega (arith, e)) is named)
 
 -- `text` with a version that isn't read
 pub text_nothing : (name : List ℕ) (rows : List Row) → name ≡ codes "text"
@@ -28,12 +29,22 @@ pub text_nothing : (name : List ℕ) (rows : List Row) → name ≡ codes "text"
 text_nothing name rows is none (TextOf version) (named, read) = none version read
 text_nothing name rows is none (Lines site resume snapshot) (named, read, r, s) = absurd (two_names name (codes "text") (codes "lines") 116 108 refl refl (λ e. omega (arith, e)) is named)
 text_nothing name rows is none (Serve port site conns names) h = absurd (two_names name (codes "text") (codes "serve") 116 115 refl refl (λ e. omega (arith, e)) is h.0)
+text_nothing name rows is none (World sites) (named, some, read) = absurd (two_names name (codes "text") (codes "world") 116 119 refl refl (λ e. omega (arith, e)) is named)
+
+-- `world` with a count of sites that isn't read
+pub world_nothing : (name : List ℕ) (rows : List Row) → name ≡ codes "world"
+    → ((sites : ℕ) → 1 ≤ sites → ReadsTo 32 (first_of (codes "sites") rows) (Some sites) → ⊥) → AsksNothing (Some (name, rows))
+world_nothing name rows is none (World sites) (named, some, read) = none sites some read
+world_nothing name rows is none (Lines site resume snapshot) (named, read, r, s) = absurd (two_names name (codes "world") (codes "lines") 119 108 refl refl (λ e. omega (arith, e)) is named)
+world_nothing name rows is none (TextOf version) (named, read) = absurd (two_names name (codes "world") (codes "text") 119 116 refl refl (λ e. omega (arith, e)) is named)
+world_nothing name rows is none (Serve port site conns names) h = absurd (two_names name (codes "world") (codes "serve") 119 115 refl refl (λ e. omega (arith, e)) is h.0)
 
 -- `serve` with no port
 pub serve_no_port : (rows : List Row) → ((port : ℕ) → 1 ≤ port → ReadsTo 65535 (first_of (codes "port") rows) (Some port) → ⊥)
     → AsksNothing (Some (codes "serve", rows))
 serve_no_port rows none (Serve port site conns names) (named, some, read, at, one, many, all) = none port some read
 serve_no_port rows none (Lines site resume snapshot) h = absurd (two_names (codes "serve") (codes "serve") (codes "lines") 115 108 refl refl (λ e. omega (arith, e)) refl h.0)
+serve_no_port rows none (World sites) h = absurd (two_names (codes "serve") (codes "serve") (codes "world") 115 119 refl refl (λ e. omega (arith, e)) refl h.0)
 serve_no_port rows none (TextOf version) h = absurd (two_names (codes "serve") (codes "serve") (codes "text") 115 116 refl refl (λ e. omega (arith, e)) refl h.0)
 
 -- with no site
@@ -41,6 +52,7 @@ pub serve_no_site : (rows : List Row) → ((site : ℕ) → ReadsTo 31 (first_of
     → AsksNothing (Some (codes "serve", rows))
 serve_no_site rows none (Serve port site conns names) (named, some, read, at, one, many, all) = none site at
 serve_no_site rows none (Lines site resume snapshot) h = absurd (two_names (codes "serve") (codes "serve") (codes "lines") 115 108 refl refl (λ e. omega (arith, e)) refl h.0)
+serve_no_site rows none (World sites) h = absurd (two_names (codes "serve") (codes "serve") (codes "world") 115 119 refl refl (λ e. omega (arith, e)) refl h.0)
 serve_no_site rows none (TextOf version) h = absurd (two_names (codes "serve") (codes "serve") (codes "text") 115 116 refl refl (λ e. omega (arith, e)) refl h.0)
 
 -- with no number of connections
@@ -48,12 +60,14 @@ pub serve_no_conns : (rows : List Row) → ((conns : ℕ) → 1 ≤ conns → Re
     → AsksNothing (Some (codes "serve", rows))
 serve_no_conns rows none (Serve port site conns names) (named, some, read, at, one, many, all) = none conns one many
 serve_no_conns rows none (Lines site resume snapshot) h = absurd (two_names (codes "serve") (codes "serve") (codes "lines") 115 108 refl refl (λ e. omega (arith, e)) refl h.0)
+serve_no_conns rows none (World sites) h = absurd (two_names (codes "serve") (codes "serve") (codes "world") 115 119 refl refl (λ e. omega (arith, e)) refl h.0)
 serve_no_conns rows none (TextOf version) h = absurd (two_names (codes "serve") (codes "serve") (codes "text") 115 116 refl refl (λ e. omega (arith, e)) refl h.0)
 
 -- with no names
 pub serve_no_names : (rows : List Row) → all_of (codes "name") rows ≡ None → AsksNothing (Some (codes "serve", rows))
 serve_no_names rows none (Serve port site conns names) (named, some, read, at, one, many, all) = absurd (cc (sym none ∙ all))
 serve_no_names rows none (Lines site resume snapshot) h = absurd (two_names (codes "serve") (codes "serve") (codes "lines") 115 108 refl refl (λ e. omega (arith, e)) refl h.0)
+serve_no_names rows none (World sites) h = absurd (two_names (codes "serve") (codes "serve") (codes "world") 115 119 refl refl (λ e. omega (arith, e)) refl h.0)
 serve_no_names rows none (TextOf version) h = absurd (two_names (codes "serve") (codes "serve") (codes "text") 115 116 refl refl (λ e. omega (arith, e)) refl h.0)
 
 -- one more word is owned
@@ -67,8 +81,9 @@ owned_more {X} {Y} {N} f h names n xs i x below at same is =
     ∙ sym (ap (map f) (take_more xs i x below) ∙ map-append f (take i xs) last)
 
 -- another subcommand
-pub other_nothing : (name : List ℕ) (rows : List Row) → (name ≡ codes "lines" → ⊥) → (name ≡ codes "text" → ⊥) → (name ≡ codes "serve" → ⊥)
-    → AsksNothing (Some (name, rows))
-other_nothing name rows a b d (Lines site resume snapshot) (named, read, r, s) = a named
-other_nothing name rows a b d (TextOf version) (named, read) = b named
-other_nothing name rows a b d (Serve port site conns names) h = d h.0
+pub other_nothing : (name : List ℕ) (rows : List Row) → (name ≡ codes "lines" → ⊥) → (name ≡ codes "text" → ⊥) → (name ≡ codes "world" → ⊥)
+    → (name ≡ codes "serve" → ⊥) → AsksNothing (Some (name, rows))
+other_nothing name rows a b c d (Lines site resume snapshot) (named, read, r, s) = a named
+other_nothing name rows a b c d (TextOf version) (named, read) = b named
+other_nothing name rows a b c d (World sites) (named, some, read) = c named
+other_nothing name rows a b c d (Serve port site conns names) h = d h.0

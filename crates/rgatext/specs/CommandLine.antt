@@ -1,5 +1,5 @@
--- The command line, as `clap` reads it: `rgatext lines [--site N] [--resume] [--snapshot]`, `rgatext text [--version V]` and
--- `rgatext serve --port P [--site N] [--conns C] NAME...`.
+-- The command line, as `clap` reads it: `rgatext lines [--site N] [--resume] [--snapshot]`, `rgatext text [--version V]`,
+-- `rgatext world [--sites N]` and `rgatext serve --port P [--site N] [--conns C] NAME...`.
 use Rattle.std.specs.Prelude.{◌≡◌, ◌≤◌, ◌⊎◌, ℕ, Bool, false, List, [], ◌∷◌, Option, Some, None, bytes_eq, codes, true, pos, map, string_bytes}
 use Rattle.std.specs.Str.Parse.{IsNumeral, digits_value, without_leading_plus}
 use Rattle.clap.specs.Words.{App, IsAmong, Kinds, Row, Rule, Text, all_of, first_of, new_app, new_rule, with_rule, with_subcommand}
@@ -10,7 +10,7 @@ use Rattle.clap.specs.declared.error.ErrorKind.TheVariants as kind
 use Rattle.rgatext.specs.declared.plan.Plan.{Plan}
 use Rattle.rgatext.specs.declared.plan.PlanFault.{PlanFault}
 use Rattle.rgatext.specs.declared.plan.PlanFault.TheVariants.{Help, Words, Memory}
-use Rattle.rgatext.specs.declared.plan.Plan.TheVariants.{Lines, Text as TextOf, Serve}
+use Rattle.rgatext.specs.declared.plan.Plan.TheVariants.{Lines, Text as TextOf, Serve, World}
 
 -- `--site N`, a whole number from 0 to 31, or 0
 abbrev pub site_option : Rule
@@ -19,6 +19,10 @@ site_option = record (new_rule (codes "site")) { long = Some (codes "site"); par
 -- `--version V`, a whole number of 32 bits
 abbrev pub version_option : Rule
 version_option = record (new_rule (codes "version")) { long = Some (codes "version"); parser = Some (vp.Signed (pos 0) (pos 4294967295)); value_names = 1 }
+
+-- `--sites N`, a whole number from 1 to 32, or 2
+abbrev pub sites_option : Rule
+sites_option = record (new_rule (codes "sites")) { long = Some (codes "sites"); parser = Some (vp.Signed (pos 1) (pos 32)); value_names = 1; defaults = codes "2" ∷ [] }
 
 -- `--port P`, a whole number from 1 to 65535, which has to be there
 abbrev pub port_option : Rule
@@ -44,13 +48,19 @@ lines = with_rule (with_rule (with_rule (new_app (codes "lines")) site_option) (
 abbrev pub text : App
 text = with_rule (new_app (codes "text")) version_option
 
+-- the subcommand `world`
+abbrev pub world : App
+world = with_rule (new_app (codes "world")) sites_option
+
 -- the subcommand `serve`
 abbrev pub serve : App
 serve = with_rule (with_rule (with_rule (with_rule (new_app (codes "serve")) port_option) site_option) conns_option) name_words
 
 -- the program, which asks for a subcommand
 abbrev pub rgatext : App
-rgatext = let a = with_subcommand (with_subcommand (with_subcommand (new_app (codes "rgatext")) lines.top) text.top) serve.top in record a { top = record a.top { subcommand_required = true } }
+rgatext =
+    let a = with_subcommand (with_subcommand (with_subcommand (with_subcommand (new_app (codes "rgatext")) lines.top) text.top) world.top) serve.top in
+    record a { top = record a.top { subcommand_required = true } }
 
 -- the number that a text of decimal digits is
 abbrev pub number_in : Text → ℕ
@@ -73,6 +83,7 @@ abbrev pub AsksIn : Text → List Row → Plan → Type 0
 AsksIn name rows (Lines site resume snapshot) = (name ≡ codes "lines") × ReadsTo 31 (first_of (codes "site") rows) (Some site)
     × (resume ≡ is_set (first_of (codes "resume") rows)) × (snapshot ≡ is_set (first_of (codes "snapshot") rows))
 AsksIn name rows (TextOf version) = (name ≡ codes "text") × ReadsTo 4294967295 (first_of (codes "version") rows) version
+AsksIn name rows (World sites) = (name ≡ codes "world") × (1 ≤ sites) × ReadsTo 32 (first_of (codes "sites") rows) (Some sites)
 AsksIn name rows (Serve port site conns names) = (name ≡ codes "serve")
     × (1 ≤ port) × ReadsTo 65535 (first_of (codes "port") rows) (Some port) × ReadsTo 31 (first_of (codes "site") rows) (Some site)
     × (1 ≤ conns) × ReadsTo 65536 (first_of (codes "conns") rows) (Some conns) × (all_of (codes "name") rows ≡ Some (map string_bytes names.items))

@@ -1,7 +1,8 @@
 -- What a plan's run does. `lines` serves a room of its site, each step being the room's: over an empty log, or over the log
 -- of a snapshot that is the first line of the input; and writes at last a snapshot, where the plan says so. `text` prints the
--- reading of a version of the log of a snapshot, which is the whole input. The forms are the server's own.
-use Rattle.std.specs.Prelude.{◌≡◌, ◌⊎◌, ℕ, ◌<◌, ◌≤◌, List, [], ◌∷◌, ◌++◌, length, Bool, true, false, unwrap_or, Option, Some, Result, Ok, Err, encode_utf8_all}
+-- reading of a version of the log of a snapshot, which is the whole input. `world` answers the events of a script, and then
+-- writes what each site reads. The forms are the server's own.
+use Rattle.std.specs.Prelude.{◌≡◌, ◌⊎◌, ℕ, ◌<◌, ◌≤◌, List, [], ◌++◌, length, Bool, true, false, unwrap_or, Option, Some, Result, Ok, Err, encode_utf8_all}
 use Rattle.std.specs.Io.KnownBytes.{IsAtEnd}
 use Rattle.opid.specs.declared.refusal.Refusal.{Refusal}
 use Rattle.opid.specs.declared.refusal.Refusal.TheVariants as Why
@@ -19,9 +20,11 @@ use Rattle.ws_server.specs.ServedLines.{Serves}
 use Rattle.ws_server.specs.declared.fault.ServeFault.{ServeFault}
 use Rattle.ws_server.specs.declared.fault.ServeFault.TheVariants.{Read, Write, Memory}
 use Rattle.rgatext.specs.declared.plan.Plan.{Plan}
-use Rattle.rgatext.specs.declared.plan.Plan.TheVariants.{Lines, Text, Serve}
+use Rattle.rgatext.specs.declared.plan.Plan.TheVariants.{Lines, Text, World, Serve}
 use Rattle.rgatext.specs.declared.stop.Stop.{Stop}
 use Rattle.rgatext.specs.declared.stop.Stop.TheVariants.{Refused, Fault, Socket}
+use Rattle.replica_world.specs.World.{empty_rooms}
+use Rattle.rgatext.specs.Worlds.{AnswersLine, readings}
 
 -- why a refusal stops a run: for want of memory it is a fault
 abbrev pub stop_of : Refusal → Stop
@@ -104,6 +107,28 @@ PlaysText version got left written end = IsAtEnd left
     × ((log : List Operation) × StandsFor got log × (unwrap_or version (length log) ≤ length log)
     × Writes (reading_line log (unwrap_or version (length log))) written end)
 
+-- ---- `world`
+
+-- what comes after the answers, once all lines were served
+abbrev pub Follows : {T U : Type 0} → List ℕ → List ℕ → Result T ServeFault → Result U Stop → Type 0
+Follows text last (Err why) end = (last ≡ []) × (end ≡ Err (Fault why))
+Follows text last (Ok done) end = Writes text last end
+
+-- a world of empty rooms answers the lines, and what comes after the answers is what its sites then read
+pub record ServesWorld {T : Type 0} (sites : ℕ) (got : List ℕ) (left : Option (List ℕ)) (written : List ℕ) (end : Result T Stop) : Type 0 where
+  pub after : List Account
+  pub answers : List ℕ
+  pub last : List ℕ
+  pub served : Result (Unit {0}) ServeFault
+  pub serves : Serves AnswersLine (empty_rooms 0 sites) got left answers served after
+  pub whole : written ≡ answers ++ last
+  pub follows : Follows (readings after) last served end
+
+-- there was no memory for the buffer and the rooms, and nothing was read or written; or lines are served
+abbrev pub PlaysWorld : {T : Type 0} → ℕ → List ℕ → Option (List ℕ) → List ℕ → Result T Stop → Type 0
+PlaysWorld sites got left written end =
+    ((got ≡ []) × (written ≡ []) × (end ≡ Err (Fault Memory))) ⊎ ServesWorld sites got left written end
+
 -- ---- a plan
 
 -- it runs from a reader to a writer, as all do but `serve`
@@ -114,4 +139,5 @@ IsPlayed plan = Unit {0}
 abbrev pub Plays : {T : Type 0} → Plan → List ℕ → Option (List ℕ) → List ℕ → Result T Stop → Type 0
 Plays (Lines site resume snapshot) got left written end = PlaysLines site resume snapshot got left written end
 Plays (Text version) got left written end = PlaysText version got left written end
+Plays (World sites) got left written end = PlaysWorld sites got left written end
 Plays (Serve port site conns names) got left written end = ⊥

@@ -1,10 +1,10 @@
 //! What the words of the command line ask the program to do.
-ghost use Rattle.std.specs.Prelude.{◌≡◌, [], Some, None, Option, ℕ, false, IfOk, IfErr, IfSome, IfNone, map, option_map, string_bytes};
+ghost use Rattle.std.specs.Prelude.{◌≡◌, [], Some, None, Option, ℕ, ◌≤◌, false, IfOk, IfErr, IfSome, IfNone, map, option_map, string_bytes};
 ghost use Rattle.clap.specs.Words.{app_of, fault_of, found_of, kind_of, rows_of, rule_of, first_of, subcommand_of, subcommand_rows_of};
 ghost use Rattle.rgatext.specs.declared.plan.Plan.{Plan};
-ghost use Rattle.rgatext.specs.CommandLine.{rgatext, site_option, flag_option, version_option, Asks, AsksNothing, ReadsTo, Refuses, ToldBy, is_set};
+ghost use Rattle.rgatext.specs.CommandLine.{rgatext, site_option, flag_option, version_option, sites_option, Asks, AsksNothing, ReadsTo, Refuses, ToldBy, is_set};
 
-use crate::plan::{Plan, PlanFault};
+use crate::plan::{Plan, PlanFault, Sites};
 use crate::serve_words::{serve_command, serve_plan};
 use clap::error::ErrorKind;
 use clap::{Arg, ArgAction, ArgMatches, Command, value_parser};
@@ -15,7 +15,8 @@ use std::alloc::{AllocError, Global};
 ///
 /// `lines` serves standard input: `--site N` gives the room's site, 0 to 31, or 0 where it isn't given; with `--resume`
 /// the first line is a snapshot, and with `--snapshot` one is written last. `text` prints a snapshot's reading:
-/// `--version V`, 0 to 4,294,967,295, names the version, and else it is the newest. `serve` serves rooms of the names
+/// `--version V`, 0 to 4,294,967,295, names the version, and else it is the newest. `world` plays the script on standard
+/// input: `--sites N` gives how many sites there are, 1 to 32, or 2 where it isn't given. `serve` serves rooms of the names
 /// that follow: `--port P` gives the port, 1 to 65535, `--site N` is as for `lines`, and `--conns C`, 1 to 65,536, or 65,536
 /// where it isn't given, the number of connections. `--help` and `help`, also of a
 /// subcommand, are answered by `Help`; all other words by `Words`, which says what is wrong with them; want of memory by
@@ -57,11 +58,17 @@ fn command<'a>(alloc: Global) -> Result<Command<'a>, AllocError>
         "Prints the reading of the snapshot on standard input",
     );
     let text = text.arg(version)?;
+    let sites = sites_arg(alloc);
+    let world = Command::new(alloc, "world").about(
+        "Plays a script of events over sites that exchange operations",
+    );
+    let world = world.arg(sites)?;
     let top = Command::new(alloc, "rgatext")
         .about("A replicated text server")
         .subcommand_required(true);
     let top = top.subcommand(lines)?;
     let top = top.subcommand(text)?;
+    let top = top.subcommand(world)?;
     let serve = serve_command(alloc)?;
     top.subcommand(serve)
 }
@@ -87,6 +94,18 @@ fn version_arg<'a>(alloc: Global) -> Arg<'a>
         .value_name("V")
         .value_parser(value_parser!(u32).range(0..=4294967295))
         .help("The version, the newest unless given")
+}
+
+fn sites_arg<'a>(alloc: Global) -> Arg<'a>
+    ensures rule { rule_of result ≡ sites_option }
+    ensures local { result.global ≡ false }
+{
+    Arg::new(alloc, "sites")
+        .long("sites")
+        .value_name("N")
+        .value_parser(value_parser!(u8).range(1..=32))
+        .default_value("2")
+        .help("How many sites there are, 1 to 32")
 }
 
 fn flag_arg<'a>(alloc: Global, name: &'a str, help: &'a str) -> Arg<'a>
@@ -137,6 +156,10 @@ fn plan_named(alloc: Global, name: &str, used: &ArgMatches<'_>) -> Result<Option
             Some(version) => Ok(Some(Plan::Text { version })),
             None => Ok(None),
         },
+        "world" => match sites_in(used.get_str("sites")) {
+            Some(sites) => Ok(Some(Plan::World { sites })),
+            None => Ok(None),
+        },
         "serve" => serve_plan(alloc, used),
         _ => Ok(None),
     }
@@ -174,6 +197,19 @@ fn version_in(text: Option<&str>) -> Option<Option<u32>>
             Err(_) => None,
         },
         None => Some(None),
+    }
+}
+
+fn sites_in(text: Option<&str>) -> Option<Sites>
+    ensures some { IfSome result (λ sites. (1 ≤ sites) × ReadsTo 32 (option_map (λ t. t.now) text.entry) (Some sites)) }
+    ensures none { IfNone result ((sites : ℕ) → 1 ≤ sites → ReadsTo 32 (option_map (λ t. t.now) text.entry) (Some sites) → ⊥) }
+{
+    match text {
+        Some(text) => match text.parse::<u8>() {
+            Ok(count) => Sites::new(count),
+            Err(_) => None,
+        },
+        None => None,
     }
 }
 

@@ -7,6 +7,7 @@ ghost use Rattle.rgatext.specs.Played.{Plays, IsPlayed, served_end};
 use crate::plan::Plan;
 use crate::play_lines::play_lines;
 use crate::play_text::play_text;
+use crate::play_world::play_world;
 use crate::stop::Stop;
 use std::alloc::Global;
 use std::io::Write;
@@ -14,7 +15,8 @@ use ws_server::{Counted, Source};
 
 /// Runs a plan other than `serve` from the reader to the writer.
 ///
-/// `lines` serves a room of its site, and `text` prints a reading. An `Err` tells the refusal or the fault that ended it:
+/// `lines` serves a room of its site, `text` prints a reading, and `world` plays a script. An `Err` tells the refusal or
+/// the fault that ended it:
 /// a snapshot that is none or whose log has an operation of the site, a version above the newest, a read or a write that
 /// failed, or memory that was refused. Takes the time of the engine and of the calls that the lines ask for, and memory
 /// for the engine's buffer and for the room.
@@ -40,6 +42,7 @@ pub fn play<R: Source, W: Write>(
             snapshot,
         } => play_lines(alloc, site, resume, snapshot, input, output),
         Plan::Text { version } => play_text(alloc, version, input, output),
+        Plan::World { sites } => play_world(alloc, sites, input, output),
         Plan::Serve { .. } => unreachable!(),
     }
 }
