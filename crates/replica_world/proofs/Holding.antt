@@ -1,5 +1,5 @@
 -- What follows of a world, how it begins, and what it answers.
-use Rattle.std.proofs.Common.{◌++◌, ◌≡◌, ◌≢◌, ℕ, ◌+◌, ◌<◌, ◌≤◌, zero, suc, Bool, true, false, not, Option, Some, None, Result, Ok, Err, List, [], ◌∷◌, length, map, filter, refl, ap, ◌∙◌, sym, subst, arith, inl, inr, ◌⊎◌, take, drop}
+use Rattle.std.proofs.Common.{◌≡◌, ◌≢◌, ℕ, ◌+◌, ◌<◌, ◌≤◌, zero, suc, Bool, true, false, not, Option, Some, None, Result, Ok, Err, List, [], ◌∷◌, length, map, filter, refl, ap, ◌∙◌, sym, subst, arith, inl, inr, ◌⊎◌}
 use mathlib.Core.Path.{ap₂}
 use Rattle.std.specs.Prelude.{Contains, if◌then◌else◌, slice_get, cond}
 use Rattle.std.specs.List.{AllByRecursion as Each, list_any}
@@ -13,7 +13,7 @@ use Rattle.opid.specs.Operations.{Operation, Insertion, targets_of, targets, is_
 use Rattle.opid.specs.Delivery.{clock_of, is_ready}
 use Rattle.opid.specs.Tree.{all}
 use Rattle.opid.specs.Reading.{reading}
-use Rattle.opid.specs.Lawful.{GoesOn, IsLawful, IsPart}
+use Rattle.opid.specs.Lawful.{IsLawful, IsPart}
 use Rattle.opid.specs.Strong.{SiteLog, SitesDiffer, AreCountedFrom, IsAtHome, IsWhole}
 use Rattle.opid.proofs.Logs.{IsSound-lawful}
 use Rattle.opid.proofs.Orders.{Among, Each-at, Each-by, Parts, Among-from_Contains, Contains-from_Among, all-same}
@@ -25,13 +25,9 @@ use Rattle.replica.specs.declared.delivery.Delivery.{Delivery}
 use Rattle.replica.specs.declared.delivery.Delivery.TheVariants.{Took, Kept, Again}
 use Rattle.replica.specs.Deliver.{deliver}
 use Rattle.room.specs.Deliveries.{outcome_of}
-use Rattle.room.specs.Machine.{State, empty_room, recorded_answer, may_record, answer, counted, recorded_next, next}
+use Rattle.room.specs.Machine.{empty_room, recorded_answer, may_record, answer}
 use Rattle.room.specs.declared.reply.Reply.TheVariants as replies
-use Rattle.room.specs.declared.call.Call.{Call}
 use Rattle.room.specs.Convergence.{EditorsConverge, EditorsKeepUp}
-use Rattle.session_outbox.specs.Sessions.{Outbox, AreNumbered}
-use Rattle.room.proofs.Running.{IsWithin, IsRunning}
-use Rattle.room.proofs.Handing.{Extends}
 use Rattle.room.proofs.Histories.{consistent_over}
 use Rattle.room.proofs.Converging.{room_converges}
 use Rattle.room.proofs.KeepingUp.{room_keeps_up}
@@ -46,7 +42,9 @@ use Rattle.replica_world.specs.Received.{got}
 use Rattle.replica_world.specs.Kept.{IsSiteOf, IsWorld, ReadTheSame, Converges}
 use Rattle.replica_world.proofs.Carrying.{site_log, Carries}
 use Rattle.replica_world.proofs.Rooms.{log_of, stood}
-use Rattle.replica_world.proofs.Stepping.{held_of, log_there, put_one, put-answer, carry-carries, in_log_at}
+use Rattle.replica_world.proofs.Following.{held_of, log_there}
+use Rattle.replica_world.proofs.Delivering.{put_one, put-answer, carry-carries}
+use Rattle.replica_world.proofs.Stepping.{in_log_at}
 
 -- ---- what follows of a world
 

@@ -41,7 +41,7 @@ impl Model for World {
 }
 
 impl World {
-    /// Empty rooms at the sites 0 to `n - 1`. Takes a step for each.
+    /// Empty rooms at the sites 0 to `n - 1`. An error is for want of memory. Takes a step and a room's memory for each.
     pub fn new(alloc: Global, n: u8) -> Result<World, AllocError>
         requires first { 1 ≤ n }
         requires most { n ≤ 32 }
@@ -67,6 +67,9 @@ impl World {
     }
 
     /// One thing happens. An error is for want of memory, and changes nothing.
+    ///
+    /// At most 32 steps find the sites. A call then takes what `Room::call` takes; what is carried, what a `put` of one
+    /// operation takes; a fork, the time and memory to integrate the first `n` operations into a new room.
     pub fn step(&mut self, event: Event) -> Result<WorldReply, AllocError>
         ensures reply { IfOk result (λ r. r ≡ (step self.old event).reply) }
         ensures next { OnOk result (self.new ≡ (step self.old event).world) }
@@ -80,7 +83,7 @@ impl World {
         result
     }
 
-    /// Things happen, one after another. After an error, which is for want of memory, the replies are those of a
+    /// Things happen, one after another, each copied first and taken as by `step`. After an error, which is for want of memory, the replies are those of a
     /// beginning of the events, and the world is where these leave it.
     pub fn run(&mut self, events: &[Event], replies: &mut Vec<WorldReply>) -> Result<(), AllocError>
         ensures runs { Runs self.old events.now replies.old.items result replies.new.items self.new }
@@ -108,7 +111,8 @@ impl World {
         Ok(())
     }
 
-    /// The text of the site's newest version. Takes a step for each element. Refused with `NoRoom` and with `Memory`.
+    /// The text of the site's newest version. Takes at most 32 steps, one for each element, and memory for the text. Refused
+    /// with `NoRoom` and with `Memory`.
     pub fn reading(&self, site: Site) -> Result<Characters, Refusal>
         ensures ok { IfOk result (λ text. Some text ≡ option_map (λ a. reading a.state.log) (room_of site self.now)) }
         ensures cause { IfErr result (λ e. ((e ≡ NoRoom) × (room_of site self.now ≡ None)) ⊎ (e ≡ Memory)) }
@@ -119,7 +123,7 @@ impl World {
         }
     }
 
-    /// The version of the site's log. Refused with `NoRoom`.
+    /// The version of the site's log, which is how many operations it has. Takes at most 32 steps. Refused with `NoRoom`.
     pub fn version(&self, site: Site) -> Result<u32, Refusal>
         ensures ok { IfOk result (λ v. Some v ≡ option_map (λ a. length a.state.log) (room_of site self.now)) }
         ensures cause { IfErr result (λ e. (e ≡ NoRoom) × (room_of site self.now ≡ None)) }
