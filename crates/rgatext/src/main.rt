@@ -1,6 +1,8 @@
 //! The program: what its command line asks for, and what it then does.
 #![tactic(auto)]
 
+ghost use Rattle.rgatext.specs.Played.{IsPlayed};
+
 mod command_line;
 mod ending;
 mod host;
@@ -44,52 +46,49 @@ fn wordless(rt: &HostRuntime, why: &io::Error) -> Result<PlanFault, AllocError> 
     Ok(PlanFault::Words(String::from_str(rt.alloc(), text)?))
 }
 
-// Runs the plan: a server of its own, or from standard input to standard output.
-fn run_plan(rt: &HostRuntime, plan: &Plan) -> Result<(), Stop> {
-    match plan {
+// What the words ask for.
+fn asked(rt: &HostRuntime) -> Result<Plan, PlanFault> {
+    match words_of(rt) {
+        Ok(words) => plan(rt.alloc(), &words),
+        Err(why) => Err(wordless(rt, &why).unwrap_or(PlanFault::Memory)),
+    }
+}
+
+// Runs a plan other than `serve` from standard input to standard output.
+fn play_streams(rt: &HostRuntime, plan: &Plan) -> Result<(), Stop>
+    requires { IsPlayed plan.now }
+{
+    let mut input = Counted::new(rt.stdin());
+    let mut output = Counted::new(rt.stdout());
+    play(rt.alloc(), plan, &mut input, &mut output)
+}
+
+// Tells why the program ends, and gives the status.
+fn tell(rt: &HostRuntime, ending: &Ending) -> ExitCode {
+    if ending.is_output() {
+        let _ = print!(rt; "{ending}");
+    } else {
+        let _ = eprint!(rt; "{ending}");
+    }
+    ExitCode::from(ending.status())
+}
+
+fn main(rt: HostRuntime) -> ExitCode {
+    let plan = match asked(&rt) {
+        Ok(plan) => plan,
+        Err(why) => return tell(&rt, &Ending::Unplanned(why)),
+    };
+    let ran = match &plan {
         Plan::Serve {
             port,
             site,
             conns,
             names,
-        } => host(rt, rt.alloc(), *port, *site, *conns, names),
-        _ => {
-            let mut input = Counted::new(rt.stdin());
-            let mut output = Counted::new(rt.stdout());
-            play(rt.alloc(), plan, &mut input, &mut output)
-        }
-    }
-}
-
-// Does what the words ask for.
-fn run(rt: &HostRuntime) -> Result<(), Ending> {
-    let words = match words_of(rt) {
-        Ok(words) => words,
-        Err(why) => {
-            let fault = wordless(rt, &why).unwrap_or(PlanFault::Memory);
-            return Err(Ending::Unplanned(fault));
-        }
+        } => host(&rt, rt.alloc(), *port, *site, *conns, names),
+        _ => play_streams(&rt, &plan),
     };
-    let plan = match plan(rt.alloc(), &words) {
-        Ok(plan) => plan,
-        Err(why) => return Err(Ending::Unplanned(why)),
-    };
-    match run_plan(rt, &plan) {
-        Ok(()) => Ok(()),
-        Err(why) => Err(Ending::Stopped(why)),
-    }
-}
-
-fn main(rt: HostRuntime) -> ExitCode {
-    match run(&rt) {
+    match ran {
         Ok(()) => ExitCode::SUCCESS,
-        Err(ending) => {
-            if ending.is_output() {
-                let _ = print!(rt; "{ending}");
-            } else {
-                let _ = eprint!(rt; "{ending}");
-            }
-            ExitCode::from(ending.status())
-        }
+        Err(why) => tell(&rt, &Ending::Stopped(why)),
     }
 }
