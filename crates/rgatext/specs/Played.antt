@@ -72,7 +72,8 @@ Closes true log last (Ok done) end = Writes (ended (log_text log)) last end
 Closes false log last (Ok done) end = Writes [] last end × (served_end end ≡ Ok tt)
 
 -- a room's desk serves lines, and what comes after the answers is the snapshot of the log that the room has then
-pub record ServesRoom {T : Type 0} (room : Account) (snapshot : Bool) (got : List ℕ) (left : Option (List ℕ)) (written : List ℕ) (end : Result T Stop) : Type 0 where
+pub record ServesRoom {T : Type 0} (room : Account) (snapshot : Bool) (got : List ℕ) (left : Option (List ℕ)) (written : List ℕ)
+    (end : Result T Stop) : Type 0 where
   pub desk : RoomDesk
   pub after : RoomDesk
   pub answers : List ℕ
@@ -136,6 +137,7 @@ abbrev pub IsPlayed : Plan → Type 0
 IsPlayed (Serve port site conns names) = ⊥
 IsPlayed plan = Unit {0}
 
+-- what a run of a plan does
 abbrev pub Plays : {T : Type 0} → Plan → List ℕ → Option (List ℕ) → List ℕ → Result T Stop → Type 0
 Plays (Lines site resume snapshot) got left written end = PlaysLines site resume snapshot got left written end
 Plays (Text version) got left written end = PlaysText version got left written end

@@ -8,6 +8,7 @@ abbrev pub Tells : {A B : Type 0} → (A → B) → Result A Refusal → Result 
 Tells seen (Ok x) right = right ≡ Ok (seen x)
 Tells seen (Err e) right = right ≡ Err e
 
+-- a value that is seen as it is
 abbrev pub same : {A : Type 0} → A → A
 same x = x
 

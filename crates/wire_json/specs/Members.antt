@@ -1,5 +1,7 @@
--- The members of a JSON object, and steps that may be refused (RFC 8259, as `serde_json` reads it: the last value of a repeated key stands).
-use Rattle.std.specs.Prelude.{◌^◌, ℕ, nat_lt, Bool, true, ◌&&◌, if◌then◌else◌, Option, Some, None, option_and_then, Result, Ok, Err, List, bytes_eq}
+-- The members of a JSON object, and steps that may be refused (RFC 8259, as `serde_json` reads it: the last value of a
+-- repeated key stands).
+use Rattle.std.specs.Prelude.{◌^◌, ℕ, nat_lt, Bool, true, ◌&&◌, if◌then◌else◌, Option, Some, None, option_and_then, Result, Ok, Err, List}
+use Rattle.std.specs.Prelude.{bytes_eq}
 use Rattle.std.specs.List.{list_any}
 use Rattle.serde_json.specs.Data.{Data, Members, no_members, member}
 use Rattle.serde_json.specs.Find.{get, as_number, as_u64, as_str, as_object}
@@ -25,6 +27,7 @@ abbrev pub are_among : List (List ℕ) → Members → Bool
 are_among row no_members = true
 are_among row (member key d ms) = list_any (λ name. bytes_eq name key) row && are_among row ms
 
+-- each key is one of the row, or there is no answer
 abbrev pub within : List (List ℕ) → Members → Option (Unit {0})
 within row ms = if are_among row ms then Some tt else None
 
@@ -36,6 +39,7 @@ only_keys row d = or_refuse BadField (option_and_then (within row) (as_object d)
 abbrev pub text_at : List ℕ → Data → Result (List ℕ) Refusal
 text_at key d = or_refuse BadField (option_and_then as_str (get key d))
 
+-- the number, if it is below the limit
 abbrev pub below : ℕ → ℕ → Option ℕ
 below limit n = if nat_lt n limit then Some n else None
 
@@ -43,5 +47,6 @@ below limit n = if nat_lt n limit then Some n else None
 abbrev pub number_of : Option Data → Result ℕ Refusal
 number_of d = or_refuse BadField (option_and_then (below (2 ^ 32)) (option_and_then as_u64 (option_and_then as_number d)))
 
+-- the number at a key
 abbrev pub number_at : List ℕ → Data → Result ℕ Refusal
 number_at key d = number_of (get key d)

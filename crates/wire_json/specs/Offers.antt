@@ -15,6 +15,7 @@ use Rattle.wire_json.specs.declared.offer.OfferedKind.TheVariants.{Ins, Del}
 abbrev pub stamp_with : ℕ × ℕ → Stamp
 stamp_with p = record { sum = p.0; site = p.1 }
 
+-- what an offered kind does
 abbrev pub kind_of : OfferedKind → OpKind
 kind_of (Ins parent ch) = kinds.Ins (option_map stamp_with parent) ch
 kind_of (Del target) = kinds.Del (stamp_with target)
@@ -23,5 +24,6 @@ kind_of (Del target) = kinds.Del (stamp_with target)
 abbrev pub pair_in : Data → ℕ × ℕ
 pair_in d = result_unwrap_or (pair_of d) (0, 0)
 
+-- the pairs that values are, or zeros
 abbrev pub pairs_in : List Value → List (ℕ × ℕ)
 pairs_in values = map (λ v. pair_in (view v)) values

@@ -1,5 +1,7 @@
--- Which operation a JSON object tells, or why it is refused (operations and clocks: Roh, Jeon, Kim and Lee 2011; JSON: RFC 8259). Each kind of fault is sought in all operations of a list before the next kind.
-use Rattle.std.specs.Prelude.{ℕ, ◌==◌, nat_lt, nat_le, Bool, true, ◌&&◌, if◌then◌else◌, Option, Some, None, option_and_then, option_map, is_some, Result, Ok, Err, List, length, [], ◌∷◌, codes, bytes_eq, slice_get}
+-- Which operation a JSON object tells, or why it is refused (operations and clocks: Roh, Jeon, Kim and Lee 2011; JSON: RFC
+-- 8259). Each kind of fault is sought in all operations of a list before the next kind.
+use Rattle.std.specs.Prelude.{ℕ, ◌==◌, nat_lt, nat_le, Bool, true, ◌&&◌, if◌then◌else◌, Option, Some, None, option_and_then, option_map}
+use Rattle.std.specs.Prelude.{is_some, Result, Ok, Err, List, length, [], ◌∷◌, codes, bytes_eq, slice_get}
 use Rattle.std.specs.Str.{chars}
 use Rattle.std.specs.List.{list_all, sum_by}
 use Rattle.serde_json.specs.Data.{Data, Items, no_items, item}
@@ -28,6 +30,7 @@ abbrev pub each : {A B : Type 0} → (A → Result B Refusal) → List A → Res
 each f [] = Ok []
 each f (x ∷ xs) = f x >>= λ y. each f xs >>= λ ys. Ok (y ∷ ys)
 
+-- the items as a list
 abbrev pub items_in : Items → List Data
 items_in no_items = []
 items_in (item d ds) = d ∷ items_in ds
@@ -38,6 +41,7 @@ list_at key d = or_refuse BadField (option_map items_in (option_and_then as_arra
 
 -- ---- the members of an operation object
 
+-- there are two items
 abbrev pub two : Items → Option (Unit {0})
 two ds = if items_len ds == 2 then Some tt else None
 
@@ -49,6 +53,7 @@ pair_of d = do
   y ← number_of (at 1 d)
   Ok (x, y)
 
+-- a value that has to be there
 abbrev pub present : Option Data → Result Data Refusal
 present d = or_refuse BadField d
 
@@ -66,11 +71,13 @@ parent_of d = if is_some (as_null d) then Ok None else (stamp_told d >>= λ s. O
 abbrev pub only_char : List ℕ → Option ℕ
 only_char s = if length (chars s) == 1 then slice_get (chars s) 0 else None
 
+-- the one character of the text at a key
 abbrev pub char_at : List ℕ → Data → Result ℕ Refusal
 char_at key d = text_at key d >>= λ s. or_refuse BadField (only_char s)
 
 -- ---- the kinds: each with its keys
 
+-- the insertion that an object offers
 abbrev pub insertion_of : Data → Result Offer Refusal
 insertion_of d = do
   keys ← only_keys (codes "c" ∷ codes "k" ∷ codes "p" ∷ codes "s" ∷ codes "x" ∷ []) d
@@ -82,6 +89,7 @@ insertion_of d = do
   x ← char_at (codes "x") d
   Ok (record { site = s; pairs = pairs; kind = Ins parent x })
 
+-- the deletion that an object offers
 abbrev pub deletion_of : Data → Result Offer Refusal
 deletion_of d = do
   keys ← only_keys (codes "c" ∷ codes "k" ∷ codes "s" ∷ codes "t" ∷ []) d
@@ -92,6 +100,7 @@ deletion_of d = do
   target ← stamp_told t
   Ok (record { site = s; pairs = pairs; kind = Del target })
 
+-- what an object of this kind offers
 abbrev pub offer_named : List ℕ → Data → Result Offer Refusal
 offer_named k d = if bytes_eq k (codes "i") then insertion_of d else (if bytes_eq k (codes "d") then deletion_of d else Err BadField)
 
@@ -107,17 +116,21 @@ offer_of d = do
 abbrev pub site_of : ℕ → Result ℕ Refusal
 site_of n = or_refuse BadSite (below 32 n)
 
+-- a pair whose first number is a site
 abbrev pub sited_pair : ℕ × ℕ → Result (ℕ × ℕ) Refusal
 sited_pair p = site_of p.0 >>= λ s. Ok (s, p.1)
 
+-- a stamp whose site is one
 abbrev pub sited_stamp : Stamp → Result Stamp Refusal
 sited_stamp s = site_of s.site >>= λ n. Ok (record { sum = s.sum; site = n })
 
+-- a kind whose stamp has a site
 abbrev pub sited_kind : OpKind → Result OpKind Refusal
 sited_kind (Ins None x) = Ok (Ins None x)
 sited_kind (Ins (Some p) x) = sited_stamp p >>= λ s. Ok (Ins (Some s) x)
 sited_kind (Del t) = sited_stamp t >>= λ s. Ok (Del s)
 
+-- an offer all of whose sites are sites
 abbrev pub sited : Offer → Result Offer Refusal
 sited o = do
   s ← site_of o.site
@@ -131,6 +144,7 @@ sited o = do
 abbrev pub counted : ℕ → List ℕ → OpKind → Result Operation Refusal
 counted s clock kind = if nat_lt 0 (entry clock s) then Ok (record { site = s; clock = clock; kind = kind }) else Err BadClock
 
+-- the operation that an offer tells, whose sites are sites
 abbrev pub operation : Offer → Result Operation Refusal
 operation o = do
   clock ← clock_told o.pairs

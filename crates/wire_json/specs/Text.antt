@@ -1,5 +1,6 @@
 -- The one text of a reply, and of an operation: a compact JSON object (RFC 8259), its keys in the order of their bytes.
-use Rattle.std.specs.Prelude.{ℕ, ◌<◌, ◌^◌, nat_lt, IsTrue, Option, Some, None, List, [], ◌∷◌, ◌++◌, map, filter, codes, decimal, encode_utf8_all}
+use Rattle.std.specs.Prelude.{ℕ, ◌<◌, ◌^◌, nat_lt, IsTrue, Option, Some, None, List, [], ◌∷◌, ◌++◌, map, filter, codes, decimal}
+use Rattle.std.specs.Prelude.{encode_utf8_all}
 use Rattle.std.specs.Str.{all_scalars}
 use Rattle.std.specs.List.{AllByRecursion}
 use Rattle.json.specs.Print.{quoted}
@@ -69,6 +70,7 @@ abbrev pub listed : List (List ℕ) → List ℕ
 listed [] = codes "[]"
 listed (x ∷ xs) = codes "[" ++ x ++ more xs ++ codes "]"
 
+-- the text of an edit
 abbrev pub edit_text : edit.Edit → List ℕ
 edit_text (Ins k c) = codes "[\"i\"," ++ decimal k ++ codes "," ++ quote (c ∷ []) ++ codes "]"
 edit_text (Del k) = codes "[\"d\"," ++ decimal k ++ codes "]"
@@ -78,27 +80,35 @@ edit_text Nop = codes "[\"n\"]"
 abbrev pub pairs_of : List ℕ → List (ℕ × ℕ)
 pairs_of clock = filter (λ p. nat_lt 0 p.1) (map (λ site. (site, entry clock site)) sites)
 
+-- a pair is a list of two numbers
 abbrev pub pair_text : ℕ × ℕ → List ℕ
 pair_text p = codes "[" ++ decimal p.0 ++ codes "," ++ decimal p.1 ++ codes "]"
 
+-- the text of a clock: its pairs
 abbrev pub clock_text : List ℕ → List ℕ
 clock_text clock = listed (map pair_text (pairs_of clock))
 
+-- a stamp is its sum and its site
 abbrev pub stamp_text : Stamp → List ℕ
 stamp_text s = codes "[" ++ decimal s.sum ++ codes "," ++ decimal s.site ++ codes "]"
 
+-- a parent is a stamp, or null for the head
 abbrev pub parent_text : Option Stamp → List ℕ
 parent_text None = codes "null"
 parent_text (Some s) = stamp_text s
 
+-- the text of an operation of this site, clock and kind
 abbrev pub op_text_of : ℕ → List ℕ → kind.OpKind → List ℕ
-op_text_of s clock (kinds.Ins parent c) = codes "{\"c\":" ++ clock_text clock ++ codes ",\"k\":\"i\",\"p\":" ++ parent_text parent ++ codes ",\"s\":" ++ decimal s ++ codes ",\"x\":" ++ quote (c ∷ []) ++ codes "}"
-op_text_of s clock (kinds.Del target) = codes "{\"c\":" ++ clock_text clock ++ codes ",\"k\":\"d\",\"s\":" ++ decimal s ++ codes ",\"t\":" ++ stamp_text target ++ codes "}"
+op_text_of s clock (kinds.Ins parent c) = codes "{\"c\":" ++ clock_text clock ++ codes ",\"k\":\"i\",\"p\":" ++ parent_text parent
+    ++ codes ",\"s\":" ++ decimal s ++ codes ",\"x\":" ++ quote (c ∷ []) ++ codes "}"
+op_text_of s clock (kinds.Del target) = codes "{\"c\":" ++ clock_text clock ++ codes ",\"k\":\"d\",\"s\":" ++ decimal s ++ codes ",\"t\":"
+    ++ stamp_text target ++ codes "}"
 
 -- the text of an operation
 abbrev pub op_text : Operation → List ℕ
 op_text x = op_text_of x.site x.clock x.kind
 
+-- the text of an outcome
 abbrev pub outcome_text : outcome.Outcome → List ℕ
 outcome_text (outcomes.Took taken dropped) = codes "[\"took\"," ++ decimal taken ++ codes "," ++ decimal dropped ++ codes "]"
 outcome_text outcomes.Kept = codes "[\"kept\"]"
@@ -107,7 +117,8 @@ outcome_text (outcomes.No why) = codes "[\"no\"," ++ decimal (number_of why) ++ 
 
 -- numbers are in decimal
 abbrev pub text : reply.Reply → List ℕ
-text (Joined s v x) = codes "{\"r\":\"joined\",\"s\":" ++ decimal s ++ codes ",\"v\":" ++ decimal v ++ codes ",\"x\":" ++ quote x ++ codes "}"
+text (Joined s v x) = codes "{\"r\":\"joined\",\"s\":" ++ decimal s ++ codes ",\"v\":" ++ decimal v ++ codes ",\"x\":" ++ quote x
+    ++ codes "}"
 text (Ok «from» to) = codes "{\"from\":" ++ decimal «from» ++ codes ",\"r\":\"ok\",\"to\":" ++ decimal to ++ codes "}"
 text (Edits «from» es) = codes "{\"es\":" ++ listed (map edit_text es) ++ codes ",\"from\":" ++ decimal «from» ++ codes ",\"r\":\"edits\"}"
 text (Ops «from» ops) = codes "{\"from\":" ++ decimal «from» ++ codes ",\"ops\":" ++ listed (map op_text ops) ++ codes ",\"r\":\"ops\"}"

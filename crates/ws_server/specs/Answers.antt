@@ -17,7 +17,8 @@ reply_of (Err Worn) = No Why.Worn
 reply_of (Err Memory) = No Why.Memory
 
 -- the answer to a call is a reply of the desk's, which goes a step, or tells its fault; a refused line leaves the desk as it was
-abbrev pub AnswersAsked : {S : Type 0} → (S → Call → Reply → S → Type 0) → (S → Call → DeskFault → S → Type 0) → S → Result Call Refusal → List ℕ → S → Type 0
+abbrev pub AnswersAsked : {S : Type 0} → (S → Call → Reply → S → Type 0) → (S → Call → DeskFault → S → Type 0) → S → Result Call Refusal
+    → List ℕ → S → Type 0
 AnswersAsked step fault old (Ok call) answer new =
     ((reply : Reply) × step old call reply new × (answer ≡ text reply))
     ⊎ ((why : DeskFault) × fault old call why new × (answer ≡ text (reply_of (Err why))))

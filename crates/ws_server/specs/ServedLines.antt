@@ -31,7 +31,8 @@ ServesWhole answers old got written new =
 abbrev pub Reaches : Option (List ℕ) → List ℕ → List (List ℕ) → List ℕ → Type 0
 Reaches left got lines line =
     All IsLine lines × IsLine line
-    × (((rest : List ℕ) × (got ≡ flat_map ended lines ++ (line ++ 10 ∷ rest))) ⊎ ((0 < length line) × (got ≡ flat_map ended lines ++ line) × IsAtEnd left))
+    × (((rest : List ℕ) × (got ≡ flat_map ended lines ++ (line ++ 10 ∷ rest)))
+        ⊎ ((0 < length line) × (got ≡ flat_map ended lines ++ line) × IsAtEnd left))
 
 -- the first lines were answered, and one more, of whose answer's line only these bytes were sent
 abbrev pub ServesPart : {S : Type 0} → (S → List ℕ → List ℕ → S → Type 0) → S → List ℕ → Option (List ℕ) → List ℕ → List ℕ → S → Type 0
@@ -41,7 +42,8 @@ ServesPart {S} answers old got left written sent new =
     × (written ≡ flat_map ended texts ++ sent) × FallsShort sent (ended text)
 
 -- what was served of the bytes that were read, at each end; `left` is what the reader has left, where it tells
-abbrev pub Serves : {S T : Type 0} → (S → List ℕ → List ℕ → S → Type 0) → S → List ℕ → Option (List ℕ) → List ℕ → Result T ServeFault → S → Type 0
+abbrev pub Serves : {S T : Type 0} → (S → List ℕ → List ℕ → S → Type 0) → S → List ℕ → Option (List ℕ) → List ℕ → Result T ServeFault → S
+    → Type 0
 Serves answers old got left written (Ok done) new = ServesAll answers old got written new × IsAtEnd left
 Serves answers old got left written (Err Read) new = ServesWhole answers old got written new
 Serves answers old got left written (Err Write) new = (sent : List ℕ) × ServesPart answers old got left written sent new

@@ -1,5 +1,6 @@
 -- What holds between the parts of the engine, over one line. No public clause cites it.
-use Rattle.std.specs.Prelude.{◌≡◌, ℕ, ◌+◌, ◌-◌, ◌*◌, ◌^◌, ◌<◌, ◌≤◌, List, [], ◌∷◌, ◌++◌, length, Bool, true, false, Option, None, Some, Result, Ok, Err}
+use Rattle.std.specs.Prelude.{◌≡◌, ℕ, ◌+◌, ◌-◌, ◌*◌, ◌^◌, ◌<◌, ◌≤◌, List, [], ◌∷◌, ◌++◌, length, Bool, true, false, Option, None, Some}
+use Rattle.std.specs.Prelude.{Result, Ok, Err}
 use Rattle.ws_server.specs.Lines.{IsLine, FallsShort, ended}
 use Rattle.ws_server.specs.ServedLines.{ServesAll, Serves}
 use Rattle.std.specs.Io.KnownBytes.{IsAtEnd, Consumes, Appends}
@@ -36,7 +37,8 @@ Fills before after old (Some n) new =
     (got : List ℕ) × Consumes before after got × (new ≡ old ++ got) × (length got ≡ n) × (n ≡ 0 → IsAtEnd after)
 
 -- one turn over the bytes at hand, with those that were read: a line is served, or the engine ends
-abbrev pub Turn : {S : Type 0} → (S → List ℕ → List ℕ → S → Type 0) → S → List ℕ → Option (List ℕ) → List ℕ → List ℕ → Result Bool ServeFault → S → Type 0
+abbrev pub Turn : {S : Type 0} → (S → List ℕ → List ℕ → S → Type 0) → S → List ℕ → Option (List ℕ) → List ℕ → List ℕ
+    → Result Bool ServeFault → S → Type 0
 Turn answers old all left held written (Ok true) new =
     (line : List ℕ) × (text : List ℕ) × (all ≡ line ++ 10 ∷ held) × IsLine line
     × answers old line text new × (written ≡ ended text)
