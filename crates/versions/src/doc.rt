@@ -18,7 +18,7 @@ use crate::text::text_in;
 use causal_clock::{Clock, Op, OpLog, Replay};
 use counted_tree::{Steps, VersionTree};
 use opid::{Edit, Refusal, SITES, Site, Stamp};
-use rga_list::Rga;
+use rga_list::{LIMIT, Rga};
 use std::alloc::Global;
 use std::marker::Model;
 
@@ -196,7 +196,7 @@ impl Doc {
         ensures { result ≡ option_map (λ x. x.stamp) (slice_get (visible_at self.now.log version) place) }
     {
         let mut steps = Steps::new();
-        let _count = self.list.len();
+        prove!(self.list.len() <= LIMIT);
         match self.tree.find(version as usize, place, &mut steps) {
             None => None,
             Some(elem) => Some(self.list.get(elem).0),
@@ -213,9 +213,9 @@ impl Doc {
         if version as usize > self.log.len() {
             return Err(Refusal::BadVersion);
         }
-        let _count = self.list.len();
+        prove!(self.list.len() <= LIMIT);
         let text = text_in(self.alloc, &self.tree, &self.list, version as usize)?;
-        let _ = text.as_str();
+        prove!(text.as_str().len() == text.len());
         Ok(Characters::new(text))
     }
 }
