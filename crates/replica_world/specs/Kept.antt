@@ -33,6 +33,7 @@ pub record IsSiteOf (logs : List SiteLog) (a : Account) : Type 0 where
   pub settled : (131072 ≤ length a.state.log) ⊎ NoneReady (clock_of a.state.log) a.state.held
   pub received : IsReceived a.state.log a.state.held (got a)
 
+-- what holds of each world
 pub record IsWorld (world : List Account) : Type 0 where
   pub logs : AreLogs (logs_of world)
   pub rooms : AllByRecursion (IsSiteOf (logs_of world)) world

@@ -1,6 +1,7 @@
 -- Editors and their room: which replies a session was given, and what an editor that plays them then reads
 -- (Attiya and others 2016: each client's text is what its replica reads).
-use Rattle.std.specs.Prelude.{◌≡◌, ◌⊎◌, ℕ, Bool, false, ◌==◌, if◌then◌else◌, Option, Some, None, option_map, option_and_then, MatchOption, List, [], ◌∷◌}
+use Rattle.std.specs.Prelude.{◌≡◌, ◌⊎◌, ℕ, Bool, false, ◌==◌, if◌then◌else◌, Option, Some, None, option_map, option_and_then, MatchOption}
+use Rattle.std.specs.Prelude.{List, [], ◌∷◌}
 use Rattle.std.specs.List.{AllByRecursion}
 use Rattle.session_outbox.specs.Sessions.{Session, session_with}
 use Rattle.room.specs.declared.call.Call.{Call}
@@ -42,6 +43,7 @@ abbrev pub WasGiven : ℕ → State → List (ℕ × Call) → Reply → Type 0
 WasGiven s S [] r = WasRefused s S r
 WasGiven s S (e ∷ es) r = ((r ≡ answer S e.1) × (given_to e.1 r ≡ Some s)) ⊎ WasGiven s (next S e.1) es r
 
+-- what was found, or else what was found before
 abbrev pub or_before : Option Session → Option Session → Option Session
 or_before (Some w) before = Some w
 or_before None before = before
@@ -61,6 +63,7 @@ EditorsConverge room = (s : ℕ) (joined : Reply) (later : List Reply) → opene
 
 -- ---- an editor that is given each reply once, in order
 
+-- the session that was found is this one
 abbrev pub is_session : ℕ → Option ℕ → Bool
 is_session s None = false
 is_session s (Some t) = t == s
@@ -95,4 +98,5 @@ PullsInStep s S (e ∷ es) E = NamesVersion s E e.1 × PullsInStep s (next S e.1
 -- has, has the session's sent version.
 abbrev pub EditorsKeepUp : Account → Type 0
 EditorsKeepUp room = (s : ℕ) → PullsInStep s room.opening room.history (Some empty_editor)
-    → MatchOption (last_known s room.opening room.history None) (Unit {0}) (λ w. MatchOption (editor (replies_to s room.opening room.history)) ⊥ (λ E. E.version ≡ w.sent))
+    → MatchOption (last_known s room.opening room.history None) (Unit {0})
+    (λ w. MatchOption (editor (replies_to s room.opening room.history)) ⊥ (λ E. E.version ≡ w.sent))

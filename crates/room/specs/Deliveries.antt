@@ -9,6 +9,7 @@ use Rattle.replica.specs.Deliver.{Delivered, deliver}
 use Rattle.room.specs.declared.outcome.Outcome.{Outcome}
 use Rattle.room.specs.declared.outcome.Outcome.TheVariants.{Took, Kept, Again, No}
 
+-- what a `put` tells of a delivery
 abbrev pub outcome_of : Result Delivery Refusal → Outcome
 outcome_of (Ok (deliveries.Took taken dropped)) = Took taken dropped
 outcome_of (Ok deliveries.Kept) = Kept
@@ -21,6 +22,7 @@ pub record Handed : Type 0 where
   pub log : List Operation
   pub held : List Operation
 
+-- the outcome of the first operation stands before those of the rest
 abbrev pub after_first : Delivered → Handed → Handed
 after_first d rest = record rest { outcomes = outcome_of d.outcome ∷ rest.outcomes }
 

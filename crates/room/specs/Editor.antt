@@ -9,6 +9,7 @@ use Rattle.session_outbox.specs.Sessions.{Session}
 use Rattle.room.specs.declared.reply.Reply.{Reply}
 use Rattle.room.specs.declared.reply.Reply.TheVariants.{Joined, Ok, Edits, Left, Ops, Put, Text, No}
 
+-- what an editor shows: its text, and the version that it says it has
 pub record Editor : Type 0 where
   pub text : List ℕ
   pub version : ℕ
@@ -40,6 +41,7 @@ abbrev pub editor_from : Editor → List Reply → Option Editor
 editor_from E [] = Some E
 editor_from E (r ∷ rs) = option_and_then (λ F. editor_from F rs) (with_reply r E)
 
+-- an editor that was given these replies, one after another
 abbrev pub editor : List Reply → Option Editor
 editor rs = editor_from empty_editor rs
 

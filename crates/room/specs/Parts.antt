@@ -19,7 +19,8 @@ abbrev pub state_with : ReplicaState → Outbox → ℕ → State
 state_with replica outbox count = record { site = replica.site; log = replica.log; held = replica.held; outbox = outbox; count = count }
 
 -- a call that is recorded, however many were: its answer, and the replica and the sessions then
-pub record Does (replica : ReplicaState) (outbox : Outbox) (c : Call) (reply : Reply) (replica' : ReplicaState) (outbox' : Outbox) : Type 0 where
+pub record Does (replica : ReplicaState) (outbox : Outbox) (c : Call) (reply : Reply) (replica' : ReplicaState)
+    (outbox' : Outbox) : Type 0 where
   pub answered : (count : ℕ) → reply ≡ recorded_answer (state_with replica outbox count) c
   pub done : (count : ℕ) → state_with replica' outbox' count ≡ recorded_next (state_with replica outbox count) c
 

@@ -10,9 +10,9 @@ loop-site-init c = subst (λ v. Goes c.args.pairs.now 0 v 0) (sym c.zero-clock.e
 pub returns-then-number-least : goal.returns-then-number-least
 returns-then-number-least c = untold c.args.pairs.now (λ h. Goes-stop c.args.pairs.now c.loop-site.least c.loop-site.clock c.loop-site.site-index c.loop-site-item.result c.loop-site.invariant c.loop-site-test.true c.loop-site-item.is (λ a b m.
     elim c.then-number-least.branch [
-    | then-number-least-via-then-number-least w ↦ omega (arith, a, w.if-number-least.true, c.number-number.ensures.value)
-    | then-number-least-via-else-number-least+then-count-eq0 w ↦ omega (arith, b, w.if-count-eq0.true)
-    | then-number-least-via-else-number-least+else-count-eq0+then-count-sum w ↦ omega (arith, m, w.if-count-sum.true, w.sum.ensures.value)
+      | then-number-least-via-then-number-least w ↦ omega (arith, a, w.if-number-least.true, c.number-number.ensures.value)
+      | then-number-least-via-else-number-least+then-count-eq0 w ↦ omega (arith, b, w.if-count-eq0.true)
+      | then-number-least-via-else-number-least+else-count-eq0+then-count-sum w ↦ omega (arith, m, w.if-count-sum.true, w.sum.ensures.value)
     ]) h)
 
 pub loop-site-preserved : goal.loop-site-preserved
