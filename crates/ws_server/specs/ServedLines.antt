@@ -32,7 +32,7 @@ abbrev pub Reaches : Option (List ℕ) → List ℕ → List (List ℕ) → List
 Reaches left got lines line =
     All IsLine lines × IsLine line
     × (((rest : List ℕ) × (got ≡ flat_map ended lines ++ (line ++ 10 ∷ rest)))
-        ⊎ ((0 < length line) × (got ≡ flat_map ended lines ++ line) × IsAtEnd left))
+    ⊎ ((0 < length line) × (got ≡ flat_map ended lines ++ line) × IsAtEnd left))
 
 -- the first lines were answered, and one more, of whose answer's line only these bytes were sent
 abbrev pub ServesPart : {S : Type 0} → (S → List ℕ → List ℕ → S → Type 0) → S → List ℕ → Option (List ℕ) → List ℕ → List ℕ → S → Type 0
