@@ -9,3 +9,4 @@ pub mod Arms
 pub mod Making
 pub mod Opening
 pub mod Passes
+pub mod Sockets

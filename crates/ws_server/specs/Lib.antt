@@ -11,3 +11,4 @@ pub mod Halls
 pub mod Frames
 pub mod Serving
 pub mod Names
+pub mod Carrying

@@ -2,6 +2,7 @@
 //! hall of rooms by name, and an answer for each message.
 #![tactic(auto)]
 
+mod carrying;
 mod conn;
 mod counted;
 mod engine;
@@ -22,6 +23,7 @@ mod taking;
 mod tests;
 mod window;
 
+pub use carrying::carry;
 pub use conn::Conn;
 pub use counted::Counted;
 pub use engine::{serve, serve_lines};

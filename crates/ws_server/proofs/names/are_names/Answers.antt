@@ -2,7 +2,7 @@
 use Rattle.std.proofs.Common.{rules, tests, string_bytes}
 use Rattle.std.proofs.lemmas.Iterator.{YieldsList-from_slice}
 use Rattle.std.proofs.lemmas.Iterator.Search.{all_from_yields_List}
-use Rattle.ws_server.specs.Names.{is_name_byte, is_name}
+use Rattle.ws_server.specs.Names.{is_name}
 use Rattle.ws_server.proofs.names.are_names.Goals as goal
 
 pub returns : goal.returns

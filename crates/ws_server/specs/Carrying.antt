@@ -1,0 +1,52 @@
+-- What carrying operations from a desk to a desk does, by their steps alone. The rules are the server's own.
+use Rattle.std.specs.Prelude.{◌≡◌, ℕ, ◌+◌, List, [], ◌∷◌, length, Bool, true, false, not, take_while, Result, Ok, Err}
+use Rattle.opid.specs.declared.refusal.Refusal.TheVariants.{Full, HoldFull}
+use Rattle.opid.specs.Operations.{Operation}
+use Rattle.room.specs.declared.call.Call.{Call}
+use Rattle.room.specs.declared.call.Call.TheVariants as calls
+use Rattle.room.specs.declared.reply.Reply.{Reply}
+use Rattle.room.specs.declared.reply.Reply.TheVariants as replies
+use Rattle.room.specs.declared.outcome.Outcome.{Outcome}
+use Rattle.room.specs.declared.outcome.Outcome.TheVariants as outcomes
+use Rattle.room.specs.declared.desk.DeskFault.{DeskFault}
+
+-- whether an operation is to be handed over again: its log or its held list was full
+abbrev pub is_refused_for_room : Outcome → Bool
+is_refused_for_room (outcomes.No Full) = true
+is_refused_for_room (outcomes.No HoldFull) = true
+is_refused_for_room _ = false
+
+-- how many outcomes there are before the first for which there was no room
+abbrev pub carried : List Outcome → ℕ
+carried told = length (take_while (λ o. not (is_refused_for_room o)) told)
+
+-- the operations that a reply tells
+abbrev pub told_ops : Reply → List Operation
+told_ops (replies.Ops from ops) = ops
+told_ops _ = []
+
+-- how many operations a reply says were taken
+abbrev pub told_carried : Reply → ℕ
+told_carried (replies.Put told) = carried told
+told_carried _ = 0
+
+-- a call was answered, or the desk told its fault
+abbrev pub Calls : {S : Type 0} → (S → Call → Reply → S → Type 0) → (S → Call → DeskFault → S → Type 0) → S → Call → Result Reply DeskFault → S → Type 0
+Calls step fault old call (Ok reply) new = step old call reply new
+Calls step fault old call (Err why) new = fault old call why new
+
+-- where the put was answered, the number is after those that were taken
+abbrev pub number_after : ℕ → Result Reply DeskFault → Result ℕ DeskFault
+number_after after (Ok reply) = Ok (after + told_carried reply)
+number_after after (Err why) = Err why
+
+-- the operations were put in one call, or there were none, and no call was made
+abbrev pub Hands : {S : Type 0} → (S → Call → Reply → S → Type 0) → (S → Call → DeskFault → S → Type 0) → S → ℕ → List Operation → Result ℕ DeskFault → S → Type 0
+Hands step fault old after [] result new = (result ≡ Ok after) × (new ≡ old)
+Hands step fault old after (op ∷ ops) result new =
+    (answered : Result Reply DeskFault) × Calls step fault old (calls.Put (op ∷ ops)) answered new × (result ≡ number_after after answered)
+
+-- what followed what the first desk answered
+abbrev pub Follows : {S : Type 0} → (S → Call → Reply → S → Type 0) → (S → Call → DeskFault → S → Type 0) → S → ℕ → Result Reply DeskFault → Result ℕ DeskFault → S → Type 0
+Follows step fault old after (Ok reply) result new = Hands step fault old after (told_ops reply) result new
+Follows step fault old after (Err why) result new = (result ≡ Err why) × (new ≡ old)
