@@ -14,13 +14,20 @@ use Rattle.rgatext.specs.declared.plan.Plan.TheVariants.{Lines, Text as TextOf, 
 
 -- `--site N`, a whole number from 0 to 31, or 0
 abbrev pub site_option : Rule
-site_option = record (new_rule (codes "site")) { long = Some (codes "site"); parser = Some (vp.Signed (pos 0) (pos 31)); value_names = 1;
-    defaults = codes "0" ∷ [] }
+site_option = record (new_rule (codes "site")) {
+  long = Some (codes "site");
+  parser = Some (vp.Signed (pos 0) (pos 31));
+  value_names = 1;
+  defaults = codes "0" ∷ [];
+}
 
 -- `--version V`, a whole number of 32 bits
 abbrev pub version_option : Rule
-version_option = record (new_rule (codes "version")) { long = Some (codes "version"); parser = Some (vp.Signed (pos 0) (pos 4294967295));
-    value_names = 1 }
+version_option = record (new_rule (codes "version")) {
+  long = Some (codes "version");
+  parser = Some (vp.Signed (pos 0) (pos 4294967295));
+  value_names = 1;
+}
 
 -- `--sites N`, a whole number from 1 to 32, or 2
 abbrev pub sites_option : Rule
