@@ -1,8 +1,9 @@
 //! What the words of the command line ask the program to do.
 ghost use Rattle.std.specs.Prelude.{◌≡◌, [], Some, None, Option, ℕ, ◌≤◌, false, IfOk, IfErr, IfSome, IfNone, map, option_map, string_bytes};
 ghost use Rattle.clap.specs.Words.{app_of, fault_of, found_of, kind_of, rows_of, rule_of, first_of, subcommand_of, subcommand_rows_of};
+ghost use Rattle.clap.specs.declared.builder.command.Command.TheViews.{out-Command};
 ghost use Rattle.rgatext.specs.declared.plan.Plan.{Plan};
-ghost use Rattle.rgatext.specs.CommandLine.{rgatext, site_option, flag_option, version_option, sites_option, Asks, AsksNothing, ReadsTo, Refuses, ToldBy, is_set};
+ghost use Rattle.rgatext.specs.CommandLine.{rgatext, lines, text, world, site_option, flag_option, version_option, sites_option, Asks, AsksNothing, ReadsTo, Refuses, ToldBy, is_set};
 
 use crate::plan::{Plan, PlanFault, Sites};
 use crate::serve_words::{serve_command, serve_plan};
@@ -36,6 +37,23 @@ pub fn plan(alloc: Global, words: &[String]) -> Result<Plan, PlanFault>
 fn command<'a>(alloc: Global) -> Result<Command<'a>, AllocError>
     ensures { IfOk result (λ made. app_of made ≡ rgatext) }
 {
+    let lines = lines_command(alloc)?;
+    let text = text_command(alloc)?;
+    let world = world_command(alloc)?;
+    let serve = serve_command(alloc)?;
+    let top = Command::new(alloc, "rgatext")
+        .about("A replicated text server")
+        .subcommand_required(true);
+    let top = top.subcommand(lines)?;
+    let top = top.subcommand(text)?;
+    let top = top.subcommand(world)?;
+    top.subcommand(serve)
+}
+
+fn lines_command<'a>(alloc: Global) -> Result<Command<'a>, AllocError>
+    ensures shape { IfOk result (λ made. app_of made ≡ lines) }
+    ensures local { IfOk result (λ made. (out-Command made).has_globals ≡ false) }
+{
     let site = site_arg(alloc);
     let resume = flag_arg(
         alloc,
@@ -47,30 +65,34 @@ fn command<'a>(alloc: Global) -> Result<Command<'a>, AllocError>
         "snapshot",
         "Writes the room's snapshot as the last line",
     );
-    let version = version_arg(alloc);
     let lines = Command::new(alloc, "lines").about(
         "Serves requests from standard input to standard output, one a line",
     );
     let lines = lines.arg(site)?;
     let lines = lines.arg(resume)?;
-    let lines = lines.arg(snapshot)?;
+    lines.arg(snapshot)
+}
+
+fn text_command<'a>(alloc: Global) -> Result<Command<'a>, AllocError>
+    ensures shape { IfOk result (λ made. app_of made ≡ text) }
+    ensures local { IfOk result (λ made. (out-Command made).has_globals ≡ false) }
+{
+    let version = version_arg(alloc);
     let text = Command::new(alloc, "text").about(
         "Prints the reading of the snapshot on standard input",
     );
-    let text = text.arg(version)?;
+    text.arg(version)
+}
+
+fn world_command<'a>(alloc: Global) -> Result<Command<'a>, AllocError>
+    ensures shape { IfOk result (λ made. app_of made ≡ world) }
+    ensures local { IfOk result (λ made. (out-Command made).has_globals ≡ false) }
+{
     let sites = sites_arg(alloc);
     let world = Command::new(alloc, "world").about(
         "Plays a script of events over sites that exchange operations",
     );
-    let world = world.arg(sites)?;
-    let top = Command::new(alloc, "rgatext")
-        .about("A replicated text server")
-        .subcommand_required(true);
-    let top = top.subcommand(lines)?;
-    let top = top.subcommand(text)?;
-    let top = top.subcommand(world)?;
-    let serve = serve_command(alloc)?;
-    top.subcommand(serve)
+    world.arg(sites)
 }
 
 pub(crate) fn site_arg<'a>(alloc: Global) -> Arg<'a>
