@@ -81,6 +81,9 @@ class Socket:
             self.line = None
             raise Lost from None
 
+    def close(self):
+        self.run(self.line.close())
+
 
 def carried(place, edits):
     """A caret's place in the text before the edits, as its place in the text after them: that of the same character,
@@ -100,7 +103,6 @@ class Session:
         self.ask = ask
         self.tries = tries  # how often a request is sent whose answer is lost
         self.pause = pause  # seconds before a request is sent again that found no memory
-        self.number = None
         self.join()
 
     # ---- asking
@@ -129,8 +131,7 @@ class Session:
         reply = self._answer({"t": "join"})
         if reply["r"] == "no":
             self._refuse(reply["n"])
-        self.session, self.version, self.text = reply["s"], reply["v"], list(reply["x"])
-        self.number = 0
+        self.session, self.version, self.text, self.number = reply["s"], reply["v"], list(reply["x"]), 0
 
     def leave(self):
         """Ends the session. A second `leave`, where the answer to the first was lost, is answered 5."""
