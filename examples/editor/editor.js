@@ -1,0 +1,291 @@
+// An editor of one rgatext room: what is typed shows at once, and what others type comes in between. docs/PROTOCOL.md tells
+// the frames. Opened from disk or from any static server; there is nothing to build.
+"use strict";
+
+const MOST = 64; // characters of a submission, edits of a pull
+const SOON = 50, LATE = 1000; // milliseconds between two pulls
+
+const after = (milliseconds) => new Promise((over) => setTimeout(over, milliseconds));
+
+// A request is one message and its answer the next one, so answers are handed out in the order of requests.
+class Room {
+  constructor(host, name, opened, closed) {
+    this.waiting = [];
+    this.socket = new WebSocket(host);
+    this.socket.onopen = () => this.ask({ t: "open", room: name }).then(opened);
+    this.socket.onmessage = ({ data }) => this.waiting.shift()(JSON.parse(data));
+    this.socket.onclose = closed;
+  }
+
+  ask(request) {
+    this.socket.send(JSON.stringify(request));
+    return new Promise((answered) => this.waiting.push(answered));
+  }
+}
+
+// The document. A character is an object, so that it stays itself wherever it moves: `base` has those of the version that was
+// pulled last, `shown` those that the reader sees. What is in `shown` and was never in `base` was typed here and isn't
+// pulled yet; what is in `base` alone was deleted here.
+class Document {
+  constructor() {
+    this.version = 0;
+    this.base = [];
+    this.shown = [];
+    this.mine = new Map(); // the character that an accepted insertion of ours puts in, by the version before it
+  }
+
+  text() {
+    return this.shown.map((it) => it.ch).join("");
+  }
+
+  // The reader put a text in the place of the characters from `start` to `end`.
+  type(start, end, text) {
+    this.shown.splice(start, end - start, ...Array.from(text, (ch) => ({ ch, isPlaced: false })));
+  }
+
+  // Plays edits from the pulled version on, and shows what came of them.
+  play(edits) {
+    const fresh = new Set();
+    for (const [kind, place, ch] of edits) {
+      if (kind === "i") {
+        const it = this.mine.get(this.version) ?? { ch };
+        if (it.isPlaced === undefined) fresh.add(it);
+        it.isPlaced = true;
+        this.base.splice(place, 0, it);
+      } else if (kind === "d") this.base.splice(place, 1);
+      this.mine.delete(this.version);
+      this.version += 1;
+    }
+    this.settle(fresh);
+  }
+
+  // A new session begins with this version and text. The characters at its beginning and end that were there before stay
+  // themselves, and what is typed here stays beside them. (What was under way when a line broke may come twice.)
+  restart(version, text) {
+    const old = this.base, chars = Array.from(text);
+    let head = 0, tail = 0;
+    const most = Math.min(old.length, chars.length);
+    while (head < most && old[head].ch === chars[head]) head++;
+    while (tail < most - head && old[old.length - 1 - tail].ch === chars[chars.length - 1 - tail]) tail++;
+    const fresh = chars.slice(head, chars.length - tail).map((ch) => ({ ch, isPlaced: true }));
+    this.base = [...old.slice(0, head), ...fresh, ...old.slice(old.length - tail)];
+    this.version = version;
+    this.mine.clear();
+    this.settle(new Set(fresh));
+  }
+
+  // Shows `base` without what was deleted here, and what was typed here behind the character that it was typed behind.
+  settle(fresh) {
+    const base = new Set(this.base), seen = new Set(this.shown), behind = new Map([[null, []]]);
+    let anchor = null;
+    for (const it of this.shown) {
+      if (base.has(it)) behind.set((anchor = it), []);
+      else if (!it.isPlaced) behind.get(anchor).push(it);
+    }
+    this.shown = [...behind.get(null)];
+    for (const it of this.base) {
+      if (seen.has(it) || fresh.has(it)) this.shown.push(it);
+      this.shown.push(...(behind.get(it) ?? []));
+    }
+  }
+
+  // What is to be submitted in the pulled version: runs that were typed here, each with its place, and runs that were
+  // deleted here.
+  changes() {
+    const places = new Map(this.base.map((it, place) => [it, place])), seen = new Set(this.shown), found = [];
+    let k = 0, run = null;
+    for (const it of this.shown) {
+      if (places.has(it)) {
+        k = places.get(it) + 1;
+        run = null;
+      } else {
+        if (!run) found.push((run = { t: "ins", k, chars: [] }));
+        run.chars.push(it);
+      }
+    }
+    run = null;
+    this.base.forEach((it, place) => {
+      if (seen.has(it)) run = null;
+      else {
+        if (!run || run.chars.length === MOST) found.push((run = { t: "del", k: place, chars: [] }));
+        run.chars.push(it);
+      }
+    });
+    return found;
+  }
+}
+
+// A session of the room, shown on the page.
+class Editor {
+  constructor(host, name, page) {
+    this.page = page;
+    this.document = new Document();
+    this.connect = () => {
+      this.session = null;
+      const opened = (reply) => (reply.r === "opened" ? this.run(this.room) : this.stop(reply.n));
+      this.room = new Room(host, name, opened, () => {
+        if (this.isOver) return;
+        this.page.tell("not connected; trying again", true);
+        setTimeout(this.connect, LATE);
+      });
+    };
+    this.connect();
+  }
+
+  // Joins, submits what was typed and pulls: again at once while there is something to do, and else less and less often.
+  async run(room) {
+    let pause = SOON;
+    while (room === this.room && !this.isOver) {
+      const was = this.document.version;
+      const isDone = this.session === null ? await this.join() : (await this.submit()) && (await this.pull());
+      if (!isDone) continue;
+      this.tell();
+      pause = this.document.version > was ? SOON : Math.min(2 * pause, LATE);
+      if (this.document.changes().length === 0) await Promise.race([after(pause), new Promise((over) => (this.wake = over))]);
+    }
+  }
+
+  // The session, the pulled version, and what waits for the server.
+  tell() {
+    const waiting = this.document.changes().reduce((sum, { chars }) => sum + chars.length, 0);
+    const state = waiting > 0 ? `${waiting} changes wait for the server` : "all is sent";
+    if (this.session !== null && !this.isOver) this.page.tell(`session ${this.session}, version ${this.document.version}, ${state}`);
+  }
+
+  async join() {
+    const reply = await this.room.ask({ t: "join" });
+    if (reply.r === "no") return this.refused(reply.n);
+    this.session = reply.s;
+    this.number = 0;
+    this.show(() => this.document.restart(reply.v, reply.x));
+    return true;
+  }
+
+  // All changes name one version, whose places don't move; so the parts of a long run are sent last part first, each to the
+  // place of the whole.
+  async submit() {
+    const v = this.document.version;
+    for (const { t, k, chars } of this.document.changes()) {
+      if (t === "del") {
+        if (!(await this.accepted({ t, v, k, c: chars.length }))) return false;
+        continue;
+      }
+      for (let at = MOST * Math.floor((chars.length - 1) / MOST); at >= 0; at -= MOST) {
+        const part = chars.slice(at, at + MOST);
+        const reply = await this.accepted({ t, v, k, x: part.map((it) => it.ch).join("") });
+        if (!reply) return false;
+        part.forEach((it, i) => this.document.mine.set(reply.from + i, it));
+      }
+    }
+    return true;
+  }
+
+  // The reply to a submission; none where it was refused. For want of memory it is sent again.
+  async accepted(request) {
+    for (;;) {
+      const reply = await this.room.ask({ ...request, s: this.session, n: this.number + 1 });
+      if (reply.r === "no" && (reply.n === 25 || reply.n === 26)) await after(SOON);
+      else if (reply.r === "no") return this.refused(reply.n);
+      else {
+        this.number += 1;
+        return reply;
+      }
+    }
+  }
+
+  // Pulls up to the newest version.
+  async pull() {
+    for (;;) {
+      const reply = await this.room.ask({ t: "pull", s: this.session, have: this.document.version, max: MOST });
+      if (reply.r === "no") return this.refused(reply.n);
+      if (reply.es.length > 0) this.show(() => this.document.play(reply.es));
+      if (reply.es.length < MOST) return true;
+    }
+  }
+
+  // Changes the document, with the page's selection behind the same characters.
+  show(change) {
+    const selected = this.page.selected(this.document);
+    change();
+    this.page.show(this.document, selected);
+  }
+
+  // At 5, 7, 8, 9 and 22 the room and this session no longer speak of one text: the next session begins with the newest.
+  refused(number) {
+    this.session = null;
+    return [5, 7, 8, 9, 22].includes(number) ? false : this.stop(number);
+  }
+
+  stop(number) {
+    this.close();
+    const why = { 4: "there is no such room", 6: "the room has 64 sessions", 12: "the document is full", 13: "the room is worn" };
+    this.page.tell(why[number] ?? `refused ${number}`, true);
+    return false;
+  }
+
+  close() {
+    this.isOver = true;
+    this.room.socket.close();
+  }
+}
+
+// The text area. Its places are UTF-16 units, the document's are characters.
+class Page {
+  constructor(area, state) {
+    this.area = area;
+    this.state = state;
+  }
+
+  // The characters before the selection's beginning, and before its end.
+  selected(document) {
+    const before = (unit) => document.shown.slice(0, Array.from(this.area.value.slice(0, unit)).length);
+    return [before(this.area.selectionStart), before(this.area.selectionEnd)];
+  }
+
+  // Shows the document. Where a character that stood before the selection is gone, the one before it counts.
+  show(document, [start, end]) {
+    const top = this.area.scrollTop, units = new Map();
+    let unit = 0;
+    for (const it of document.shown) units.set(it, (unit += it.ch.length));
+    const behind = (before) => units.get(before.findLast((it) => units.has(it))) ?? 0;
+    this.area.value = document.text();
+    this.area.setSelectionRange(behind(start), behind(end));
+    this.area.scrollTop = top;
+  }
+
+  // Tells the document what the reader changed: the text behind the caret stayed, and what is equal before it.
+  typed(document) {
+    const now = Array.from(this.area.value), old = document.shown.map((it) => it.ch);
+    const most = Math.min(now.length, old.length);
+    const behind = now.length - Array.from(this.area.value.slice(0, this.area.selectionEnd)).length;
+    let tail = 0, head = 0;
+    const isSameTail = () => now[now.length - 1 - tail] === old[old.length - 1 - tail];
+    while (tail < Math.min(behind, most) && isSameTail()) tail++;
+    while (head < most - tail && now[head] === old[head]) head++;
+    while (tail < most - head && isSameTail()) tail++;
+    document.type(head, old.length - tail, now.slice(head, now.length - tail).join(""));
+  }
+
+  tell(text, isTrouble = false) {
+    this.state.textContent = text;
+    this.state.className = isTrouble ? "trouble" : "";
+  }
+}
+
+const page = new Page(document.getElementById("text"), document.getElementById("state"));
+let editor = null;
+
+document.getElementById("where").onsubmit = (event) => {
+  event.preventDefault();
+  editor?.close();
+  page.area.value = "";
+  page.area.disabled = false;
+  page.area.focus();
+  editor = new Editor(document.getElementById("host").value, document.getElementById("room").value, page);
+};
+
+page.area.oninput = () => {
+  page.typed(editor.document);
+  editor.tell();
+  editor.wake?.();
+};
