@@ -1,0 +1,138 @@
+#!/usr/bin/env python3
+"""Keeps one room of several rgatext servers in step, by `ops` and `put` (docs/PROTOCOL.md).
+
+    bridge.py ws://127.0.0.1:7878 notes [redis://127.0.0.1:6379]
+    bridge.py --direct ws://127.0.0.1:7878 ws://127.0.0.1:7879 notes
+
+The first runs beside each server: what its room has goes to a stream of the broker Redis, and what others put there comes to
+the room. The second carries between two servers without a broker. The servers need different site numbers. Nothing is kept
+here: a bridge may be started anew at any time, since what comes again is answered `again`. Each poll is a call that the room
+records, so an idle bridge polls once a second. It needs the libraries `websockets` and, for the broker, `redis`.
+"""
+import json
+import sys
+import time
+
+from client import Lost, Socket
+
+MOST = 64  # operations of an `ops` or a `put`
+SOON, LATE = 0.02, 1.0  # seconds between two polls
+NOT_YET = 18  # too many wait for what hasn't come
+
+
+class Refused(Exception):
+    """A room refused an operation for good."""
+
+
+class Room:
+    """A server's room, and how much of its log was seen."""
+
+    def __init__(self, address, name):
+        self.ask = Socket(address, name)
+        self.seen = 0
+
+    def news(self):
+        """The next operations of the log."""
+        reply = self.ask({"t": "ops", "after": self.seen, "max": MOST})
+        return reply["ops"]
+
+    def put(self, operations):
+        """Puts operations, at most 64, and gives those that have to come again since too many wait."""
+        if not operations:
+            return []
+        outcomes = self.ask({"t": "put", "ops": operations})["os"]
+        for operation, outcome in zip(operations, outcomes):
+            if outcome[0] == "no" and outcome[1] != NOT_YET:
+                raise Refused(f"{outcome[1]}: {json.dumps(operation)}")
+        return [operation for operation, outcome in zip(operations, outcomes) if outcome[0] == "no"]
+
+
+def carry(source, target):
+    """Carries the next operations from one room to the other, and says whether there were any. Those that have to come
+    again stay the next ones."""
+    operations = source.news()
+    again = target.put(operations)
+    source.seen += operations.index(again[0]) if again else len(operations)
+    return bool(operations) and not again
+
+
+def identity(operation):
+    """Its site, and its number among the operations of that site: no two operations have both."""
+    return operation["s"], dict(operation["c"])[operation["s"]]
+
+
+class Stream:
+    """The room's stream at the broker, read from its beginning."""
+
+    def __init__(self, url, name):
+        import redis
+
+        self.broker = redis.Redis.from_url(url)
+        self.key = f"rgatext:{name}"
+        self.last = b"0-0"
+        self.there = set()  # what was read from the stream, or put there
+
+    def news(self, pause):
+        """The next operations, waiting a little where there are none."""
+        found = self.broker.xread({self.key: self.last}, count=MOST, block=max(1, int(1000 * pause)))
+        entries = found[0][1] if found else []
+        operations = [json.loads(fields[b"op"]) for _, fields in entries]
+        if entries:
+            self.last = entries[-1][0]
+        self.there.update(map(identity, operations))
+        return operations
+
+    def put(self, operations):
+        for operation in operations:
+            if identity(operation) not in self.there:
+                self.broker.xadd(self.key, {"op": json.dumps(operation)})
+                self.there.add(identity(operation))
+
+
+def keep_in_step(room, stream):
+    """Carries both ways. What the room can't hold back yet comes again after what is put next."""
+    again, pause = [], SOON
+    while True:
+        operations = stream.news(pause)
+        again = room.put(again[:MOST]) + again[MOST:]
+        again += room.put(operations)
+        news = room.news()
+        stream.put(news)
+        room.seen += len(news)
+        pause = SOON if operations or news else min(2 * pause, LATE)
+
+
+def keep_two_in_step(first, second):
+    pause = SOON
+    while True:
+        pause = SOON if carry(first, second) | carry(second, first) else min(2 * pause, LATE)
+        time.sleep(pause)
+
+
+def main():
+    words = sys.argv[1:]
+    if words[:1] == ["--direct"] and len(words) == 4:
+        run = lambda: keep_two_in_step(Room(words[1], words[3]), Room(words[2], words[3]))
+    elif len(words) in (2, 3) and not words[0].startswith("-"):
+        url = words[2] if len(words) == 3 else "redis://127.0.0.1:6379"
+        run = lambda: keep_in_step(Room(words[0], words[1]), Stream(url, words[1]))
+    else:
+        sys.exit(__doc__)
+    while True:  # from the beginning, whenever a server or the broker was away
+        try:
+            run()
+        except Refused as why:
+            sys.exit(f"refused {why}")
+        except Lost:
+            print("the server is away", file=sys.stderr)
+        except OSError as why:
+            print(f"away: {why}", file=sys.stderr)
+        except Exception as why:  # redis.ConnectionError is no OSError
+            if type(why).__module__.split(".")[0] != "redis":
+                raise
+            print(f"the broker is away: {why}", file=sys.stderr)
+        time.sleep(LATE)
+
+
+if __name__ == "__main__":
+    main()
