@@ -8,7 +8,7 @@ use opid::{Refusal, Site};
 use std::alloc::Global;
 use std::io::Print;
 use std::net::{Net, TcpListener, TcpStream};
-use std::sync::Wait;
+use std::sync::{Mutex, Wait};
 use std::thread;
 use std::thread::Threads;
 use ws_server::{Gate, Hall, HallPass, ServeFault, names_fit, serve_socket};
@@ -26,17 +26,26 @@ impl Gate for Open {
     fn after(&mut self, _n: u64) {}
 }
 
-// Serves one connection to its end.
+// What became of the connections, in order of acceptance: the fault with which each ended, if one did.
+type Ends = Mutex<Vec<Option<ServeFault>>>;
+
+// Serves one connection to its end, and notes the fault that it ends with at its place.
 fn serve<R: Wait>(
     rt: &R,
     alloc: Global,
     hall: &Hall,
     mut pass: HallPass,
     stream: TcpStream,
-) -> Result<(), ServeFault>
+    ends: &Ends,
+    place: usize,
+)
     requires { IsHallPassOf hall.now pass }
 {
-    serve_socket(rt, alloc, hall, &mut pass, stream, &mut Open)
+    if let Err(fault) = serve_socket(rt, alloc, hall, &mut pass, stream, &mut Open) {
+        if let Some(end) = ends.lock(rt).get_mut(place) {
+            *end = Some(fault);
+        }
+    }
 }
 
 // The next connection, which sends what it has at once: a reply that waits to be longer would hold up a client that
@@ -45,10 +54,9 @@ fn accept(listener: &TcpListener) -> Result<TcpStream, Stop> {
     let Ok((stream, _)) = listener.accept() else {
         return Err(Stop::Socket);
     };
-    match stream.set_nodelay(true) {
-        Ok(()) => Ok(stream),
-        Err(_) => Err(Stop::Socket),
-    }
+    // (Where this fails the other side has gone, as the first read will tell.)
+    let _ = stream.set_nodelay(true);
+    Ok(stream)
 }
 
 // A listener at the port, once it was told of.
@@ -65,8 +73,51 @@ fn listen<R: Net<Listener = TcpListener, Stream = TcpStream> + Print>(
     }
 }
 
+// Serves so many connections, each by a thread, until all have ended. Once the last is accepted, or one can't be had,
+// nobody listens any more. A thread's handle is given up at once, so that a thread that has ended leaves nothing behind.
+fn serve_all<R: Net<Listener = TcpListener, Stream = TcpStream> + Threads + Wait + Sync>(
+    rt: &R,
+    alloc: Global,
+    hall: &Hall,
+    mut pass: HallPass,
+    listener: TcpListener,
+    conns: u32,
+    ends: &Ends,
+) -> Result<(), Stop>
+    requires { IsHallPassOf hall.now pass }
+{
+    thread::scope(
+        thread::scope_env(),
+        rt,
+        move |scope| -> Result<(), Stop>
+            requires { IsSync R.row × IsHallPassOf hall.now pass }
+        {
+            for n in 0..conns {
+                let stream = accept(&listener)?;
+                let given = match hall.split(alloc, &mut pass, DRAWS) {
+                    Ok(given) => given,
+                    Err(why) => return Err(Stop::of(why)),
+                };
+                if ends.lock(rt).push(None).is_err() {
+                    return Err(Stop::Fault(ServeFault::Memory));
+                }
+                let worker = scope.spawn(
+                    move ||
+                        requires { IsSync R.row × IsHallPassOf hall.now given }
+                    { serve(rt, alloc, hall, given, stream, ends, n as usize) },
+                );
+                if worker.is_err() {
+                    return Err(Stop::Socket);
+                }
+            }
+            Ok(())
+        },
+    )
+}
+
 /// Serves a room for each name on port `port` of 127.0.0.1, prints `listening` and the port once it listens, accepts
-/// `conns` connections, waits for all and ends.
+/// `conns` connections, waits for all and ends. Takes a thread for each connection that is there, and a few bytes for each
+/// that has ended.
 ///
 /// A connection's fault ends it alone, and is warned of at the end, in order of acceptance. Names that don't fit are
 /// refused with `BadField`; a listener, a connection or a thread that can't be had ends it with `Socket`, once the
@@ -77,44 +128,18 @@ pub fn host<
     if !names_fit(names) {
         return Err(Stop::Refused(Refusal::BadField));
     }
-    let Ok((hall, mut pass)) = Hall::new(alloc, site, names) else {
+    let Ok((hall, pass)) = Hall::new(alloc, site, names) else {
         return Err(Stop::Fault(ServeFault::Memory));
     };
     let listener = listen(rt, port)?;
-    let hall = &hall;
-    thread::scope(
-        thread::scope_env(),
-        rt,
-        |scope| -> Result<(), Stop>
-            requires { IsSync R.row × IsHallPassOf hall.now pass }
-        {
-            let mut workers = Vec::new(alloc);
-            for _ in 0..conns {
-                let stream = accept(&listener)?;
-                let given = match hall.split(alloc, &mut pass, DRAWS) {
-                    Ok(given) => given,
-                    Err(why) => return Err(Stop::of(why)),
-                };
-                let worker = scope.spawn(
-                    move || -> Result<(), ServeFault>
-                        requires { IsSync R.row × IsHallPassOf hall.now given }
-                    { serve(rt, alloc, hall, given, stream) },
-                );
-                let Ok(worker) = worker else {
-                    return Err(Stop::Socket);
-                };
-                if workers.push(worker).is_err() {
-                    return Err(Stop::Fault(ServeFault::Memory));
-                }
-            }
-            let mut n = 0u32;
-            for worker in workers {
-                n = n.saturating_add(1);
-                if let Err(fault) = worker.join(rt) {
-                    warn!(rt; "connection {n} {fault}");
-                }
-            }
-            Ok(())
-        },
-    )
+    let ends = Mutex::new(Vec::new(alloc));
+    serve_all(rt, alloc, &hall, pass, listener, conns, &ends)?;
+    let mut n = 0u32;
+    for end in ends.into_inner() {
+        n = n.saturating_add(1);
+        if let Some(fault) = end {
+            warn!(rt; "connection {n} {fault}");
+        }
+    }
+    Ok(())
 }

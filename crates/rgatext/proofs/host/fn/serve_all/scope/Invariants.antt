@@ -1,0 +1,7 @@
+-- The hall's pass stays one of the hall.
+use Rattle.std.proofs.Common.{◌≡◌}
+use Rattle.ws_server.specs.Halls.{IsHallPassOf}
+use Rattle.rgatext.proofs.host.fn.serve_all.scope.Given as goal
+
+abbrev pub invariant-loop-n : goal.invariant-loop-n
+invariant-loop-n g l = IsHallPassOf l.hall l.pass
