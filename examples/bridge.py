@@ -13,28 +13,32 @@ import json
 import sys
 import time
 
-from client import Lost, Socket
+from client import Lost, Refused, Socket
 
 MOST = 64  # operations of an `ops` or a `put`
 SOON, LATE = 0.02, 1.0  # seconds between two polls
 NOT_YET = 18  # too many wait for what hasn't come
-
-
-class Refused(Exception):
-    """A room refused an operation for good."""
+NEVER = (17, 19, 20, 21)  # a forged operation, or one of another life of the room
 
 
 class Room:
     """A server's room, and how much of its log was seen."""
 
     def __init__(self, address, name):
-        self.ask = Socket(address, name)
+        self.socket = Socket(address, name)
         self.seen = 0
+
+    def ask(self, request):
+        reply = self.socket(request)
+        if reply["r"] == "no" and reply["n"] in (25, 26):
+            raise Lost
+        if reply["r"] == "no":
+            raise Refused(reply["n"])
+        return reply
 
     def news(self):
         """The next operations of the log."""
-        reply = self.ask({"t": "ops", "after": self.seen, "max": MOST})
-        return reply["ops"]
+        return self.ask({"t": "ops", "after": self.seen, "max": MOST})["ops"]
 
     def put(self, operations):
         """Puts operations, at most 64, and gives those that have to come again since too many wait."""
@@ -42,9 +46,11 @@ class Room:
             return []
         outcomes = self.ask({"t": "put", "ops": operations})["os"]
         for operation, outcome in zip(operations, outcomes):
-            if outcome[0] == "no" and outcome[1] != NOT_YET:
-                raise Refused(f"{outcome[1]}: {json.dumps(operation)}")
-        return [operation for operation, outcome in zip(operations, outcomes) if outcome[0] == "no"]
+            if outcome[0] == "no" and outcome[1] in NEVER:
+                print(f"left out, refused {outcome[1]}: {json.dumps(operation)}", file=sys.stderr)
+            elif outcome[0] == "no" and outcome[1] != NOT_YET:
+                raise Refused(outcome[1])
+        return [operation for operation, outcome in zip(operations, outcomes) if outcome == ["no", NOT_YET]]
 
 
 def carry(source, target):
@@ -80,6 +86,8 @@ class Stream:
         if entries:
             self.last = entries[-1][0]
         self.there.update(map(identity, operations))
+        if not entries and self.broker.xlen(self.key) < len(self.there):
+            raise Lost  # the broker has lost what it had
         return operations
 
     def put(self, operations):
@@ -94,8 +102,9 @@ def keep_in_step(room, stream):
     again, pause = [], SOON
     while True:
         operations = stream.news(pause)
-        again = room.put(again[:MOST]) + again[MOST:]
-        again += room.put(operations)
+        again = again[MOST:] + room.put(again[:MOST]) + room.put(operations)
+        if len(operations) == MOST:
+            continue  # first what is there, or it would be put there twice
         news = room.news()
         stream.put(news)
         room.seen += len(news)
@@ -122,9 +131,9 @@ def main():
         try:
             run()
         except Refused as why:
-            sys.exit(f"refused {why}")
+            sys.exit(str(why))
         except Lost:
-            print("the server is away", file=sys.stderr)
+            print("the server was away, or the broker lost its stream", file=sys.stderr)
         except OSError as why:
             print(f"away: {why}", file=sys.stderr)
         except Exception as why:  # redis.ConnectionError is no OSError

@@ -3,7 +3,8 @@
 
 A `Session` speaks through a function `ask`, which sends one request, an object of docs/PROTOCOL.md, and gives the reply
 to it; it raises `Lost` where no answer came, whether or not the request arrived. `Pipe` is such a function over
-`rgatext lines`, and `Socket` one over `rgatext serve`, by the library `websockets`. Run as a program, the file types what it reads into a new room and prints the room's text.
+`rgatext lines`, and `Socket` one over `rgatext serve`, by the library `websockets`. Run as a program, the file types what
+it reads into a new room and prints the room's text.
 """
 import json
 import subprocess
@@ -38,20 +39,19 @@ class Pipe:
     def __call__(self, request):
         self.child.stdin.write(json.dumps(request).encode() + b"\n")
         self.child.stdin.flush()
-        line = self.child.stdout.readline()
-        if not line:
+        if not (line := self.child.stdout.readline()):
             raise Lost
         return json.loads(line)
 
     def close(self):
-        """Ends the input, and waits for the program's end."""
         self.child.stdin.close()
         self.child.stdout.close()
         return self.child.wait()
 
 
 class Socket:
-    """Asks a room of a server, as Socket("ws://127.0.0.1:8000", "notes"). After a lost answer it connects anew."""
+    """Asks a room of a server, as Socket("ws://127.0.0.1:8000", "notes"). After a lost answer it connects anew, and wants a
+    new session: nobody tells whether it is the same run of the server."""
 
     def __init__(self, address, room):
         import asyncio
@@ -59,10 +59,10 @@ class Socket:
 
         self.run, self.wait, self.connect = asyncio.new_event_loop().run_until_complete, asyncio.wait_for, websockets.connect
         self.gone = (OSError, asyncio.TimeoutError, websockets.WebSocketException)
-        self.address, self.room, self.line = address, room, None
+        self.address, self.room, self.line, self.is_anew = address, room, None, False
 
     async def opened(self):
-        line = await self.connect(self.address, max_size=None)
+        line = await self.connect(self.address, max_size=None, ping_interval=None)
         await line.send(json.dumps({"t": "open", "room": self.room}))
         reply = json.loads(await line.recv())
         if reply["r"] == "no":
@@ -75,10 +75,15 @@ class Socket:
         return json.loads(await self.line.recv())
 
     def __call__(self, request):
+        self.is_anew = self.is_anew and request["t"] != "join"
+        if self.is_anew and "s" in request:
+            raise JoinAnew(5)
         try:
             return self.run(self.wait(self.answer(request), 60))
         except self.gone:
-            self.line = None
+            if self.line:
+                self.line.transport.abort()
+            self.line, self.is_anew = None, True
             raise Lost from None
 
     def close(self):
@@ -105,8 +110,6 @@ class Session:
         self.pause = pause  # seconds before a request is sent again that found no memory
         self.join()
 
-    # ---- asking
-
     def _answer(self, request):
         """The reply to a request that may be sent again: an accepted submission is not carried out twice."""
         for _ in range(self.tries):
@@ -124,14 +127,13 @@ class Session:
     def _refuse(number):
         raise JoinAnew(number) if number in (5, 7, 9, 22) else Refused(number)
 
-    # ---- the session
-
     def join(self):
         """Opens a session. If the answer is lost, a session of the room stays unused."""
         reply = self._answer({"t": "join"})
         if reply["r"] == "no":
             self._refuse(reply["n"])
-        self.session, self.version, self.text, self.number = reply["s"], reply["v"], list(reply["x"]), 0
+        self.session, self.version, self.text = reply["s"], reply["v"], list(reply["x"])
+        self.number = self.reached = 0
 
     def leave(self):
         """Ends the session. A second `leave`, where the answer to the first was lost, is answered 5."""
@@ -171,7 +173,9 @@ class Session:
         reply = self._answer({**request, **more})
         if reply["r"] == "no":
             self._refuse(reply["n"])
-        self.number += 1
+        if reply["from"] < self.reached:
+            self._refuse(7)
+        self.number, self.reached = self.number + 1, reply["to"]
 
     def insert(self, place, text):
         """Puts a text in at a place. Its parts all name one version and place, so the last one is sent first."""
@@ -184,7 +188,7 @@ class Session:
             self._submit({"t": "del", "c": min(MOST, count - start)}, place + start)
 
 
-def main():
+if __name__ == "__main__":
     if len(sys.argv) < 2:
         sys.exit("usage: client.py PROGRAM WORD.. < text, as in: client.py bin/rgatext lines < text")
     pipe = Pipe(*sys.argv[1:])
@@ -194,7 +198,3 @@ def main():
     print("".join(session.text), end="")
     session.leave()
     sys.exit(pipe.close())
-
-
-if __name__ == "__main__":
-    main()

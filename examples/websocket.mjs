@@ -1,11 +1,11 @@
-// A conversation with `rgatext serve` over WebSockets, as it runs in a browser and in Node: each request is one message, and
-// its reply is the next message. Node 20 needs --experimental-websocket; later ones need nothing.
+// A conversation with a new room `drafts` of `rgatext serve` over WebSockets: each request is one message, and its reply is the
+// next message. Node 20 needs --experimental-websocket; later ones need nothing.
 const port = process.argv[2];
 const conversation = [
   ['{"t":"join"}', '{"n":3,"r":"no"}'],
   ['{"t":"open","room":"other"}', '{"n":4,"r":"no"}'],
-  ['{"t":"open","room":"notes"}', '{"r":"opened"}'],
-  ['{"t":"open","room":"notes"}', '{"n":3,"r":"no"}'],
+  ['{"t":"open","room":"drafts"}', '{"r":"opened"}'],
+  ['{"t":"open","room":"drafts"}', '{"n":3,"r":"no"}'],
   ['{"t":"join"}', '{"r":"joined","s":1,"v":0,"x":""}'],
   ['{"t":"ins","s":1,"n":1,"v":0,"k":0,"x":"H\u{1F600}"}', '{"from":0,"r":"ok","to":2}'],
   ['{"t":"read"}', '{"r":"text","v":2,"x":"H\u{1F600}"}'],

@@ -135,7 +135,7 @@ class Editor {
   // Joins, submits what was typed and pulls: again at once while there is something to do, and else less and less often.
   async run(room) {
     let pause = SOON;
-    while (room === this.room && !this.isOver) {
+    while (room === this.room && !this.isOver && room.socket.readyState === WebSocket.OPEN) {
       const was = this.document.version;
       const isDone = this.session === null ? await this.join() : (await this.submit()) && (await this.pull());
       if (!isDone) continue;
@@ -152,8 +152,17 @@ class Editor {
     if (this.session !== null && !this.isOver) this.page.tell(`session ${this.session}, version ${this.document.version}, ${state}`);
   }
 
+  // The answer to a request, which is sent again where there was no memory.
+  async ask(request) {
+    for (;;) {
+      const reply = await this.room.ask(request);
+      if (reply.r !== "no" || reply.n !== 26) return reply;
+      await after(SOON);
+    }
+  }
+
   async join() {
-    const reply = await this.room.ask({ t: "join" });
+    const reply = await this.ask({ t: "join" });
     if (reply.r === "no") return this.refused(reply.n);
     this.session = reply.s;
     this.number = 0;
@@ -180,23 +189,18 @@ class Editor {
     return true;
   }
 
-  // The reply to a submission; none where it was refused. For want of memory it is sent again.
+  // The reply to a submission; none where it was refused.
   async accepted(request) {
-    for (;;) {
-      const reply = await this.room.ask({ ...request, s: this.session, n: this.number + 1 });
-      if (reply.r === "no" && (reply.n === 25 || reply.n === 26)) await after(SOON);
-      else if (reply.r === "no") return this.refused(reply.n);
-      else {
-        this.number += 1;
-        return reply;
-      }
-    }
+    const reply = await this.ask({ ...request, s: this.session, n: this.number + 1 });
+    if (reply.r === "no") return this.refused(reply.n);
+    this.number += 1;
+    return reply;
   }
 
   // Pulls up to the newest version.
   async pull() {
     for (;;) {
-      const reply = await this.room.ask({ t: "pull", s: this.session, have: this.document.version, max: MOST });
+      const reply = await this.ask({ t: "pull", s: this.session, have: this.document.version, max: MOST });
       if (reply.r === "no") return this.refused(reply.n);
       if (reply.es.length > 0) this.show(() => this.document.play(reply.es));
       if (reply.es.length < MOST) return true;
@@ -210,21 +214,33 @@ class Editor {
     this.page.show(this.document, selected);
   }
 
-  // At 5, 7, 8, 9 and 22 the room and this session no longer speak of one text: the next session begins with the newest.
-  refused(number) {
+  // At 5, 7, 8, 9 and 22 the room and this session no longer speak of one text: the next session begins with the newest. At
+  // 25 the connection is used up, and at 6 the room has no session left just now.
+  async refused(number) {
+    if ([5, 7, 8, 9, 22].includes(number)) this.leave();
+    else if (number === 25) this.room.socket.close();
+    else if (number === 6) {
+      this.page.tell("the room has 64 sessions; trying again", true);
+      await after(LATE);
+    } else this.stop(number);
+    return false;
+  }
+
+  // Ends the session, since a room has 64, and nobody else ends it.
+  leave() {
+    if (this.session !== null) this.room.ask({ t: "leave", s: this.session });
     this.session = null;
-    return [5, 7, 8, 9, 22].includes(number) ? false : this.stop(number);
   }
 
   stop(number) {
     this.close();
-    const why = { 4: "there is no such room", 6: "the room has 64 sessions", 12: "the document is full", 13: "the room is worn" };
+    const why = { 4: "there is no such room", 12: "the document is full", 13: "the room is worn" };
     this.page.tell(why[number] ?? `refused ${number}`, true);
-    return false;
   }
 
   close() {
     this.isOver = true;
+    if (this.room.socket.readyState === WebSocket.OPEN) this.leave();
     this.room.socket.close();
   }
 }
@@ -242,7 +258,7 @@ class Page {
     return [before(this.area.selectionStart), before(this.area.selectionEnd)];
   }
 
-  // Shows the document. Where a character that stood before the selection is gone, the one before it counts.
+  // Shows the document. (A text area shows CR as LF, so a text with CR would be rewritten by the first key.) Where a character that stood before the selection is gone, the one before it counts.
   show(document, [start, end]) {
     const top = this.area.scrollTop, units = new Map();
     let unit = 0;
@@ -277,12 +293,16 @@ let editor = null;
 
 document.getElementById("where").onsubmit = (event) => {
   event.preventDefault();
+  const isWaiting = editor && !editor.isOver && editor.document.changes().length > 0;
+  if (isWaiting && !confirm("Some changes wait for the server. Drop them?")) return;
   editor?.close();
   page.area.value = "";
   page.area.disabled = false;
   page.area.focus();
   editor = new Editor(document.getElementById("host").value, document.getElementById("room").value, page);
 };
+
+addEventListener("pagehide", () => editor?.close());
 
 page.area.oninput = () => {
   page.typed(editor.document);
