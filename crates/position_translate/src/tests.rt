@@ -1,4 +1,6 @@
 //! Operations asked for by places, against worked values, and each refusal beside what is just accepted.
+ghost use Rattle.std.specs.Prelude.{◌<◌};
+
 use crate::{delete_ops, insert_ops};
 use causal_clock::{Clock, Op};
 use opid::{OpKind, Refusal, Site, Stamp};
@@ -58,6 +60,20 @@ fn is_at(
     }
 }
 
+/// Asks something of the document of a text that site 0 put in at the head. (Who asks borrows the document, since what a
+/// function owns costs its proof at each step.)
+fn is_so<F: Fn(Global, &Doc) -> Result<bool, Refusal>>(
+    rt: &impl Abort,
+    alloc: Global,
+    text: &str,
+    asked: F,
+) -> Result<bool, Refusal>
+    requires { F.IsAlwaysCallable asked }
+{
+    let doc = document(rt, alloc, text)?;
+    asked(alloc, &doc)
+}
+
 fn insertion_refusal(
     alloc: Global,
     doc: &Doc,
@@ -78,221 +94,194 @@ fn deletion_refusal(
     Ok(delete_ops(alloc, doc, site(0)?, version, place, count).err())
 }
 
-#[test]
-fn a_run_of_insertions(rt: HostRuntime) -> Result<(), Fail> {
+fn run_of_two(alloc: Global, doc: &Doc) -> Result<bool, Refusal> {
     let zero = site(0)?;
-    let doc = Doc::new(rt.alloc());
-    let ops = insert_ops(rt.alloc(), &doc, zero, 0, 0, "ab")?;
-    assert_eq!(rt; ops.len(), 2);
-    let (first, second) = (
+    let second = Some(stamp(1, 0)?);
+    let ops = insert_ops(alloc, doc, zero, 0, 0, "ab")?;
+    are_two(
+        &ops,
         OpKind::Ins {
             parent: None,
             ch: 'a',
         },
         OpKind::Ins {
-            parent: Some(stamp(1, 0)?),
+            parent: second,
             ch: 'b',
         },
-    );
-    assert!(rt; is_at(&ops, 0, 0, &[(zero, 1)], first)?);
-    assert!(rt; is_at(&ops, 1, 0, &[(zero, 2)], second)?);
-    Ok(())
+        0,
+    )
+}
+
+/// Whether these are two operations of site 0, after so many of it, that do this.
+fn are_two(ops: &[Op], first: OpKind, second: OpKind, before: u32) -> Result<bool, Refusal>
+    requires { before < 1000 }
+{
+    let zero = site(0)?;
+    Ok(
+        ops.len() == 2
+            && is_at(ops, 0, 0, &[(zero, before + 1)], first)?
+            && is_at(ops, 1, 0, &[(zero, before + 2)], second)?,
+    )
 }
 
 #[test]
-fn an_insertion_behind_an_element(rt: HostRuntime) -> Result<(), Fail> {
-    let (zero, one) = (site(0)?, site(1)?);
-    let doc = document(&rt, rt.alloc(), "abcd")?;
-    let ops = insert_ops(rt.alloc(), &doc, one, 2, 2, "X")?;
-    assert_eq!(rt; ops.len(), 1);
+fn a_run_of_insertions(rt: HostRuntime) -> Result<(), Fail> {
+    let doc = Doc::new(rt.alloc());
+    assert!(rt; run_of_two(rt.alloc(), &doc)?);
+    Ok(())
+}
+
+fn insertion_behind_b(alloc: Global, doc: &Doc) -> Result<bool, Refusal> {
+    let pairs = [(site(0)?, 4), (site(1)?, 1)];
     let kind = OpKind::Ins {
         parent: Some(stamp(2, 0)?),
         ch: 'X',
     };
-    assert!(rt; is_at(&ops, 0, 1, &[(zero, 4), (one, 1)], kind)?);
-    Ok(())
+    let ops = insert_ops(alloc, doc, site(1)?, 2, 2, "X")?;
+    Ok(ops.len() == 1 && is_at(&ops, 0, 1, &pairs, kind)?)
+}
+
+fn deletions_of_b_and_c(alloc: Global, doc: &Doc) -> Result<bool, Refusal> {
+    let second = stamp(2, 0)?;
+    let third = stamp(3, 0)?;
+    let ops = delete_ops(alloc, doc, site(0)?, 4, 1, 2)?;
+    are_two(
+        &ops,
+        OpKind::Del { target: second },
+        OpKind::Del { target: third },
+        4,
+    )
 }
 
 #[test]
-fn deletions_of_a_range(rt: HostRuntime) -> Result<(), Fail> {
-    let zero = site(0)?;
-    let doc = document(&rt, rt.alloc(), "abcd")?;
-    let ops = delete_ops(rt.alloc(), &doc, zero, 4, 1, 2)?;
-    assert_eq!(rt; ops.len(), 2);
-    let (second, third) = (
-        OpKind::Del {
-            target: stamp(2, 0)?,
-        },
-        OpKind::Del {
-            target: stamp(3, 0)?,
-        },
-    );
-    assert!(rt; is_at(&ops, 0, 0, &[(zero, 5)], second)?);
-    assert!(rt; is_at(&ops, 1, 0, &[(zero, 6)], third)?);
+fn at_places_of_a_text(rt: HostRuntime) -> Result<(), Fail> {
+    assert!(rt; is_so(&rt, rt.alloc(), "abcd", insertion_behind_b)?);
+    assert!(rt; is_so(&rt, rt.alloc(), "abcd", deletions_of_b_and_c)?);
     Ok(())
+}
+
+/// Deletes `b` and `c` of `abcd`.
+fn shorten(rt: &impl Abort, alloc: Global, doc: &mut Doc) -> Result<(), Refusal> {
+    let ops = delete_ops(alloc, doc, site(0)?, 4, 1, 2)?;
+    integrate_all(rt, doc, &ops)
+}
+
+/// Whether the deletion of one character at the place of the version, by site 1, is that of the element of this sum.
+fn deletes(alloc: Global, doc: &Doc, version: u32, place: u32, sum: u32) -> Result<bool, Refusal> {
+    let pairs = [(site(0)?, 6), (site(1)?, 1)];
+    let kind = OpKind::Del {
+        target: stamp(sum, 0)?,
+    };
+    let ops = delete_ops(alloc, doc, site(1)?, version, place, 1)?;
+    is_at(&ops, 0, 1, &pairs, kind)
 }
 
 #[test]
 fn places_of_an_older_version(rt: HostRuntime) -> Result<(), Fail> {
-    let (zero, one) = (site(0)?, site(1)?);
     let mut doc = document(&rt, rt.alloc(), "abcd")?;
-    let ops = delete_ops(rt.alloc(), &doc, zero, 4, 1, 2)?;
-    integrate_all(&rt, &mut doc, &ops)?;
-    let again = delete_ops(rt.alloc(), &doc, one, 4, 2, 1)?;
-    let third = OpKind::Del {
-        target: stamp(3, 0)?,
-    };
-    assert!(rt; is_at(&again, 0, 1, &[(zero, 6), (one, 1)], third)?);
-    let last = delete_ops(rt.alloc(), &doc, one, 6, 1, 1)?;
-    let fourth = OpKind::Del {
-        target: stamp(4, 0)?,
-    };
-    assert!(rt; is_at(&last, 0, 1, &[(zero, 6), (one, 1)], fourth)?);
+    shorten(&rt, rt.alloc(), &mut doc)?;
+    assert!(rt; deletes(rt.alloc(), &doc, 4, 2, 3)? && deletes(rt.alloc(), &doc, 6, 1, 4)?);
     Ok(())
 }
 
-#[test]
-fn refused_texts(rt: HostRuntime) -> Result<(), Fail> {
-    let doc = Doc::new(rt.alloc());
-    let most = "0123456789abcdef0123456789abcdef0123456789abcdef0123456789abcdef";
+const MOST: &str = "0123456789abcdef0123456789abcdef0123456789abcdef0123456789abcdef";
+
+fn texts_are_refused(alloc: Global, doc: &Doc) -> Result<bool, Refusal> {
     let beyond = "0123456789abcdef0123456789abcdef0123456789abcdef0123456789abcdefg";
-    assert_eq!(rt;
-        insertion_refusal(rt.alloc(), &doc, 0, 0, "")?,
-        Some(Refusal::BadText)
-    );
-    assert_eq!(rt; insertion_refusal(rt.alloc(), &doc, 0, 0, most)?, None);
-    assert_eq!(rt;
-        insertion_refusal(rt.alloc(), &doc, 0, 0, beyond)?,
-        Some(Refusal::BadText)
-    );
-    Ok(())
+    let mut all = insertion_refusal(alloc, doc, 0, 0, "")? == Some(Refusal::BadText);
+    all &= insertion_refusal(alloc, doc, 0, 0, MOST)?.is_none();
+    all &= insertion_refusal(alloc, doc, 0, 0, beyond)? == Some(Refusal::BadText);
+    Ok(all)
+}
+
+fn counts_are_refused(alloc: Global, doc: &Doc) -> Result<bool, Refusal> {
+    let mut all = deletion_refusal(alloc, doc, 64, 0, 0)? == Some(Refusal::BadCount);
+    all &= deletion_refusal(alloc, doc, 64, 0, 64)?.is_none();
+    all &= deletion_refusal(alloc, doc, 64, 0, 65)? == Some(Refusal::BadCount);
+    Ok(all)
+}
+
+fn places_are_refused(alloc: Global, doc: &Doc) -> Result<bool, Refusal> {
+    let place = Some(Refusal::BadPlace);
+    let mut all = insertion_refusal(alloc, doc, 4, 4, "e")?.is_none();
+    all &= insertion_refusal(alloc, doc, 4, 5, "e")? == place;
+    all &= insertion_refusal(alloc, doc, 3, 4, "e")? == place;
+    all &= deletion_refusal(alloc, doc, 4, 2, 2)?.is_none();
+    all &= deletion_refusal(alloc, doc, 4, 2, 3)? == place;
+    all &= deletion_refusal(alloc, doc, 4, u32::MAX, 2)? == place;
+    Ok(all)
+}
+
+fn versions_come_first(alloc: Global, doc: &Doc) -> Result<bool, Refusal> {
+    let version = Some(Refusal::BadVersion);
+    let mut all = insertion_refusal(alloc, doc, 5, 9, "")? == version;
+    all &= insertion_refusal(alloc, doc, 4, 9, "")? == Some(Refusal::BadText);
+    all &= deletion_refusal(alloc, doc, 5, 9, 0)? == version;
+    all &= deletion_refusal(alloc, doc, 4, 9, 0)? == Some(Refusal::BadCount);
+    Ok(all)
 }
 
 #[test]
-fn refused_counts(rt: HostRuntime) -> Result<(), Fail> {
-    let most = "0123456789abcdef0123456789abcdef0123456789abcdef0123456789abcdef";
-    let mut doc = document(&rt, rt.alloc(), most)?;
-    let more = insert_ops(rt.alloc(), &doc, site(0)?, 64, 64, "g")?;
-    integrate_all(&rt, &mut doc, &more)?;
-    assert_eq!(rt;
-        deletion_refusal(rt.alloc(), &doc, 65, 0, 0)?,
-        Some(Refusal::BadCount)
-    );
-    assert_eq!(rt; deletion_refusal(rt.alloc(), &doc, 65, 0, 64)?, None);
-    assert_eq!(rt;
-        deletion_refusal(rt.alloc(), &doc, 65, 0, 65)?,
-        Some(Refusal::BadCount)
-    );
+fn refused_in_their_order(rt: HostRuntime) -> Result<(), Fail> {
+    assert!(rt; is_so(&rt, rt.alloc(), "a", texts_are_refused)?);
+    assert!(rt; is_so(&rt, rt.alloc(), MOST, counts_are_refused)?);
+    assert!(rt; is_so(&rt, rt.alloc(), "abcd", places_are_refused)?);
+    assert!(rt; is_so(&rt, rt.alloc(), "abcd", versions_come_first)?);
     Ok(())
 }
 
-#[test]
-fn refused_places(rt: HostRuntime) -> Result<(), Fail> {
-    let doc = document(&rt, rt.alloc(), "abcd")?;
-    assert_eq!(rt; insertion_refusal(rt.alloc(), &doc, 4, 4, "e")?, None);
-    assert_eq!(rt;
-        insertion_refusal(rt.alloc(), &doc, 4, 5, "e")?,
-        Some(Refusal::BadPlace)
-    );
-    assert_eq!(rt;
-        insertion_refusal(rt.alloc(), &doc, 3, 4, "e")?,
-        Some(Refusal::BadPlace)
-    );
-    assert_eq!(rt; deletion_refusal(rt.alloc(), &doc, 4, 2, 2)?, None);
-    assert_eq!(rt;
-        deletion_refusal(rt.alloc(), &doc, 4, 2, 3)?,
-        Some(Refusal::BadPlace)
-    );
-    assert_eq!(rt;
-        deletion_refusal(rt.alloc(), &doc, 4, u32::MAX, 2)?,
-        Some(Refusal::BadPlace)
-    );
-    Ok(())
-}
-
-#[test]
-fn refused_versions(rt: HostRuntime) -> Result<(), Fail> {
-    let doc = document(&rt, rt.alloc(), "abcd")?;
-    assert_eq!(rt;
-        insertion_refusal(rt.alloc(), &doc, 5, 9, "")?,
-        Some(Refusal::BadVersion)
-    );
-    assert_eq!(rt;
-        insertion_refusal(rt.alloc(), &doc, 4, 9, "")?,
-        Some(Refusal::BadText)
-    );
-    assert_eq!(rt;
-        deletion_refusal(rt.alloc(), &doc, 5, 9, 0)?,
-        Some(Refusal::BadVersion)
-    );
-    assert_eq!(rt;
-        deletion_refusal(rt.alloc(), &doc, 4, 9, 0)?,
-        Some(Refusal::BadCount)
-    );
-    Ok(())
-}
-
-#[test]
-fn a_character_beyond_16_bits_is_one_place(rt: HostRuntime) -> Result<(), Fail> {
-    let (zero, one) = (site(0)?, site(1)?);
-    let doc = document(&rt, rt.alloc(), GRIN)?;
-    let ops = insert_ops(rt.alloc(), &doc, one, 1, 1, "a")?;
+fn stands_behind_the_pair(alloc: Global, doc: &Doc) -> Result<bool, Refusal> {
+    let pairs = [(site(0)?, 1), (site(1)?, 1)];
     let kind = OpKind::Ins {
         parent: Some(stamp(1, 0)?),
         ch: 'a',
     };
-    assert!(rt; is_at(&ops, 0, 1, &[(zero, 1), (one, 1)], kind)?);
-    assert_eq!(rt;
-        insertion_refusal(rt.alloc(), &doc, 1, 2, "a")?,
-        Some(Refusal::BadPlace)
-    );
+    let beyond = insertion_refusal(alloc, doc, 1, 2, "a")? == Some(Refusal::BadPlace);
+    let ops = insert_ops(alloc, doc, site(1)?, 1, 1, "a")?;
+    Ok(beyond && is_at(&ops, 0, 1, &pairs, kind)?)
+}
+
+#[test]
+fn a_character_beyond_16_bits_is_one_place(rt: HostRuntime) -> Result<(), Fail> {
+    assert!(rt; is_so(&rt, rt.alloc(), GRIN, stands_behind_the_pair)?);
     Ok(())
 }
 
-/// The document of 131,070 operations: 2,047 runs of 64 characters and one of 62, each put in at the head.
-fn nearly_full(rt: &impl Abort, alloc: Global) -> Result<Doc, Refusal> {
-    let mut doc = Doc::new(alloc);
+/// Puts a run in at the head, as site 0.
+fn put_in(rt: &impl Abort, alloc: Global, doc: &mut Doc, text: &str) -> Result<(), Refusal> {
+    let ops = insert_ops(alloc, doc, site(0)?, 0, 0, text)?;
+    integrate_all(rt, doc, &ops)
+}
+
+/// Fills an empty document up to 131,070 operations: 2,047 runs of 64 characters and one of 62, each put in at the head.
+fn nearly_fill(rt: &impl Abort, alloc: Global, doc: &mut Doc) -> Result<(), Refusal> {
     for _ in 0..2_047 {
-        let ops = insert_ops(
-            alloc,
-            &doc,
-            site(0)?,
-            0,
-            0,
-            "0123456789abcdefghijklmnopqrstuvwxyz0123456789abcdefghijklmnopqr",
-        )?;
-        integrate_all(rt, &mut doc, &ops)?;
+        put_in(rt, alloc, doc, MOST)?;
     }
-    let rest = insert_ops(
+    put_in(
+        rt,
         alloc,
-        &doc,
-        site(0)?,
-        0,
-        0,
+        doc,
         "0123456789abcdefghijklmnopqrstuvwxyz0123456789abcdefghijklmnop",
-    )?;
-    integrate_all(rt, &mut doc, &rest)?;
-    Ok(doc)
+    )
+}
+
+fn takes_two_more(alloc: Global, doc: &Doc) -> Result<bool, Refusal> {
+    let newest = doc.version();
+    let full = Some(Refusal::Full);
+    let mut all = newest == 131_070;
+    all &= insertion_refusal(alloc, doc, newest, 0, "ab")?.is_none();
+    all &= insertion_refusal(alloc, doc, newest, 0, "abc")? == full;
+    all &= deletion_refusal(alloc, doc, newest, 0, 2)?.is_none();
+    all &= deletion_refusal(alloc, doc, newest, 0, 3)? == full;
+    all &= deletion_refusal(alloc, doc, 0, 0, 3)? == Some(Refusal::BadPlace);
+    Ok(all)
 }
 
 #[test]
 fn a_log_that_is_nearly_full(rt: HostRuntime) -> Result<(), Fail> {
-    let doc = nearly_full(&rt, rt.alloc())?;
-    let newest = doc.version();
-    assert_eq!(rt; newest, 131_070);
-    assert_eq!(rt; insertion_refusal(rt.alloc(), &doc, newest, 0, "ab")?, None);
-    assert_eq!(rt;
-        insertion_refusal(rt.alloc(), &doc, newest, 0, "abc")?,
-        Some(Refusal::Full)
-    );
-    assert_eq!(rt; deletion_refusal(rt.alloc(), &doc, newest, 0, 2)?, None);
-    assert_eq!(rt;
-        deletion_refusal(rt.alloc(), &doc, newest, 0, 3)?,
-        Some(Refusal::Full)
-    );
-    assert_eq!(rt;
-        deletion_refusal(rt.alloc(), &doc, 0, 0, 3)?,
-        Some(Refusal::BadPlace)
-    );
+    let mut doc = Doc::new(rt.alloc());
+    nearly_fill(&rt, rt.alloc(), &mut doc)?;
+    assert!(rt; takes_two_more(rt.alloc(), &doc)?);
     Ok(())
 }
