@@ -42,7 +42,7 @@ pub fn insert_ops(
     if version > doc.version() {
         return Err(Refusal::BadVersion);
     }
-    let count = count_of(text);
+    let count = characters_in(text);
     if count == 0 || count > MAX_COUNT as usize {
         return Err(Refusal::BadText);
     }
@@ -56,7 +56,7 @@ pub fn insert_ops(
 }
 
 /// How many characters the text has.
-fn count_of(text: &str) -> usize
+fn characters_in(text: &str) -> usize
     ensures { result ≡ length (chars text.now) }
 {
     text.chars().count()
@@ -86,7 +86,7 @@ fn run(
     requires { sum clock + length (chars text.now) ≤ MAX_OPERATIONS }
     ensures { IfOk result (λ ops. ops.items ≡ insertion_run site clock parent (chars text.now)) }
 {
-    let mut ops = Vec::with_capacity(alloc, count_of(text))?;
+    let mut ops = Vec::with_capacity(alloc, characters_in(text))?;
     let mut clock = clock;
     let mut parent = parent;
     for ch in text.chars() {

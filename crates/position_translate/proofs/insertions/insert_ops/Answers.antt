@@ -6,7 +6,7 @@ use Rattle.position_translate.proofs.insertions.insert_ops.Goals as goal
 
 pub run-requires : goal.run-requires
 run-requires c =
-    few_for c.args.doc.now.log c.clock.result (length (chars c.args.text.now)) c.version.ensures.lawful c.clock.ensures (omega (arith, c.count_of-count.ensures, c.if-count-version.false, c.version-2.ensures.value, c.version-2.ensures.within))
+    few_for c.args.doc.now.log c.clock.result (length (chars c.args.text.now)) c.version.ensures.lawful c.clock.ensures (omega (arith, c.characters_in-count.ensures, c.if-count-version.false, c.version-2.ensures.value, c.version-2.ensures.within))
 
 asked : (c : goal.In_ok-run) → c.in_ok-run.field-0.items ≡ asked_insertions c.args.doc.now.log c.args.site c.args.version c.args.place (chars c.args.text.now)
 asked c = asked_insertions-is c.args.doc.now.log c.in_ok-run.field-0.items c.clock.result c.args.site c.args.version c.args.place c.in-Some.parent (chars c.args.text.now) c.clock.ensures c.in-Some.ensures.1 c.in_ok-run.ensures
@@ -20,7 +20,7 @@ pub returns-clause-counted : goal.returns-clause-counted
 returns-clause-counted c = counted c
 
 pub returns-clause-fits : goal.returns-clause-fits
-returns-clause-fits c = omega (arith, counted c, c.count_of-count.ensures, c.if-count-version.false, c.version-2.ensures.value, c.version-2.ensures.within)
+returns-clause-fits c = omega (arith, counted c, c.characters_in-count.ensures, c.if-count-version.false, c.version-2.ensures.value, c.version-2.ensures.within)
 
 pub returns-clause-lawful : goal.returns-clause-lawful
 returns-clause-lawful c =
