@@ -64,7 +64,7 @@ impl Server {
         };
         match self.desk.call(call)? {
             Reply::Ops { from: _, ops } => {
-                self.sent = self.sent.saturating_add(count_of(&ops));
+                self.sent = self.sent.saturating_add(length_of(&ops));
                 Ok(ops)
             }
             _ => Ok(Operations::new(Vec::new(alloc))),
@@ -111,7 +111,7 @@ impl Server {
     }
 }
 
-fn count_of(ops: &Operations) -> u32 {
+fn length_of(ops: &Operations) -> u32 {
     u32::try_from(ops.as_slice().len()).unwrap_or(0)
 }
 

@@ -1,9 +1,8 @@
 -- Which operation a JSON object tells, or why it is refused (operations and clocks: Roh, Jeon, Kim and Lee 2011; JSON: RFC
 -- 8259). Each kind of fault is sought in all operations of a list before the next kind.
-use Rattle.std.specs.Prelude.{ℕ, ◌==◌, nat_lt, nat_le, Bool, true, ◌&&◌, if◌then◌else◌, Option, Some, None, option_and_then, option_map}
+use Rattle.std.specs.Prelude.{ℕ, ◌==◌, nat_lt, if◌then◌else◌, Option, Some, None, option_and_then, option_map}
 use Rattle.std.specs.Prelude.{is_some, Result, Ok, Err, List, length, [], ◌∷◌, codes, bytes_eq, slice_get}
 use Rattle.std.specs.Str.{chars}
-use Rattle.std.specs.List.{list_all, sum_by}
 use Rattle.serde_json.specs.Data.{Data, Items, no_items, item}
 use Rattle.serde_json.specs.Find.{get, at, as_null, as_array}
 use Rattle.serde_json.specs.Events.{items_len}

@@ -104,7 +104,7 @@ fn clock_values(alloc: Global, clock: &Clock) -> Result<Vec<Value>, AllocError>
 {
     let mut list = Vec::new(alloc);
     for number in 0..SITES as u8 {
-        let count = count_of(clock, number);
+        let count = entry_of(clock, number);
         if count > 0 {
             let value = two_value(alloc, u32::from(number), count)?;
             push(&mut list, value)?;
@@ -114,7 +114,7 @@ fn clock_values(alloc: Global, clock: &Clock) -> Result<Vec<Value>, AllocError>
 }
 
 // The count of the site with this number.
-fn count_of(clock: &Clock, number: u8) -> u32
+fn entry_of(clock: &Clock, number: u8) -> u32
     requires { number < SITES }
     ensures { result ≡ entry clock.now number }
 {
