@@ -34,10 +34,6 @@ class Document {
     this.mine = new Map(); // the character that an accepted insertion of ours puts in, by the version before it
   }
 
-  text() {
-    return this.shown.map((it) => it.ch).join("");
-  }
-
   // The reader put a text in the place of the characters from `start` to `end`.
   type(start, end, text) {
     this.shown.splice(start, end - start, ...Array.from(text, (ch) => ({ ch, isPlaced: false })));
@@ -245,6 +241,9 @@ class Editor {
   }
 }
 
+// What the text area has of a character. It would make CR to LF, and CR LF to one LF, so CR has a sign.
+const sign = (ch) => (ch === "\r" ? "\u240d" : ch);
+
 // The text area. Its places are UTF-16 units, the document's are characters.
 class Page {
   constructor(area, state) {
@@ -258,20 +257,20 @@ class Page {
     return [before(this.area.selectionStart), before(this.area.selectionEnd)];
   }
 
-  // Shows the document. (A text area shows CR as LF, so a text with CR would be rewritten by the first key.) Where a character that stood before the selection is gone, the one before it counts.
+  // Shows the document. Where a character that stood before the selection is gone, the one before it counts.
   show(document, [start, end]) {
     const top = this.area.scrollTop, units = new Map();
     let unit = 0;
     for (const it of document.shown) units.set(it, (unit += it.ch.length));
     const behind = (before) => units.get(before.findLast((it) => units.has(it))) ?? 0;
-    this.area.value = document.text();
+    this.area.value = document.shown.map((it) => sign(it.ch)).join("");
     this.area.setSelectionRange(behind(start), behind(end));
     this.area.scrollTop = top;
   }
 
   // Tells the document what the reader changed: the text behind the caret stayed, and what is equal before it.
   typed(document) {
-    const now = Array.from(this.area.value), old = document.shown.map((it) => it.ch);
+    const now = Array.from(this.area.value), old = document.shown.map((it) => sign(it.ch));
     const most = Math.min(now.length, old.length);
     const behind = now.length - Array.from(this.area.value.slice(0, this.area.selectionEnd)).length;
     let tail = 0, head = 0;
