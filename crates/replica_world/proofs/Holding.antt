@@ -37,10 +37,10 @@ use Rattle.room.specs.Intention.{KeepsIntentions, OnlyGrows}
 use Rattle.replica_world.specs.declared.event.Event.{Event}
 use Rattle.replica_world.specs.declared.event.Event.TheVariants as events
 use Rattle.replica_world.specs.World.{room_of, logs_of, carry_of, carry_to, step, empty_rooms}
-use Rattle.replica_world.specs.Carried.{IsCarried, IsWithoutLoss, TellsNoLoss, TellsCarried, LosesNothing}
+use Rattle.replica_world.specs.Carried.{IsWithoutLoss, TellsNoLoss, TellsCarried, LosesNothing}
 use Rattle.replica_world.specs.Received.{got}
 use Rattle.replica_world.specs.Kept.{IsSiteOf, IsWorld, ReadTheSame, Converges}
-use Rattle.replica_world.proofs.Carrying.{site_log, Carries}
+use Rattle.replica_world.proofs.Carrying.{site_log, IsCarried, Carries}
 use Rattle.replica_world.proofs.Rooms.{log_of, stood}
 use Rattle.replica_world.proofs.Following.{held_of, log_there}
 use Rattle.replica_world.proofs.Delivering.{put_one, put-answer, carry-carries}

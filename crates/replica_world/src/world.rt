@@ -1,5 +1,5 @@
 //! The world: rooms of several sites, one event after another.
-ghost use Rattle.std.specs.Prelude.{◌≡◌, ℕ, ◌+◌, ◌^◌, ◌⊎◌, ◌<◌, ◌≤◌, [], ◌∷◌, Some, None, length, take, slice_get, slice_set, IfOk, OnOk, OnErr, IfSome, IfNone, is_some, option_and_then, option_map, IfErr, ◌++◌};
+ghost use Rattle.std.specs.Prelude.{◌≡◌, ℕ, List, ◌+◌, ◌^◌, ◌⊎◌, ◌<◌, ◌≤◌, [], ◌∷◌, Some, None, length, take, slice_get, slice_set, IfOk, OnOk, OnErr, IfSome, IfNone, is_some, option_and_then, option_map, IfErr, ◌++◌};
 ghost use Rattle.opid.specs.Lawful.{IsLawful};
 ghost use Rattle.opid.specs.declared.refusal.Refusal.TheVariants.{NoRoom, Memory};
 ghost use Rattle.opid.specs.Reading.{reading};
@@ -7,9 +7,10 @@ ghost use Rattle.room.specs.declared.call.Call.TheVariants as calls;
 ghost use Rattle.room.specs.Machine.{answer, room_over};
 ghost use Rattle.room.specs.History.{Account, mark, called, account_over};
 ghost use Rattle.replica_world.specs.declared.event.Event.TheVariants as events;
+ghost use Rattle.replica_world.specs.declared.event.WorldReply.{WorldReply};
 ghost use Rattle.replica_world.specs.declared.event.WorldReply.TheVariants as replies;
 ghost use Rattle.replica_world.specs.World.{room_of, puts, empty_rooms, call_of, fork_of, step, Runs, IsPlaceOf};
-ghost use Rattle.replica_world.specs.Carried.{LosesNothing};
+ghost use Rattle.replica_world.specs.Carried.{LosesNothing, LoseNothing};
 ghost use Rattle.replica_world.specs.Kept.{IsWorld, Converges};
 
 use crate::event::{Event, WorldReply};
@@ -68,8 +69,9 @@ impl World {
 
     /// One thing happens. An error is for want of memory, and changes nothing.
     ///
-    /// At most 32 steps find the sites. A call then takes what `Room::call` takes; what is carried, what a `put` of one
-    /// operation takes; a fork, the time and memory to integrate the first `n` operations into a new room.
+    /// At most 32 steps find each site. A call then takes what `Room::call` takes; what is carried, one look-up in the log
+    /// of its source, which goes at most 63 steps back, and what a `put` of one operation takes; a fork, such a look-up for
+    /// each of the first `n` operations, and the time and memory to integrate them into a new room.
     pub fn step(&mut self, event: Event) -> Result<WorldReply, AllocError>
         ensures reply { IfOk result (λ r. r ≡ (step self.old event).reply) }
         ensures next { OnOk result (self.new ≡ (step self.old event).world) }
@@ -83,10 +85,11 @@ impl World {
         result
     }
 
-    /// Things happen, one after another, each copied first and taken as by `step`. After an error, which is for want of memory, the replies are those of a
-    /// beginning of the events, and the world is where these leave it.
+    /// Things happen, one after another, each copied first and taken as by `step`. After an error, which is for want of
+    /// memory, the replies are those of a beginning of the events, and the world is where these leave it.
     pub fn run(&mut self, events: &[Event], replies: &mut Vec<WorldReply>) -> Result<(), AllocError>
         ensures runs { Runs self.old events.now replies.old.items result replies.new.items self.new }
+        ensures nothing_lost { (made : List WorldReply) × (replies.new.items ≡ replies.old.items ++ made) × LoseNothing events.now made }
         ensures converges { Converges self.new }
     {
         let result = self.run_each(events, replies);
@@ -100,7 +103,8 @@ impl World {
         events: &[Event],
         replies: &mut Vec<WorldReply>,
     ) -> Result<(), AllocError>
-        ensures { Runs self.old events.now replies.old.items result replies.new.items self.new }
+        ensures runs { Runs self.old events.now replies.old.items result replies.new.items self.new }
+        ensures nothing_lost { (made : List WorldReply) × (replies.new.items ≡ replies.old.items ++ made) × LoseNothing events.now made }
     {
         for event in events {
             replies.reserve(1)?;
