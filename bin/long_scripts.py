@@ -1,0 +1,162 @@
+"""Scripts of a world that are too long to be written down, with the lines that are wanted of the program: those of random
+events are answered by the plain world, those of a full log by what is known of a text that was typed from its end on."""
+import json
+import random
+
+from plain_world import LIMIT, World, visible
+
+ALPHABET = "abcdefghijklmnopqrstuvwxyz"
+CHARACTERS = ALPHABET + ' é\u20ac\U0001f600"\\'
+
+
+def compact(value):
+    return json.dumps(value, separators=(",", ":"), sort_keys=True, ensure_ascii=False)
+
+
+def no(why):
+    return {"n": why, "r": "no"}
+
+
+def put(*outcome):
+    return {"os": [list(outcome)], "r": "put"}
+
+
+class Script:
+    """The lines of a script, and those that are wanted of the program."""
+
+    def __init__(self):
+        self.lines, self.wanted = [], []
+
+    def call(self, site, reply, **request):
+        self.event(f"call {site} {compact(request)}", reply)
+
+    def event(self, line, reply):
+        self.lines.append(line)
+        self.wanted.append(compact(reply))
+
+    def end(self, readings):
+        self.wanted += [f"{site} {version} {compact(text)}" for site, version, text in readings]
+
+
+class Played:
+    """A script that grows event by event, each answered by the plain world."""
+
+    def __init__(self, sites):
+        self.script, self.world = Script(), World(sites)
+
+    def call(self, site, **request):
+        self.script.call(site, self.world.call(site, request), **request)
+
+    def carry(self, source, n, target):
+        self.script.event(f"carry {source} {n} {target}", self.world.carry(source, n, target))
+
+    def fork(self, new, source, n):
+        self.script.event(f"fork {new} {source} {n}", self.world.fork(new, source, n))
+
+
+def random_event(dice, played):
+    """One more event, which is mostly accepted."""
+    rooms = played.world.rooms
+    site = dice.choice([*rooms])
+    room = rooms[site]
+    kinds = {"ins": 28, "del": 10, "pull": 18, "carry": 35, "fork": 1, "join": 2, "leave": 1, "read": 2, "ops": 2}
+    (kind,) = dice.choices([*kinds], kinds.values())
+    if kind == "carry":
+        return random_carry(dice, played, site)
+    if kind == "fork":
+        return played.fork(dice.randrange(10), site, dice.randint(0, len(room.log) + 1))
+    if kind == "read":
+        return played.call(site, t="read")
+    if kind == "ops":
+        return played.call(site, t="ops", after=dice.randint(0, len(room.log) + 1), max=dice.randint(0, 4))
+    if kind == "join" or not room.sessions:
+        return played.call(site, t="join")
+    s = dice.choice([*room.sessions])
+    if kind == "leave":
+        return played.call(site, t="leave", s=s if len(room.sessions) > 1 else 99)
+    session = room.sessions[s]
+    some_version = dice.randint(session.first, session.sent)
+    if kind == "pull":
+        have = dice.choice([session.sent] * 8 + [some_version, session.sent + 1])
+        return played.call(site, t="pull", s=s, have=have, max=dice.choice([64] * 8 + [dice.randint(0, 66)]))
+    n = session.last + dice.choice([1] * 30 + [0, 2])
+    v = dice.choice([session.sent] * 15 + [some_version] * 10 + [session.sent + 1])
+    length = len(visible(room.log[:v]))
+    if kind == "ins":
+        size = dice.choice([1] * 20 + [2] * 10 + [3] * 10 + [0, 65])
+        text = "".join(dice.choices(CHARACTERS, k=size))
+        return played.call(site, t="ins", s=s, n=n, v=v, k=dice.randint(0, length + dice.choice([0] * 20 + [1])), x=text)
+    k, c = dice.randint(0, length), dice.choice([1] * 12 + [2] * 6 + [0, 65])
+    return played.call(site, t="del", s=s, n=n, v=v, k=min(k, max(0, length - c + dice.choice([0] * 20 + [1]))), c=c)
+
+
+def random_carry(dice, played, target):
+    """Half the time the first operation that the target lacks, else any one."""
+    rooms = played.world.rooms
+    source = dice.choice([*rooms] * 8 + [31])
+    log = rooms[source].log if source in rooms else []
+    there = set(rooms[target].log)
+    lacking = [at for at, operation in enumerate(log) if operation not in there]
+    if lacking and dice.random() < 0.5:
+        return played.carry(source, lacking[0], target)
+    return played.carry(source, dice.randint(0, len(log)), target)
+
+
+def random_script(sites, events):
+    """Random events at sites some of which fork, and then every site is carried every operation, some of them early. Gives
+    the script, and the texts that the sites then read by their definition."""
+    dice = random.Random(15)
+    played = Played(sites)
+    for _ in range(events):
+        random_event(dice, played)
+    rooms = played.world.rooms
+    own = [(operation.stamp, site, at) for site in rooms for at, operation in enumerate(rooms[site].log) if operation.site == site]
+    own.sort()  # the sum of an operation is above those of all that it needs
+    for target in rooms:
+        for first in range(0, len(own), 40):
+            window = own[first : first + 40]
+            dice.shuffle(window)
+            for _, source, at in window:
+                played.carry(source, at, target)
+    readings = played.world.readings()
+    played.script.end(readings)
+    return played.script, readings
+
+
+def full_log():
+    """Site 0 fills its log by runs of 64, each put in before all others. Site 1 is carried all of it, each run from its end
+    on, and is full too; site 2 has two operations of its own, and no room for the last two."""
+    script = Script()
+    for site in range(3):
+        script.call(site, {"r": "joined", "s": 1, "v": 0, "x": ""}, t="join")
+    runs = [ALPHABET[i % 26] + ALPHABET[i // 26 % 26] * 62 + ALPHABET[i // 676] for i in range(LIMIT // 64)]
+    for i, run in enumerate(runs):
+        script.call(0, {"from": 64 * i, "r": "ok", "to": 64 * i + 64}, t="ins", s=1, n=i + 1, v=0, k=0, x=run)
+    script.call(0, no(12), t="ins", s=1, n=len(runs) + 1, v=0, k=0, x="b")
+    script.call(2, {"from": 0, "r": "ok", "to": 2}, t="ins", s=1, n=1, v=0, k=0, x="->")
+    for first in range(0, LIMIT, 64):
+        for at in range(first + 63, first, -1):
+            script.event(f"carry 0 {at} 1", put("kept"))
+        script.event(f"carry 0 {first} 1", put("took", 64, 0))
+    for at in range(LIMIT - 2):
+        script.event(f"carry 0 {at} 2", put("took", 1, 0))
+    script.event(f"carry 0 {LIMIT - 2} 2", put("no", 12))
+    script.event(f"carry 0 {LIMIT - 1} 2", put("kept"))
+    script.event(f"carry 0 {LIMIT - 1} 1", put("again"))
+    for target in (0, 1):
+        script.event(f"carry 2 0 {target}", put("no", 12))
+        script.event(f"carry 2 1 {target}", put("kept"))
+        script.event(f"carry 2 1 {target}", put("again"))
+    script.event(f"carry 0 {LIMIT} 1", no(23))
+    script.event(f"fork 3 1 {LIMIT + 1}", no(23))
+    script.event(f"fork 3 1 {LIMIT}", {"r": "forked"})
+    full = "".join(reversed(runs))
+    script.call(3, {"r": "joined", "s": 1, "v": LIMIT, "x": full}, t="join")
+    script.call(3, no(12), t="ins", s=1, n=1, v=LIMIT, k=0, x="b")
+    for site in (0, 1):
+        edits = [["i", at, char] for at, char in enumerate(runs[0])]
+        script.call(site, {"es": edits, "from": 0, "r": "edits"}, t="pull", s=1, have=0, max=64)
+    # The arrow's first stamp, (1,2), is below those of the heads of all runs but the first, (1,0).
+    beside = full[:62] + full[64:-64] + "->" + full[-64:]
+    script.end([(0, LIMIT, full), (1, LIMIT, full), (2, LIMIT, beside), (3, LIMIT, full)])
+    return script
