@@ -12,6 +12,7 @@ ghost use Rattle.counted_tree.specs.Change.{tree_in};
 use crate::above::Above;
 use crate::build::summary_of;
 use crate::change::{hide, insert, rank_in};
+use crate::link::Link;
 use crate::nodes::Nodes;
 use crate::search::find_in;
 use crate::steps::Steps;
@@ -25,7 +26,7 @@ use std::marker::Model;
 pub struct VersionTree {
     nodes: Nodes,
     table: Vec<Option<Above>>,
-    roots: Vec<Option<u32>>,
+    roots: Vec<Link>,
     room: usize,
 }
 
@@ -132,6 +133,7 @@ impl VersionTree {
     pub fn rank(&self, elem: u32, steps: &mut Steps) -> usize
         requires { Lists elem (newest_list self.now) }
         ensures rank { result ≡ length (visible (entries_before elem (newest_list self.now))) }
+        ensures few { result ≤ 131072 }
         ensures cost { steps.new ≤ steps.old + 2 * digits (length (newest_list self.now)) }
     {
         let root = last_root(self.roots.as_slice());
@@ -170,7 +172,7 @@ impl VersionTree {
         let root = last_root(self.roots.as_slice());
         let top = insert(&mut self.nodes, &mut self.table, root, before, elem);
         self.room -= 1;
-        let _ = self.roots.push(Some(top));
+        self.roots.push_reserved(Link::new(Some(top)));
     }
 
     /// Adds a version with an element hidden. Takes memory from the reserve alone, and a logarithmic number of steps and
@@ -186,7 +188,7 @@ impl VersionTree {
         let root = last_root(self.roots.as_slice());
         let top = hide(&mut self.nodes, self.table.as_slice(), root, elem);
         self.room -= 1;
-        let _ = self.roots.push(Some(top));
+        self.roots.push_reserved(Link::new(Some(top)));
     }
 
     /// Adds a version with the newest list again. Constant time.
@@ -198,7 +200,7 @@ impl VersionTree {
     {
         let root = last_root(self.roots.as_slice());
         self.room -= 1;
-        let _ = self.roots.push(root);
+        self.roots.push_reserved(Link::new(root));
     }
 }
 
@@ -214,23 +216,23 @@ fn shown_in(nodes: &Nodes, link: Option<u32>) -> usize
 }
 
 /// A version's root, or none.
-fn root_of(roots: &[Option<u32>], version: usize) -> Option<u32>
+fn root_of(roots: &[Link], version: usize) -> Option<u32>
     requires { version ≤ length roots.now }
     ensures { result ≡ root_at roots.now version }
 {
     if version == 0 {
         None
     } else {
-        roots[version - 1]
+        roots[version - 1].get()
     }
 }
 
 /// The newest root, or none.
-fn last_root(roots: &[Option<u32>]) -> Option<u32>
+fn last_root(roots: &[Link]) -> Option<u32>
     ensures { result ≡ newest_root roots.now }
 {
     match roots.last() {
-        Some(root) => *root,
+        Some(root) => root.get(),
         None => None,
     }
 }
