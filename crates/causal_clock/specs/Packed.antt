@@ -41,7 +41,8 @@ clock_told clocks entries row = fill (get_or clocks row.site []) (changes_of ent
 unfoldable pub told : List (List ℕ) → List (ℕ × ℕ) → List Row → List Operation
 told clocks entries [] = []
 told clocks entries (r ∷ rs) =
-    record { site = r.site; clock = clock_told clocks entries r; kind = r.kind } ∷ told (slice_set clocks r.site (clock_told clocks entries r)) entries rs
+    record { site = r.site; clock = clock_told clocks entries r; kind = r.kind }
+    ∷ told (slice_set clocks r.site (clock_told clocks entries r)) entries rs
 
 -- the clocks of the sites' last operations after those rows
 unfoldable pub after : List (List ℕ) → List (ℕ × ℕ) → List Row → List (List ℕ)
@@ -64,9 +65,11 @@ pub record IsRow (entries : List (ℕ × ℕ)) (rows : List Row) (ops : List Ope
   pub kind : (row_at rows k).kind ≡ (op_at ops k).kind
   pub within : (row_at rows k).from + (row_at rows k).count ≤ length entries
   pub base : (row_at rows k).back ≡ 0 → (op_at ops k).clock ≡ fill (clock_of []) (changes_of entries (row_at rows k))
+  pub short : (row_at rows k).back < 64
   pub earlier : 0 < (row_at rows k).back → (row_at rows k).prev < k
   pub nearer : 0 < (row_at rows k).back → (row_at rows (row_at rows k).prev).back + 1 ≡ (row_at rows k).back
-  pub step : 0 < (row_at rows k).back → (op_at ops k).clock ≡ fill (op_at ops (row_at rows k).prev).clock (changes_of entries (row_at rows k))
+  pub step : 0 < (row_at rows k).back
+      → (op_at ops k).clock ≡ fill (op_at ops (row_at rows k).prev).clock (changes_of entries (row_at rows k))
 
 -- each row tells the operation at its place
 abbrev pub AreRows : List (ℕ × ℕ) → List Row → List Operation → Type 0
@@ -82,7 +85,8 @@ pub record IsSite (rows : List Row) (ops : List Operation) (clocks : List (List 
   pub same : 0 < count_of ops site → (op_at ops (get_or lasts site 0)).clock ≡ latest ops site
 
 -- the parts of a log of these operations
-pub record IsPacked (entries : List (ℕ × ℕ)) (rows : List Row) (ops : List Operation) (clocks : List (List ℕ)) (lasts numbers : List ℕ) : Type 0 where
+pub record IsPacked (entries : List (ℕ × ℕ)) (rows : List Row) (ops : List Operation) (clocks : List (List ℕ))
+    (lasts numbers : List ℕ) : Type 0 where
   pub each : length ops ≡ length rows
   pub lines : AreRows entries rows ops
   pub sites : (site : ℕ) → site < 32 → IsSite rows ops clocks lasts numbers site

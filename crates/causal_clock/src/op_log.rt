@@ -1,5 +1,6 @@
 //! A log of operations that keeps of each clock the entries that changed.
-ghost use Rattle.std.specs.Prelude.{◌≡◌, ◌==◌, ◌||◌, not, ◌+◌, ◌-◌, ◌*◌, ◌<◌, ◌≤◌, ◌++◌, [], ◌∷◌, ℕ, Bool, Some, max, length, drop, slice_get, OnOk, OnErr, IfErr, vec_len, vec_capacity, true, false};
+ghost use Rattle.std.specs.Prelude.{◌≡◌, ◌==◌, ◌||◌, not, ◌+◌, ◌-◌, ◌*◌, ◌<◌, ◌≤◌, ◌++◌, [], ◌∷◌, ℕ, Bool, Some, max, length, drop};
+ghost use Rattle.std.specs.Prelude.{slice_get, OnOk, OnErr, IfErr, vec_len, vec_capacity, true, false};
 ghost use Rattle.opid.specs.declared.refusal.Refusal.TheVariants.{Memory};
 ghost use Rattle.causal_clock.specs.Kinds.{IsOperation};
 ghost use Rattle.causal_clock.specs.Stored.{changes, entries_of, stored};
@@ -11,9 +12,11 @@ use crate::op::Op;
 use crate::packed_kind::{PackedKind, site_of};
 use crate::replay::Replay;
 use crate::row::Row;
-use opid::{Refusal, SITES, push_reserved};
+use crate::steps::Steps;
+use opid::{Refusal, SITES};
 use std::alloc::Global;
 use std::marker::Model;
+use std::sync::ledger::Ledger;
 
 /// No log is longer: its entries have places of 32 bits.
 const MAX_ROWS: usize = 67_108_864;
@@ -76,14 +79,17 @@ impl OpLog {
         self.entries.len()
     }
 
-    /// The operation at the place. Takes no memory, and at most 63 steps back along its site's operations.
-    pub fn get(&self, i: usize) -> Op
+    /// The operation at the place. Takes no memory, and reads the entries of at most 64 operations: its own, and those
+    /// of its site's before it back to one that has them all.
+    pub fn get<L: Ledger>(&self, i: usize, steps: &mut Steps<L>) -> Op
         requires { i < length self.now.ops }
-        ensures { slice_get self.now.ops i ≡ Some result }
+        ensures value { slice_get self.now.ops i ≡ Some result }
+        ensures cost { steps.new ≤ steps.old + 64 }
     {
         let rows = self.rows.as_slice();
         let entries = self.entries.as_slice();
-        told_by(rows, entries, i, counts_at(rows, entries, i))
+        let counts = counts_at(rows, entries, i, steps);
+        told_by(rows, entries, i, counts)
     }
 
     /// The operations from a place on, in order. The first one of each site takes the steps of `get`, each other one a
@@ -150,18 +156,25 @@ fn reserve_each(rows: &mut Vec<Row>, entries: &mut Vec<Changed>, n: usize) -> Re
 }
 
 /// The counts of the clock of the operation at the place.
-pub(crate) fn counts_at(rows: &[Row], entries: &[Changed], at: usize) -> [u32; SITES]
+pub(crate) fn counts_at<L: Ledger>(
+    rows: &[Row],
+    entries: &[Changed],
+    at: usize,
+    steps: &mut Steps<L>,
+) -> [u32; SITES]
     requires within { at < length rows.now }
     requires rows { AreRows entries.now rows.now (logged entries.now rows.now) }
-    ensures { result ≡ (op_at (logged entries.now rows.now) at).clock }
+    ensures counts { result ≡ (op_at (logged entries.now rows.now) at).clock }
+    ensures cost { steps.new ≡ steps.old + (row_at rows.now at).back + 1 }
+    ensures few { (row_at rows.now at).back < 64 }
 {
     let row = rows[at];
     let before = if row.back == 0 {
         [0; SITES]
     } else {
-        counts_at(rows, entries, row.prev as usize)
+        counts_at(rows, entries, row.prev as usize, steps)
     };
-    filled(before, row.entries(entries))
+    filled(before, row.entries(entries, steps))
 }
 
 /// The counts with each of the entries put in.
@@ -210,7 +223,7 @@ fn push_changes(entries: &mut Vec<Changed>, whole: bool, before: &[u32; SITES], 
     for number in 0..SITES {
         let count = counts[number];
         if is_told(whole, before[number], count) {
-            push_reserved(entries, Changed::new(site_of(number as u8), count));
+            entries.push_reserved(Changed::new(site_of(number as u8), count));
             told += 1;
         }
     }
@@ -266,15 +279,12 @@ fn append(
     lasts[place] = rows.len() as u32;
     numbers[place] = number;
     clocks[place] = clock;
-    push_reserved(
-        rows,
-        Row {
-            kind: PackedKind::new(op.kind()),
-            from,
-            prev,
-            site,
-            back,
-            count,
-        },
-    );
+    rows.push_reserved(Row {
+        kind: PackedKind::new(op.kind()),
+        from,
+        prev,
+        site,
+        back,
+        count,
+    });
 }

@@ -8,8 +8,10 @@ use crate::changed::Changed;
 use crate::op::Op;
 use crate::op_log::{counts_at, filled, told_by};
 use crate::row::Row;
+use crate::steps::Steps;
 use opid::SITES;
-use std::marker::Model;
+use std::marker::{Brand, Model};
+use std::sync::ledger::{Blank, Ledger};
 
 /// The place and the clock of a site's last operation that was passed.
 #[derive(Clone, Copy)]
@@ -72,30 +74,41 @@ impl<'a> Iterator for Replay<'a> {
             return None;
         }
         self.place = at + 1;
-        Some(op_after(&mut self.seen, self.rows, self.entries, at))
+        Some(op_after::<Brand>(&mut self.seen, self.rows, self.entries, at, Blank::new(1)))
     }
 }
 
-/// The operation at the place, which becomes its site's last.
-fn op_after(seen: &mut [Option<Seen>; SITES], rows: &[Row], entries: &[Changed], at: usize) -> Op
+/// The operation at the place, which becomes its site's last. Nobody counts the steps.
+fn op_after<L: Ledger>(
+    seen: &mut [Option<Seen>; SITES],
+    rows: &[Row],
+    entries: &[Changed],
+    at: usize,
+    blank: Blank,
+) -> Op
+    requires name { blank.name ≡ L.name }
+    requires parts { blank.parts ≡ L.parts }
+    requires some { 0 < L.parts }
     requires within { at < length rows.now }
     requires rows { AreRows entries.now rows.now (logged entries.now rows.now) }
     requires seen { AreSeen seen.old (logged entries.now rows.now) }
     ensures op { slice_get (logged entries.now rows.now) at ≡ Some result }
     ensures seen { AreSeen seen.new (logged entries.now rows.now) }
 {
-    let counts = counts_after(seen, rows, entries, at);
+    let mut steps = Steps::<L>::new(blank);
+    let counts = counts_after(seen, rows, entries, at, &mut steps);
     let site = rows[at].site;
     seen[usize::from(site.number())] = Some(Seen { place: at, counts });
     told_by(rows, entries, at, counts)
 }
 
 /// The counts of the clock of the operation at the place, from those that are kept where they serve.
-fn counts_after(
+fn counts_after<L: Ledger>(
     seen: &[Option<Seen>; SITES],
     rows: &[Row],
     entries: &[Changed],
     at: usize,
+    steps: &mut Steps<L>,
 ) -> [u32; SITES]
     requires within { at < length rows.now }
     requires rows { AreRows entries.now rows.now (logged entries.now rows.now) }
@@ -104,8 +117,8 @@ fn counts_after(
 {
     let row = rows[at];
     match counts_before(seen, &row) {
-        None => counts_at(rows, entries, at),
-        Some(before) => filled(before, row.entries(entries)),
+        None => counts_at(rows, entries, at, steps),
+        Some(before) => filled(before, row.entries(entries, steps)),
     }
 }
 

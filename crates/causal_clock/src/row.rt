@@ -4,7 +4,9 @@ ghost use Rattle.causal_clock.specs.Packed.{changes_of};
 
 use crate::changed::Changed;
 use crate::packed_kind::PackedKind;
+use crate::steps::Steps;
 use opid::Site;
+use std::sync::ledger::Ledger;
 
 /// An operation's site and kind, where its entries are, and where its site's operation before it is.
 #[derive(Clone, Copy)]
@@ -22,11 +24,17 @@ pub(crate) struct Row {
 }
 
 impl Row {
-    /// Its entries among those of all rows.
-    pub(crate) fn entries<'a>(&self, entries: &'a [Changed]) -> &'a [Changed]
+    /// Its entries among those of all rows. The only call that reads them.
+    pub(crate) fn entries<'a, L: Ledger>(
+        &self,
+        entries: &'a [Changed],
+        steps: &mut Steps<L>,
+    ) -> &'a [Changed]
         requires { self.now.from + self.now.count ≤ length entries.now }
-        ensures { result.now ≡ changes_of entries.now self.now }
+        ensures entries { result.now ≡ changes_of entries.now self.now }
+        ensures step { steps.new ≡ steps.old + 1 }
     {
+        steps.tick();
         let from = self.from as usize;
         &entries[from..from + usize::from(self.count)]
     }

@@ -1,9 +1,11 @@
 //! The worked cases of clocks, operations and logs, and a random log beside a plain list.
-ghost use Rattle.std.specs.Prelude.{◌<◌};
+ghost use Rattle.std.specs.Prelude.{◌≡◌, ◌<◌, length};
 
-use crate::{Clock, Op, OpLog};
+use crate::{Clock, Op, OpLog, Steps};
 use opid::{OpKind, Refusal, Site, Stamp};
 use std::alloc::Global;
+use std::marker::Brand;
+use std::sync::ledger::{Blank, Ledger};
 use std::test::Fail;
 
 fn site(number: u8) -> Result<Site, Refusal> {
@@ -111,13 +113,23 @@ fn an_entry_that_fell_is_stored(rt: HostRuntime) -> Result<(), Fail> {
     Ok(())
 }
 
+/// The operation at the place, where nobody counts the steps.
+fn get_at<L: Ledger>(log: &OpLog, place: usize, blank: Blank) -> Op
+    requires place { place < length log.now.ops }
+    requires name { blank.name ≡ L.name }
+    requires parts { blank.parts ≡ L.parts }
+    requires some { 0 < L.parts }
+{
+    log.get(place, &mut Steps::<L>::new(blank))
+}
+
 /// Whether the log has these operations: each by its place, and all that follow in order.
 fn is_log_of(log: &OpLog, ops: &[Op]) -> bool {
     if log.len() != ops.len() {
         return false;
     }
     for (place, op) in ops.iter().enumerate() {
-        if place >= log.len() || log.get(place) != *op {
+        if place >= log.len() || get_at::<Brand>(log, place, Blank::new(1)) != *op {
             return false;
         }
     }

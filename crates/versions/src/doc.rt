@@ -1,5 +1,6 @@
 //! A document and its versions.
-ghost use Rattle.std.specs.Prelude.{◌≡◌, ◌≤◌, ◌<◌, ◌+◌, ◌-◌, ◌⊎◌, ◌++◌, ◌==◌, ℕ, [], ◌∷◌, Some, None, true, List, length, max, slice_get, option_map, take, drop, sum, IfOk, IfErr, OnOk, OnErr, IsErr, vec_len, vec_capacity};
+ghost use Rattle.std.specs.Prelude.{◌≡◌, ◌≤◌, ◌<◌, ◌+◌, ◌-◌, ◌⊎◌, ◌++◌, ◌==◌, ℕ, [], ◌∷◌, Some, None, true, List, length, max, slice_get};
+ghost use Rattle.std.specs.Prelude.{option_map, take, drop, sum, IfOk, IfErr, OnOk, OnErr, IsErr, vec_len, vec_capacity};
 ghost use Rattle.opid.specs.declared.refusal.Refusal.TheVariants.{BadVersion, Memory};
 ghost use Rattle.opid.specs.Operations.{Operation};
 ghost use Rattle.opid.specs.Delivery.{clock_of, is_ready};
@@ -13,6 +14,8 @@ ghost use Rattle.versions.specs.Sums.{last_sum};
 
 use crate::characters::Characters;
 use crate::integrate::{MAX_OPERATIONS, integrate, refusal_of};
+use crate::kept_edit::KeptEdit;
+use crate::op_at::op_at;
 use crate::reserved::{make_room, reserve_each};
 use crate::text::text_in;
 use causal_clock::{Clock, Op, OpLog, Replay};
@@ -27,7 +30,7 @@ use std::marker::Model;
 #[derive(Drop)]
 pub struct Doc {
     log: OpLog,
-    edits: Vec<Edit>,
+    edits: Vec<KeptEdit>,
     tree: VersionTree,
     clock: Clock,
     sums: [u32; SITES],
@@ -83,12 +86,13 @@ impl Doc {
         self.clock
     }
 
-    /// The operation that made version `i + 1` of version `i`. Takes at most 63 steps back along its site's operations.
+    /// The operation that made version `i + 1` of version `i`. Takes the steps of `OpLog::get`: at most 63 back along its
+    /// site's operations.
     pub fn op(&self, i: u32) -> Op
         requires { i < length self.now.log }
         ensures value { slice_get self.now.log i ≡ Some result }
     {
-        self.log.get(i as usize)
+        op_at(&self.log, i as usize)
     }
 
     /// The operations from a place of the log on, in order. The first one of each site takes the steps of `op`, each
@@ -178,7 +182,7 @@ impl Doc {
         ensures value { slice_get (edits self.now.log) (n - 1) ≡ Some result }
         ensures after { (x : Operation) → slice_get self.now.log (n - 1) ≡ Some x → result ≡ edit_after (take (n - 1) self.now.log) x }
     {
-        self.edits[n as usize - 1]
+        self.edits[n as usize - 1].edit()
     }
 
     /// How many characters there are in the version. Constant time.
@@ -208,7 +212,8 @@ impl Doc {
     pub fn reading(&self, version: u32) -> Result<Characters, Refusal>
         ensures ok { IfOk result (λ text. text ≡ reading_at self.now.log version) }
         ensures known { OnOk result (version ≤ length self.now.log) }
-        ensures cause { IfErr result (λ e. ((e ≡ BadVersion) × (length self.now.log < version)) ⊎ ((e ≡ Memory) × (version ≤ length self.now.log))) }
+        ensures cause { IfErr result (λ e. ((e ≡ BadVersion) × (length self.now.log < version))
+            ⊎ ((e ≡ Memory) × (version ≤ length self.now.log))) }
     {
         if version as usize > self.log.len() {
             return Err(Refusal::BadVersion);

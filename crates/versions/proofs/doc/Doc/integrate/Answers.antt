@@ -1,4 +1,4 @@
-use Rattle.std.proofs.Common.{◌∙◌, List, ap, sym, subst}
+use Rattle.std.proofs.Common.{◌∙◌, List, ap, sym}
 use Rattle.opid.specs.Operations.{Operation}
 use Rattle.opid.specs.Reading.{reading}
 use Rattle.opid.specs.Splice.{apply}

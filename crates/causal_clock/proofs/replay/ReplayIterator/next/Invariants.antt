@@ -1,0 +1,5 @@
+use Rattle.causal_clock.proofs.replay.ReplayIterator.next.Given as goal
+
+-- the ledger of the blank that is made for the call
+abbrev pub ghosts-op_after : goal.ghosts-op_after
+ghosts-op_after a = record { name = a.blank.name; parts = a.blank.parts }
