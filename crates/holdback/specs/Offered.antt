@@ -1,6 +1,7 @@
 -- What becomes of an operation that is offered to those that are held back (Roh, Jeon, Kim and Lee 2011: a site's
 -- operations are numbered, and what comes again is told by its number).
-use Rattle.std.specs.Prelude.{ℕ, Bool, true, false, ◌==◌, ◌&&◌, nat_lt, if◌then◌else◌, Option, Some, None, Result, Ok, Err, List, [], ◌∷◌, ◌++◌, find, length}
+use Rattle.std.specs.Prelude.{ℕ, Bool, true, false, ◌==◌, ◌&&◌, nat_lt, if◌then◌else◌, Option, Some, None, Result, Ok, Err, List, [], ◌∷◌}
+use Rattle.std.specs.Prelude.{◌++◌, find, length}
 use Rattle.opid.specs.declared.refusal.Refusal.{Refusal}
 use Rattle.opid.specs.declared.refusal.Refusal.TheVariants.{Conflict, HoldFull}
 use Rattle.opid.specs.Operations.{Operation, number_of}

@@ -2,7 +2,8 @@
 -- of a snapshot that is the first line of the input; and writes at last a snapshot, where the plan says so. `text` prints the
 -- reading of a version of the log of a snapshot, which is the whole input. `world` answers the events of a script, and then
 -- writes what each site reads. The forms are the server's own.
-use Rattle.std.specs.Prelude.{◌≡◌, ◌⊎◌, ℕ, ◌<◌, ◌≤◌, List, [], ◌++◌, length, Bool, true, false, unwrap_or, Option, Some, Result, Ok, Err, encode_utf8_all}
+use Rattle.std.specs.Prelude.{◌≡◌, ◌⊎◌, ℕ, ◌<◌, ◌≤◌, List, [], ◌++◌, length, Bool, true, false, unwrap_or, Option, Some, Result, Ok, Err}
+use Rattle.std.specs.Prelude.{encode_utf8_all}
 use Rattle.std.specs.Io.KnownBytes.{IsAtEnd}
 use Rattle.opid.specs.declared.refusal.Refusal.{Refusal}
 use Rattle.opid.specs.declared.refusal.Refusal.TheVariants as Why
@@ -116,7 +117,8 @@ Follows text last (Err why) end = (last ≡ []) × (end ≡ Err (Fault why))
 Follows text last (Ok done) end = Writes text last end
 
 -- a world of empty rooms answers the lines, and what comes after the answers is what its sites then read
-pub record ServesWorld {T : Type 0} (sites : ℕ) (got : List ℕ) (left : Option (List ℕ)) (written : List ℕ) (end : Result T Stop) : Type 0 where
+pub record ServesWorld {T : Type 0} (sites : ℕ) (got : List ℕ) (left : Option (List ℕ)) (written : List ℕ)
+    (end : Result T Stop) : Type 0 where
   pub after : List Account
   pub answers : List ℕ
   pub last : List ℕ
