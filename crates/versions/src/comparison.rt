@@ -1,0 +1,222 @@
+//! A log of 2,000 operations of five sites beside the plain program of the definitions, at each of its versions. (Who
+//! asks borrows the documents, since what a function owns costs its proof at each step.)
+ghost use Rattle.std.specs.Prelude.{◌<◌};
+
+use crate::checked::{edit_at, element_at, integrate, len_at, next_op, op_at};
+use crate::lives::Lives;
+use crate::plain::{Insertion, Plain, edit_of};
+use crate::{Characters, Doc};
+use causal_clock::Clock;
+use opid::{OpKind, Refusal, Site, Stamp};
+use std::alloc::Global;
+use std::test::Fail;
+
+const MANY: u32 = 2_000;
+
+/// Numbers that look random, always the same.
+#[derive(Drop)]
+struct Dice(u64);
+
+impl Dice {
+    fn roll(&mut self, sides: usize) -> usize
+        requires { 0 < sides }
+        ensures { result < sides }
+    {
+        self.0 = self
+            .0
+            .wrapping_mul(6_364_136_223_846_793_005)
+            .wrapping_add(1_442_695_040_888_963_407);
+        ((self.0 >> 33) as usize) % sides
+    }
+}
+
+/// A deletion of any element, or an insertion behind any that is older, for the site's next stamp.
+fn choose(plain: &Plain, dice: &mut Dice, next: Stamp) -> OpKind {
+    let chosen = plain.stamp_of(dice.roll(plain.len().saturating_add(1)));
+    let ch = match dice.roll(4) {
+        0 => 'a',
+        1 => '\u{E9}',
+        2 => '\u{1F600}',
+        _ => 'b',
+    };
+    match chosen {
+        None => OpKind::Ins { parent: None, ch },
+        Some(target) => {
+            let parent = target;
+            if dice.roll(10) < 4 {
+                OpKind::Del { target }
+            } else if target.is_before(next) {
+                OpKind::Ins {
+                    parent: Some(parent),
+                    ch,
+                }
+            } else {
+                OpKind::Ins { parent: None, ch }
+            }
+        }
+    }
+}
+
+/// What the site knows: its own operations, and now and then all that are there.
+fn known(doc: &Doc, clocks: &[Clock], number: usize, dice: &mut Dice) -> Clock {
+    match clocks.get(number) {
+        None => doc.clock(),
+        Some(clock) => {
+            if dice.roll(4) == 0 {
+                doc.clock()
+            } else {
+                *clock
+            }
+        }
+    }
+}
+
+/// One more operation of one of five sites, in the document and in the plain program.
+fn step(
+    alloc: Global,
+    doc: &mut Doc,
+    plain: &mut Plain,
+    clocks: &mut [Clock],
+    dice: &mut Dice,
+) -> Result<(), Refusal> {
+    let number = dice.roll(5);
+    let site = Site::new(number as u8)?;
+    let clock = known(doc, clocks, number, dice);
+    let next = Stamp {
+        sum: clock.sum().saturating_add(1),
+        site,
+    };
+    let kind = choose(plain, dice, next);
+    let op = next_op(&clock, site, kind)?;
+    let _edit = integrate(doc, &op)?;
+    plain.add(alloc, op.stamp(), op.kind())?;
+    if let Some(own) = clocks.get_mut(number) {
+        *own = op.clock();
+    }
+    Ok(())
+}
+
+/// Fills the document, and the plain program beside it.
+fn fill(alloc: Global, doc: &mut Doc, plain: &mut Plain) -> Result<(), Refusal> {
+    let mut clocks = [Clock::zero(); 5];
+    let mut dice = Dice(1);
+    for _ in 0..MANY {
+        step(alloc, doc, plain, &mut clocks, &mut dice)?;
+    }
+    Ok(())
+}
+
+/// The document of the operations.
+fn long(alloc: Global) -> Result<Doc, Refusal> {
+    let mut doc = Doc::new(alloc);
+    fill(alloc, &mut doc, &mut Plain::new(alloc)?)?;
+    Ok(doc)
+}
+
+/// Whether the text is that of these elements.
+fn is_text_of(text: &Characters, visible: &[Insertion]) -> bool {
+    let mut chars = text.as_str().chars();
+    for x in visible {
+        if chars.next() != Some(x.ch) {
+            return false;
+        }
+    }
+    chars.next().is_none()
+}
+
+/// Whether the version shows these elements: its length, its text, and the elements at some places.
+fn shows(doc: &Doc, version: u32, visible: &[Insertion], dice: &mut Dice) -> Result<bool, Refusal> {
+    if len_at(doc, version) != Some(visible.len()) || !is_text_of(&doc.reading(version)?, visible) {
+        return Ok(false);
+    }
+    for _ in 0..16 {
+        let place = dice.roll(visible.len().saturating_add(1));
+        if element_at(doc, version, place) != visible.get(place).map(|x| x.stamp) {
+            return Ok(false);
+        }
+    }
+    Ok(true)
+}
+
+/// Whether the operation made the edit and the version that the plain program has after it; and what that one shows.
+fn is_next(
+    alloc: Global,
+    doc: &Doc,
+    plain: &mut Plain,
+    version: u32,
+    before: &[Insertion],
+    dice: &mut Dice,
+) -> Result<(bool, Vec<Insertion>), Fail> {
+    let op = op_at(doc, version).ok_or("operation")?;
+    plain.add(alloc, op.stamp(), op.kind())?;
+    let after = plain.visible(alloc)?;
+    let next = version.saturating_add(1);
+    let edit = edit_of(op.stamp(), op.kind(), before, &after);
+    let all = edit_at(doc, next) == Some(edit) && shows(doc, next, &after, dice)?;
+    Ok((all, after))
+}
+
+/// Whether each version is what the plain program has, and the last of them is long.
+fn is_as_defined(alloc: Global, doc: &Doc, plain: &mut Plain) -> Result<bool, Fail> {
+    let mut dice = Dice(2);
+    let mut before = plain.visible(alloc)?;
+    let mut all = true;
+    for version in 0..MANY {
+        let (here, after) = is_next(alloc, doc, plain, version, &before, &mut dice)?;
+        all &= here;
+        before = after;
+    }
+    Ok(all && before.len() > 500)
+}
+
+#[test]
+fn each_version_is_as_defined(rt: HostRuntime) -> Result<(), Fail> {
+    let doc = long(rt.alloc())?;
+    assert!(rt; is_as_defined(rt.alloc(), &doc, &mut Plain::new(rt.alloc())?)?);
+    Ok(())
+}
+
+/// Puts the log into the plain program and into the elements' lives, in the one order.
+fn live(alloc: Global, doc: &Doc, plain: &mut Plain, lives: &mut Lives) -> Result<(), Fail> {
+    for version in 0..MANY {
+        let op = op_at(doc, version).ok_or("operation")?;
+        plain.add(alloc, op.stamp(), op.kind())?;
+        lives.add(&op, version.saturating_add(1))?;
+    }
+    lives.order(alloc, plain)?;
+    Ok(())
+}
+
+/// The lives of the log's elements.
+fn lives_of(alloc: Global, doc: &Doc) -> Result<Lives, Fail> {
+    let mut lives = Lives::new(alloc);
+    live(alloc, doc, &mut Plain::new(alloc)?, &mut lives)?;
+    Ok(lives)
+}
+
+/// Whether the version has these elements, each at its place, and none behind them.
+fn has_elements(doc: &Doc, version: u32, stamps: &[Stamp]) -> bool {
+    for (place, stamp) in stamps.iter().enumerate() {
+        if element_at(doc, version, place) != Some(*stamp) {
+            return false;
+        }
+    }
+    element_at(doc, version, stamps.len()).is_none()
+}
+
+/// Whether each version has the elements that a scan of the lives finds.
+fn are_found(alloc: Global, doc: &Doc, lives: &Lives) -> Result<bool, Fail> {
+    let mut all = true;
+    for version in 0..MANY + 1 {
+        all &= has_elements(doc, version, &lives.visible(alloc, version)?);
+    }
+    Ok(all)
+}
+
+#[test]
+fn each_place_of_each_version_is_found_as_by_a_scan(rt: HostRuntime) -> Result<(), Fail> {
+    let doc = long(rt.alloc())?;
+    let lives = lives_of(rt.alloc(), &doc)?;
+    assert!(rt; are_found(rt.alloc(), &doc, &lives)?);
+    Ok(())
+}
