@@ -4,7 +4,7 @@ ghost use Rattle.std.specs.List.{AllByRecursion};
 ghost use Rattle.opid.specs.declared.refusal.Refusal.TheVariants.{Memory};
 ghost use Rattle.replica.specs.Numbered.{row_at};
 
-use opid::{Refusal, SITES, Site, push_reserved};
+use opid::{Refusal, SITES, Site};
 use std::alloc::Global;
 use std::array;
 use std::marker::Model;
@@ -48,7 +48,7 @@ impl Row {
         requires { 0 < self.old.room }
         ensures { self.new ≡ record { places = self.old.places ++ place ∷ []; room = self.old.room - 1 } }
     {
-        push_reserved(&mut self.places, place);
+        self.places.push_reserved(place);
         self.room -= 1;
     }
 

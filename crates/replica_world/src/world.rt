@@ -15,7 +15,7 @@ ghost use Rattle.replica_world.specs.Kept.{IsWorld, Converges};
 
 use crate::event::{Event, WorldReply};
 use causal_clock::Op;
-use opid::{Refusal, Site, push_reserved};
+use opid::{Refusal, Site};
 use replica::Replica;
 use room::{Call, Characters, Operations, Room};
 use std::alloc::{AllocError, Global};
@@ -110,7 +110,7 @@ impl World {
             replies.reserve(1)?;
             let copy = event.clone()?;
             let reply = self.step(copy)?;
-            push_reserved(replies, reply);
+            replies.push_reserved(reply);
         }
         Ok(())
     }

@@ -17,7 +17,7 @@ use crate::outcome::Outcome;
 use crate::outcomes::Outcomes;
 use crate::reply::Reply;
 use causal_clock::Op;
-use opid::{Edit, MAX_COUNT, Refusal, push_reserved};
+use opid::{Edit, MAX_COUNT, Refusal};
 use replica::Replica;
 use session_outbox::{Sessions, Submission};
 use std::alloc::{AllocError, Global};
@@ -240,7 +240,7 @@ fn add_edits(doc: &Doc, from: u32, to: u32, es: &mut Vec<Edit>)
     ensures { es.new.items ≡ edits_between doc.now.log from to }
 {
     for version in from..to {
-        push_reserved(es, doc.edit(version + 1));
+        es.push_reserved(doc.edit(version + 1));
     }
 }
 
@@ -253,6 +253,6 @@ fn hand_over(replica: &mut Replica, ops: &[Op], outcomes: &mut Vec<Outcome>)
 {
     for op in ops {
         let outcome = Outcome::of(replica.put(*op));
-        push_reserved(outcomes, outcome);
+        outcomes.push_reserved(outcome);
     }
 }

@@ -6,7 +6,7 @@ ghost use Rattle.room.specs.declared.reply.Reply.TheVariants.{No};
 use crate::call::Call;
 use crate::machine::{MAX_CALLS, Machine};
 use crate::reply::Reply;
-use opid::{Refusal, Site, push_reserved};
+use opid::{Refusal, Site};
 use replica::Replica;
 use std::alloc::{AllocError, Global};
 use std::marker::Model;
@@ -136,7 +136,7 @@ impl Room {
         self.history.reserve(1)?;
         let reply = self.machine.answer(&call)?;
         self.mark = ticket + 1;
-        push_reserved(&mut self.history, (ticket, call));
+        self.history.push_reserved((ticket, call));
         Ok(reply)
     }
 
@@ -170,7 +170,7 @@ impl Room {
             replies.reserve(1)?;
             let copy = call.clone()?;
             let reply = self.step(copy)?;
-            push_reserved(replies, reply);
+            replies.push_reserved(reply);
         }
         Ok(())
     }

@@ -11,7 +11,7 @@ loop-op-preserved c =
     record {
       site = d.site ∙ c.loop-op.invariant.site;
       handed =
-          handed_on c.loop-op.replica c.put.new.self c.args.ops.now c.loop-op.op-index c.op-item.result c.put.result c.loop-op.outcomes.items c.push_reserved.new.items.items c.of-outcome.result _ c.loop-op-test.true
+          handed_on c.loop-op.replica c.put.new.self c.args.ops.now c.loop-op.op-index c.op-item.result c.put.result c.loop-op.outcomes.items c.push_reserved.new.self.items c.of-outcome.result _ c.loop-op-test.true
           (subst (λ x. Delivers c.loop-op.replica c.put.new.self x c.put.result) c.op-item.is d) c.of-outcome.ensures c.push_reserved.ensures.items c.loop-op.invariant.handed;
       room = d.room (length (drop (c.loop-op.op-index + 1) c.args.ops.now)) (omega (arith, c.loop-op.invariant.room, left, later, c.loop-op-test.true));
       capacity = omega (arith, c.loop-op.invariant.capacity, left, later, c.loop-op-test.true, c.push_reserved.ensures.capacity, ap length c.push_reserved.ensures.items, length-append c.loop-op.outcomes.items (c.of-outcome.result ∷ []));

@@ -28,7 +28,7 @@ goes_on first room new calls i c copy reply before replies more t b e p w a r m 
 pub loop-call-preserved : goal.loop-call-preserved
 loop-call-preserved c =
     let on = goes_on c.args.self.now c.loop-call.self c.step.new.self c.args.calls.now c.loop-call.call-index c.call-item.result c.in_ok-copy.copy c.in_ok-reply.reply
-    c.args.replies.now.items c.reserve.new.self.items c.push_reserved.new.items.items (mark c.loop-call.self.history)
+    c.args.replies.now.items c.reserve.new.self.items c.push_reserved.new.self.items (mark c.loop-call.self.history)
     c.loop-call-test.true c.call-item.is c.in_ok-copy.ensures.cases c.loop-call.invariant.within
     (c.reserve.ensures.items ∙ c.loop-call.invariant.answered) c.loop-call.invariant.room
     refl c.in_ok-reply.ensures.steps.answered c.in_ok-reply.ensures.steps.called c.push_reserved.ensures.items in
