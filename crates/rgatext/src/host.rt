@@ -21,6 +21,10 @@ const DRAWS: u64 = 2_097_152;
 struct Open;
 
 impl Gate for Open {
+    ghost told_before = { λ _ _ _. Unit {0} };
+
+    ghost told_after = { λ _ _ _. Unit {0} };
+
     fn before(&mut self, _n: u64) {}
 
     fn after(&mut self, _n: u64) {}

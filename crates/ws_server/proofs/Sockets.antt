@@ -1,23 +1,43 @@
--- What a turn at a WebSocket that ended with a fault has done.
-use Rattle.std.proofs.Common.{◌≡◌, ℕ, List, Option, Some, Ok, Err, inr}
+-- What a turn at a WebSocket that ended with a fault has done, and the socket that a handshake gave.
+use Rattle.std.proofs.Common.{◌≡◌, ℕ, List, Option, Some, Ok, Err, inr, ap, ◌∙◌}
+use Rattle.tungstenite.specs.Heads.{Serves as IsOfServer}
 use Rattle.tungstenite.specs.Socket.{Socket, Reads, content_of}
 use Rattle.tungstenite.specs.declared.message.Message.{Message}
-use Rattle.shared_room.specs.declared.pass.Pass.{Pass}
-use Rattle.ws_server.specs.declared.conn.Conn.{Conn}
 use Rattle.ws_server.specs.declared.fault.ServeFault.{ServeFault}
 use Rattle.ws_server.specs.declared.fault.ServeFault.TheVariants.{Read, Write, Memory}
 use Rattle.ws_server.specs.declared.hall.Hall.{Hall}
-use Rattle.ws_server.specs.Frames.{AnswersFrame}
+use Rattle.ws_server.specs.Frames.{Side, AnswersFrame}
 use Rattle.ws_server.specs.Serving.{data_of, FailsToSend, Serves}
 
 -- a message was answered, and the answer wasn't sent
-pub serves_unsent : {S : Type 0} (remaining contents : S → Option (List ℕ)) (hall : Hall) (old mid new : Socket S) (conn conn' : Conn) (passes passes' : List Pass)
-    (message : Message) (bytes answer : List ℕ) (why : ServeFault)
-    → Reads remaining old mid (Ok message) → data_of (content_of message) ≡ Some bytes
-    → AnswersFrame hall conn.opened passes bytes answer conn'.opened passes' → FailsToSend mid new answer why
-    → Serves remaining contents hall old new conn conn' passes passes' (Err why)
-serves_unsent remaining contents hall old mid new conn conn' passes passes' message bytes answer Read reads taken answers fails = absurd fails
-serves_unsent remaining contents hall old mid new conn conn' passes passes' message bytes answer Write reads taken answers fails =
-    (message, mid, bytes, answer, reads, taken, answers, fails)
-serves_unsent remaining contents hall old mid new conn conn' passes passes' message bytes answer Memory reads taken answers fails =
-    inr (message, mid, bytes, answer, reads, taken, answers, fails)
+pub serves_unsent : {S G : Type 0} (remaining contents : S → Option (List ℕ)) (told_before told_after : G → ℕ → G → Type 0) (hall : Hall)
+    (first mid socket : Socket S) (old new : Side G) (message : Message) (bytes answer : List ℕ) (made : Option ℕ) (why : ServeFault)
+    → Reads remaining first mid (Ok message) → data_of (content_of message) ≡ Some bytes
+    → AnswersFrame told_before hall old bytes answer made new → FailsToSend mid socket answer why
+    → Serves remaining contents told_before told_after hall first old socket new (Err why)
+serves_unsent remaining contents told_before told_after hall first mid socket old new message bytes answer made Read reads taken answers
+    fails = absurd fails
+serves_unsent remaining contents told_before told_after hall first mid socket old new message bytes answer made Write reads taken answers
+    fails =
+    (message, mid, bytes, answer, made, reads, taken, answers, fails)
+serves_unsent remaining contents told_before told_after hall first mid socket old new message bytes answer made Memory reads taken answers
+    fails =
+    inr (message, mid, bytes, answer, made, reads, taken, answers, fails)
+
+-- a socket of a server is one still after its limits were set
+pub configured : {S : Type 0} (given limited : Socket S) → IsOfServer given
+    → limited ≡ record given { conn = record given.conn { config = limited.conn.config } } → IsOfServer limited
+configured given limited (heard, (stream, fresh)) is = (
+  heard,
+  (
+    stream,
+    record {
+      on_stream = ap (λ s. s.stream) is ∙ fresh.on_stream;
+      nothing_read = ap (λ s. s.input) is ∙ fresh.nothing_read;
+      nothing_waits = ap (λ s. s.output) is ∙ fresh.nothing_waits;
+      has_role = ap (λ s. s.conn.role) is ∙ fresh.has_role;
+      is_active = ap (λ s. s.conn.state) is ∙ fresh.is_active;
+      no_fragments = ap (λ s. s.conn.fragments) is ∙ fresh.no_fragments;
+    },
+  ),
+)

@@ -31,7 +31,8 @@ told_carried (replies.Put told) = carried told
 told_carried _ = 0
 
 -- a call was answered, or the desk told its fault
-abbrev pub Calls : {S : Type 0} → (S → Call → Reply → S → Type 0) → (S → Call → DeskFault → S → Type 0) → S → Call → Result Reply DeskFault → S → Type 0
+abbrev pub Calls : {S : Type 0} → (S → Call → Reply → S → Type 0) → (S → Call → DeskFault → S → Type 0) → S → Call → Result Reply DeskFault
+    → S → Type 0
 Calls step fault old call (Ok reply) new = step old call reply new
 Calls step fault old call (Err why) new = fault old call why new
 
@@ -41,12 +42,14 @@ number_after after (Ok reply) = Ok (after + told_carried reply)
 number_after after (Err why) = Err why
 
 -- the operations were put in one call, or there were none, and no call was made
-abbrev pub Hands : {S : Type 0} → (S → Call → Reply → S → Type 0) → (S → Call → DeskFault → S → Type 0) → S → ℕ → List Operation → Result ℕ DeskFault → S → Type 0
+abbrev pub Hands : {S : Type 0} → (S → Call → Reply → S → Type 0) → (S → Call → DeskFault → S → Type 0) → S → ℕ → List Operation
+    → Result ℕ DeskFault → S → Type 0
 Hands step fault old after [] result new = (result ≡ Ok after) × (new ≡ old)
 Hands step fault old after (op ∷ ops) result new =
     (answered : Result Reply DeskFault) × Calls step fault old (calls.Put (op ∷ ops)) answered new × (result ≡ number_after after answered)
 
 -- what followed what the first desk answered
-abbrev pub Follows : {S : Type 0} → (S → Call → Reply → S → Type 0) → (S → Call → DeskFault → S → Type 0) → S → ℕ → Result Reply DeskFault → Result ℕ DeskFault → S → Type 0
+abbrev pub Follows : {S : Type 0} → (S → Call → Reply → S → Type 0) → (S → Call → DeskFault → S → Type 0) → S → ℕ → Result Reply DeskFault
+    → Result ℕ DeskFault → S → Type 0
 Follows step fault old after (Ok reply) result new = Hands step fault old after (told_ops reply) result new
 Follows step fault old after (Err why) result new = (result ≡ Err why) × (new ≡ old)

@@ -8,14 +8,25 @@ use Rattle.wire_json.specs.Text.{text}
 use Rattle.shared_room.specs.declared.pass.Pass.{Pass}
 use Rattle.shared_room.specs.declared.shared.SharedRoom.{SharedRoom}
 use Rattle.shared_room.specs.Views.{view, opening}
+use Rattle.ws_server.specs.declared.conn.Conn.{Conn}
 use Rattle.ws_server.specs.declared.hall.Hall.{Hall}
 use Rattle.ws_server.specs.Halls.{rooms_of, place_of}
 use Rattle.ws_server.specs.Answers.{Answers}
 use Rattle.ws_server.specs.PassSteps.{pass_step, pass_fault}
+use Rattle.ws_server.specs.Gates.{Gated, gated_step, gated_fault}
 
--- a message over the pass of a room: just what the line engine answers to these bytes as one line
-abbrev pub AnswersOver : SharedRoom → Pass → List ℕ → List ℕ → Pass → Type 0
-AnswersOver room p bytes answer q = Answers (pass_step (opening room)) pass_fault (view p) bytes answer (view q)
+-- What serves a connection: what is kept of it, a pass of each room of the hall, and its gate.
+pub record Side (G : Type 0) : Type 0 where
+  pub conn : Conn
+  pub passes : List Pass
+  pub gate : G
+
+-- a message over the pass of a room, behind the gate: just what the line engine answers to these bytes as one line
+abbrev pub AnswersOver : {G : Type 0} → (G → ℕ → G → Type 0) → SharedRoom → Gated Pass G → List ℕ → List ℕ → Gated Pass G → Type 0
+AnswersOver told_before room old bytes answer new =
+    Answers (gated_step told_before (pass_step (opening room))) (gated_fault told_before pass_fault)
+    (record { desk = view old.desk; calls = old.calls; gate = old.gate; made = old.made }) bytes answer
+    (record { desk = view new.desk; calls = new.calls; gate = new.gate; made = new.made })
 
 -- the text that tells that a room was opened
 abbrev pub opened_text : List ℕ
@@ -35,10 +46,19 @@ abbrev pub Opens : Hall → List ℕ → List ℕ → Option ℕ → Type 0
 Opens hall bytes answer opened =
     OpensAsked hall (requests.opening bytes) answer opened ⊎ ((length bytes ≤ 65536) × (answer ≡ text (No Why.Memory)) × (opened ≡ None))
 
--- the answer to a message: until a room is opened, an opening; from then on a call of that room. The passes of the others are as before
-abbrev pub AnswersFrame : Hall → Option ℕ → List Pass → List ℕ → List ℕ → Option ℕ → List Pass → Type 0
-AnswersFrame hall None passes bytes answer opened passes' = (passes' ≡ passes) × Opens hall bytes answer opened
-AnswersFrame hall (Some at) passes bytes answer opened passes' =
-    (opened ≡ Some at)
-    × ((room : SharedRoom) × (p q : Pass) × (slice_get (rooms_of hall) at ≡ Some room) × (slice_get passes at ≡ Some p) × (passes' ≡ slice_set passes at q)
-    × AnswersOver room p bytes answer q)
+-- the answer to a message of a connection whose room is at this place, or that has opened none
+abbrev pub AnswersAt : {G : Type 0} → (G → ℕ → G → Type 0) → Hall → Option ℕ → Side G → List ℕ → List ℕ → Option ℕ → Side G → Type 0
+AnswersAt told_before hall None old bytes answer made new =
+    (new.passes ≡ old.passes) × (new.conn.calls ≡ old.conn.calls) × (new.gate ≡ old.gate) × (made ≡ None)
+    × Opens hall bytes answer new.conn.opened
+AnswersAt told_before hall (Some at) old bytes answer made new =
+    (new.conn.opened ≡ Some at)
+    × ((room : SharedRoom) × (p q : Pass) × (slice_get (rooms_of hall) at ≡ Some room) × (slice_get old.passes at ≡ Some p)
+    × (new.passes ≡ slice_set old.passes at q)
+    × AnswersOver told_before room (record { desk = p; calls = old.conn.calls; gate = old.gate; made = None }) bytes answer
+    (record { desk = q; calls = new.conn.calls; gate = new.gate; made = made }))
+
+-- the answer to a message, and the number of the call that it made, if it made one: until a room is opened, an opening; from then on
+-- a call of that room. The passes of the others are as before, and only a call is told to the gate and counted
+abbrev pub AnswersFrame : {G : Type 0} → (G → ℕ → G → Type 0) → Hall → Side G → List ℕ → List ℕ → Option ℕ → Side G → Type 0
+AnswersFrame told_before hall old bytes answer made new = AnswersAt told_before hall old.conn.opened old bytes answer made new

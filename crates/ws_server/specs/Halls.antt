@@ -1,9 +1,11 @@
 -- What the public contracts say of a hall and of the passes of its rooms, which are the server's own.
-use Rattle.std.specs.Prelude.{◌<◌, ℕ, length, IfSome, List, [], ◌∷◌, Option, map, bytes_eq, string_bytes}
+use Rattle.std.specs.Prelude.{◌≡◌, ◌<◌, ◌^◌, ℕ, zero, suc, length, IfSome, List, [], ◌∷◌, Option, map, bytes_eq, string_bytes}
+use Rattle.room.specs.Machine.{empty_room}
 use Rattle.indexmap.specs.IndexMap.{index_of_by}
 use Rattle.shared_room.specs.declared.pass.Pass.{Pass}
 use Rattle.shared_room.specs.declared.shared.SharedRoom.{SharedRoom}
-use Rattle.shared_room.specs.Views.{IsPassOf}
+use Rattle.shared_room.specs.Turns.{given_away, newcomer}
+use Rattle.shared_room.specs.Views.{View, view, opening, IsPassOf}
 use Rattle.ws_server.specs.declared.conn.Conn.{Conn}
 use Rattle.ws_server.specs.declared.hall.Hall.{Hall}
 use Rattle.ws_server.specs.declared.hall.HallPass.{HallPass}
@@ -28,3 +30,26 @@ IsHallPassOf hall pass = ArePassesOf (rooms_of hall) pass.passes.items
 -- the room that the connection opened is one of the hall's
 abbrev pub IsConnOf : Hall → Conn → Type 0
 IsConnOf hall conn = IfSome conn.opened (λ at. at < length (rooms_of hall))
+
+-- the rooms' names, in their order
+abbrev pub names_of : Hall → List (List ℕ)
+names_of hall = map (λ e. string_bytes e.0) hall.rooms.entries
+
+-- a pass that has seen no call and made none, and may make 2^62
+abbrev pub first_view : View
+first_view = record { seen = []; found = []; mine = []; drawn = 0; left = 2 ^ 62; lost = 0 }
+
+-- An empty room of the site for each name, in the order of the names, and the first pass of each.
+pub record IsOpened (site : ℕ) (asked : List (List ℕ)) (hall : Hall) (pass : HallPass) : Type 0 where
+  pub names : names_of hall ≡ asked
+  pub rooms : map opening (rooms_of hall) ≡ map (λ name. empty_room site) asked
+  pub passes : map view pass.passes.items ≡ map (λ name. first_view) asked
+
+-- each of the first so many passes handed `count` draws to a new one, and the others are as before
+abbrev pub AreSplit : ℕ → ℕ → List Pass → List Pass → List Pass → Type 0
+AreSplit count zero old new given = (new ≡ old) × (given ≡ [])
+AreSplit count (suc n) (p ∷ old) (q ∷ new) (r ∷ given) =
+    (view q ≡ given_away count (view p)) × (view r ≡ newcomer count (view p)) × AreSplit count n old new given
+AreSplit count (suc n) [] new given = ⊥
+AreSplit count (suc n) (p ∷ old) [] given = ⊥
+AreSplit count (suc n) (p ∷ old) (q ∷ new) [] = ⊥

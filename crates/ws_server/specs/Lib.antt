@@ -8,6 +8,7 @@ pub mod Counting
 pub mod Turns
 pub mod PassSteps
 pub mod Halls
+pub mod Gates
 pub mod Frames
 pub mod Serving
 pub mod Names

@@ -19,4 +19,5 @@ are_different (name ∷ names) = not (list_any (λ other. string_eq other name) 
 -- 1 to 64 different names
 abbrev pub names_fit : {Z : Type 0} → List (String Z) → Bool
 names_fit names =
-    not (length names == 0) && (not (nat_lt 64 (length names)) && (list_all (λ name. is_name (string_bytes name)) names && are_different names))
+    not (length names == 0) && (not (nat_lt 64 (length names))
+    && (list_all (λ name. is_name (string_bytes name)) names && are_different names))

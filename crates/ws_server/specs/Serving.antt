@@ -1,5 +1,6 @@
--- What one turn at a WebSocket does: a message is read, and its answer sent. The rules are the server's own.
-use Rattle.std.specs.Prelude.{◌≡◌, ◌⊎◌, ℕ, Bool, true, false, List, Option, Some, None, Result, Ok, Err}
+-- What one turn at a WebSocket does: a message is read, and its answer sent; and what serving a connection to its end does, turn by
+-- turn. The rules are the server's own.
+use Rattle.std.specs.Prelude.{◌≡◌, ◌⊎◌, ℕ, zero, suc, Bool, true, false, List, Option, Some, None, Result, Ok, Err}
 use Rattle.tungstenite.specs.Connection.{write_step}
 use Rattle.tungstenite.specs.Content.{Content, text, binary, ping, pong, close}
 use Rattle.tungstenite.specs.Socket.{Socket, Reads, Writes, content_of}
@@ -7,12 +8,14 @@ use Rattle.tungstenite.specs.declared.message.Message.{Message}
 use Rattle.tungstenite.specs.Failure.{WriteFails}
 use Rattle.tungstenite.specs.declared.error.Error.{Error}
 use Rattle.tungstenite.specs.declared.error.Error.TheVariants.{ConnectionClosed}
+use Rattle.tungstenite.specs.Heads.{Serves as IsOfServer}
 use Rattle.shared_room.specs.declared.pass.Pass.{Pass}
 use Rattle.ws_server.specs.declared.conn.Conn.{Conn}
 use Rattle.ws_server.specs.declared.fault.ServeFault.{ServeFault}
 use Rattle.ws_server.specs.declared.fault.ServeFault.TheVariants.{Read, Write, Memory}
 use Rattle.ws_server.specs.declared.hall.Hall.{Hall}
-use Rattle.ws_server.specs.Frames.{AnswersFrame}
+use Rattle.ws_server.specs.Frames.{Side, AnswersFrame}
+use Rattle.ws_server.specs.Gates.{TellsAfter}
 
 -- the bytes of a text or binary message
 abbrev pub data_of : Content → Option (List ℕ)
@@ -28,32 +31,68 @@ FailsToSend mid new answer Read = ⊥
 FailsToSend mid new answer Write = (why : Error) × WriteFails (write_step mid.conn (text answer)) why
 FailsToSend mid new answer Memory = new ≡ mid
 
-module _ {S : Type 0} (remaining contents : S → Option (List ℕ)) (hall : Hall) where
-  -- the bytes were answered, and one send appended the text message of the answer; any other message leaves the passes and the connection as before
-  abbrev pub AnswersMessage : Option (List ℕ) → Socket S → Socket S → Conn → Conn → List Pass → List Pass → Type 0
-  AnswersMessage (Some bytes) mid new conn conn' passes passes' =
-      (answer : List ℕ) × AnswersFrame hall conn.opened passes bytes answer conn'.opened passes' × Writes contents mid new (write_step mid.conn (text answer))
-  AnswersMessage None mid new conn conn' passes passes' = (new ≡ mid) × (conn' ≡ conn) × (passes' ≡ passes)
+-- neither a message nor a frame has more than 131,072 bytes, and a frame is masked
+abbrev pub HasLimits : {S : Type 0} → Socket S → Type 0
+HasLimits socket =
+    (socket.conn.config.max_message_size ≡ Some 131072) × (socket.conn.config.max_frame_size ≡ Some 131072)
+    × (socket.conn.config.accept_unmasked_frames ≡ false)
+
+-- a connection that has opened no room and made no call
+abbrev pub IsNew : Conn → Type 0
+IsNew conn = (conn.opened ≡ None) × (conn.calls ≡ 0)
+
+-- how the last turn ended, where serving ended so
+abbrev pub turn_of : {T : Type 0} → Result T ServeFault → Result Bool ServeFault
+turn_of (Ok done) = Ok false
+turn_of (Err why) = Err why
+
+module _ {S G : Type 0} (remaining contents : S → Option (List ℕ)) (told_before told_after : G → ℕ → G → Type 0) (hall : Hall) where
+  -- the bytes were answered, one send appended the text message of the answer, and the gate was told after it; any other message leaves
+  -- the connection, the passes and the gate as before
+  abbrev pub AnswersMessage : Option (List ℕ) → Socket S → Side G → Socket S → Side G → Type 0
+  AnswersMessage (Some bytes) mid old socket new =
+      (answer : List ℕ) × (made : Option ℕ) × (gate : G) × AnswersFrame told_before hall old bytes answer made (record new { gate = gate })
+      × Writes contents mid socket (write_step mid.conn (text answer)) × TellsAfter told_after made gate new.gate
+  AnswersMessage None mid old socket new = (socket ≡ mid) × (new ≡ old)
 
   -- one read gave a text or binary message, whose bytes were answered, and the answer wasn't sent
-  abbrev pub AnswersUnsent : Socket S → Socket S → Conn → Conn → List Pass → List Pass → ServeFault → Type 0
-  AnswersUnsent old new conn conn' passes passes' why =
-      (message : Message) × (mid : Socket S) × (bytes : List ℕ) × (answer : List ℕ)
-      × Reads remaining old mid (Ok message) × (data_of (content_of message) ≡ Some bytes)
-      × AnswersFrame hall conn.opened passes bytes answer conn'.opened passes' × FailsToSend mid new answer why
+  abbrev pub AnswersUnsent : Socket S → Side G → Socket S → Side G → ServeFault → Type 0
+  AnswersUnsent first old socket new why =
+      (message : Message) × (mid : Socket S) × (bytes : List ℕ) × (answer : List ℕ) × (made : Option ℕ)
+      × Reads remaining first mid (Ok message) × (data_of (content_of message) ≡ Some bytes)
+      × AnswersFrame told_before hall old bytes answer made new × FailsToSend mid socket answer why
 
   -- a read failed, and nothing was answered
-  abbrev pub ReadsNothing : Socket S → Socket S → Conn → Conn → List Pass → List Pass → Type 0
-  ReadsNothing old new conn conn' passes passes' =
-      (why : Error) × Reads remaining old new (Err why) × (conn' ≡ conn) × (passes' ≡ passes)
+  abbrev pub ReadsNothing : Socket S → Side G → Socket S → Side G → Type 0
+  ReadsNothing first old socket new = (why : Error) × Reads remaining first socket (Err why) × (new ≡ old)
 
   -- one read gave a message, which was answered; or it told that the connection is closed. `Read` comes of a read alone, `Write` of
   -- a send alone
-  abbrev pub Serves : Socket S → Socket S → Conn → Conn → List Pass → List Pass → Result Bool ServeFault → Type 0
-  Serves old new conn conn' passes passes' (Ok true) =
-      (message : Message) × (mid : Socket S) × Reads remaining old mid (Ok message) × AnswersMessage (data_of (content_of message)) mid new conn conn' passes passes'
-  Serves old new conn conn' passes passes' (Ok false) = Reads remaining old new (Err ConnectionClosed) × (conn' ≡ conn) × (passes' ≡ passes)
-  Serves old new conn conn' passes passes' (Err Read) = ReadsNothing old new conn conn' passes passes'
-  Serves old new conn conn' passes passes' (Err Write) = AnswersUnsent old new conn conn' passes passes' Write
-  Serves old new conn conn' passes passes' (Err Memory) =
-      ReadsNothing old new conn conn' passes passes' ⊎ AnswersUnsent old new conn conn' passes passes' Memory
+  abbrev pub Serves : Socket S → Side G → Socket S → Side G → Result Bool ServeFault → Type 0
+  Serves first old socket new (Ok true) =
+      (message : Message) × (mid : Socket S) × Reads remaining first mid (Ok message)
+      × AnswersMessage (data_of (content_of message)) mid old socket new
+  Serves first old socket new (Ok false) = Reads remaining first socket (Err ConnectionClosed) × (new ≡ old)
+  Serves first old socket new (Err Read) = ReadsNothing first old socket new
+  Serves first old socket new (Err Write) = AnswersUnsent first old socket new Write
+  Serves first old socket new (Err Memory) = ReadsNothing first old socket new ⊎ AnswersUnsent first old socket new Memory
+
+  -- so many messages were read and answered, one after another
+  abbrev pub ServesMany : ℕ → Socket S → Side G → Socket S → Side G → Type 0
+  ServesMany zero first old socket new = (socket ≡ first) × (new ≡ old)
+  ServesMany (suc n) first old socket new =
+      (mid : Socket S) × (side : Side G) × ServesMany n first old mid side × Serves mid side socket new (Ok true)
+
+  -- some messages were answered, and then the other side had closed, or a turn ended with the fault
+  abbrev pub ServesToEnd : Socket S → Side G → Side G → Result Bool ServeFault → Type 0
+  ServesToEnd first old new end =
+      (n : ℕ) × (mid : Socket S) × (side : Side G) × (last : Socket S) × ServesMany n first old mid side × Serves mid side last new end
+
+  -- there was no handshake, and nothing was answered; or it gave a socket of a server, of which a message may have 131,072 bytes, and a
+  -- connection that had opened no room was served to its end
+  abbrev pub ServesSocket : {T : Type 0} → List Pass → G → List Pass → G → Result T ServeFault → Type 0
+  ServesSocket passes gate passes' gate' result =
+      (((result ≡ Err Read) ⊎ (result ≡ Err Memory)) × (passes' ≡ passes) × (gate' ≡ gate))
+      ⊎ ((first : Socket S) × (conn conn' : Conn) × IsOfServer first × HasLimits first × IsNew conn
+      × ServesToEnd first (record { conn = conn; passes = passes; gate = gate }) (record { conn = conn'; passes = passes'; gate = gate' })
+      (turn_of result))

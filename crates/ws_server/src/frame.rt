@@ -1,5 +1,5 @@
 //! The answer to one message.
-ghost use Rattle.std.specs.Prelude.{◌≡◌, ℕ, ◌<◌, List, IfOk, IfErr, IfSome, MatchResult, None, Ok, length, string_bytes};
+ghost use Rattle.std.specs.Prelude.{◌≡◌, ℕ, ◌<◌, List, Option, IfOk, IfErr, IfSome, MatchResult, None, Ok, length, string_bytes};
 ghost use Rattle.wire_json.specs.Text.{text};
 ghost use Rattle.shared_room.specs.Turns.{Answers, FaultsPass};
 ghost use Rattle.shared_room.specs.Views.{view, opening, IsPassOf};
@@ -7,6 +7,7 @@ ghost use Rattle.ws_server.specs.declared.fault.ServeFault.TheVariants.{Memory};
 ghost use Rattle.ws_server.specs.Answers.{reply_of};
 ghost use Rattle.ws_server.specs.Halls.{rooms_of, IsHallPassOf, IsConnOf};
 ghost use Rattle.ws_server.specs.Frames.{AnswersOver, AnswersFrame, Opens};
+ghost use Rattle.ws_server.specs.Gates.{next_call};
 
 use crate::conn::Conn;
 use crate::fault::ServeFault;
@@ -62,6 +63,13 @@ fn reply_of(done: Result<Reply, DeskFault>) -> Reply
     }
 }
 
+// The number of the call after so many.
+fn next_call(calls: u64) -> u64
+    ensures { result ≡ next_call calls }
+{
+    calls.saturating_add(1)
+}
+
 // The answer over the pass of the opened room. A fault leaves what the message did.
 fn answer_over<R: Wait, G: Gate>(
     rt: &R,
@@ -74,13 +82,16 @@ fn answer_over<R: Wait, G: Gate>(
 ) -> Result<Answered, ServeFault>
     requires { IsPassOf room.now pass.old }
     ensures pass { IsPassOf room.now pass.new }
-    ensures answered { (answer : List ℕ) × AnswersOver room.now pass.old bytes.now answer pass.new × IfOk result (λ made. string_bytes made.text ≡ answer) }
+    ensures answered { (answer : List ℕ) × (made : Option ℕ)
+        × AnswersOver G.told_before room.now (record { desk = pass.old; calls = calls.old; gate = gate.old; made = None }) bytes.now answer
+        (record { desk = pass.new; calls = calls.new; gate = gate.new; made = made })
+        × IfOk result (λ answered. (string_bytes answered.text ≡ answer) × (answered.call ≡ made)) }
     ensures memory { IfErr result (λ why. why ≡ Memory) }
 {
     match read_request(alloc, bytes) {
         Ok(call) => {
-            *calls = calls.saturating_add(1);
-            let n = *calls;
+            let n = next_call(*calls);
+            *calls = n;
             gate.before(n);
             let reply = reply_of(ask(rt, room, pass, call));
             match told(alloc, &reply) {
@@ -140,8 +151,10 @@ pub(crate) fn answer_message<R: Wait, G: Gate>(
     requires conn { IsConnOf hall.now conn.old }
     ensures pass { IsHallPassOf hall.now pass.new }
     ensures conn { IsConnOf hall.now conn.new }
-    ensures answered { (answer : List ℕ) × AnswersFrame hall.now conn.old.opened pass.old.passes.items bytes.now answer conn.new.opened pass.new.passes.items
-        × IfOk result (λ made. string_bytes made.text ≡ answer) }
+    ensures answered { (answer : List ℕ) × (made : Option ℕ)
+        × AnswersFrame G.told_before hall.now (record { conn = conn.old; passes = pass.old.passes.items; gate = gate.old }) bytes.now answer made
+        (record { conn = conn.new; passes = pass.new.passes.items; gate = gate.new })
+        × IfOk result (λ answered. (string_bytes answered.text ≡ answer) × (answered.call ≡ made)) }
     ensures memory { IfErr result (λ why. why ≡ Memory) }
 {
     match conn.opened {
@@ -165,7 +178,8 @@ pub(crate) fn answer_message<R: Wait, G: Gate>(
 ///
 /// Until the connection has opened a room, an `open` (`wire_json::read_open`) is answered, and everything else is
 /// refused: an unknown room by 4. From then on the bytes are a request, as a line is for the line engine, at the opened
-/// room, and a further `open` is one of an unknown kind.
+/// room, and a further `open` is one of an unknown kind. Each call is counted, and the gate is told of its number before the
+/// room is asked; what is told after a call is the sender's.
 ///
 /// The only fault is `Memory`, where the text finds none; what the message did stays. Waits for those who drew a ticket
 /// of the room before.
@@ -182,8 +196,10 @@ pub fn answer_frame<R: Wait, G: Gate>(
     requires conn { IsConnOf hall.now conn.old }
     ensures pass { IsHallPassOf hall.now pass.new }
     ensures conn { IsConnOf hall.now conn.new }
-    ensures answered { (answer : List ℕ) × AnswersFrame hall.now conn.old.opened pass.old.passes.items bytes.now answer conn.new.opened pass.new.passes.items
-        × IfOk result (λ made. string_bytes made ≡ answer) }
+    ensures answered { (answer : List ℕ) × (made : Option ℕ)
+        × AnswersFrame G.told_before hall.now (record { conn = conn.old; passes = pass.old.passes.items; gate = gate.old }) bytes.now answer made
+        (record { conn = conn.new; passes = pass.new.passes.items; gate = gate.new })
+        × IfOk result (λ text. string_bytes text ≡ answer) }
     ensures memory { IfErr result (λ why. why ≡ Memory) }
 {
     let Answered { text, call: _ } = answer_message(rt, alloc, hall, pass, conn, bytes, gate)?;

@@ -11,7 +11,8 @@ use Rattle.ws_server.proofs.frame.open.Goals as goal
 pub returns-in-Err-clause-opened : goal.returns-in-Err-clause-opened
 returns-in-Err-clause-opened c = (
   text (No c.in-Err.why),
-  opens_refused c.args.hall.now c.args.bytes.now c.in-Err.why _ c.args.opened.now c.requires c.in-Err.is c.read_open.ensures.too_long c.in-Err.ensures.asked,
+  opens_refused c.args.hall.now c.args.bytes.now c.in-Err.why _ c.args.opened.now c.requires c.in-Err.is c.read_open.ensures.too_long
+      c.in-Err.ensures.asked,
   c.told.ensures.text,
 )
 
@@ -21,7 +22,8 @@ returns-in-Some-clause-opened c =
     sym (c.in-Some.ensures.place ∙ ap (place_of c.args.hall.now) c.as_str.ensures.value) in
     let P : Option ℕ → Type 0 = λ o. OpensAt o opened_text (Some c.in-Some.at) in (
       opened_text,
-      opens_at c.args.hall.now c.args.bytes.now (string_bytes c.in-Ok.name) opened_text (Some c.in-Some.at) c.in-Ok.ensures.asked (subst P (sym place) (refl, refl)),
+      opens_at c.args.hall.now c.args.bytes.now (string_bytes c.in-Ok.name) opened_text (Some c.in-Some.at) c.in-Ok.ensures.asked
+          (subst P (sym place) (refl, refl)),
       tt,
     )
 
@@ -32,6 +34,7 @@ returns-clause-opened c =
     let answer = text (No Why.NoRoom) in
     let P : Option ℕ → Type 0 = λ o. OpensAt o answer c.args.opened.now in (
       answer,
-      opens_at c.args.hall.now c.args.bytes.now (string_bytes c.in-Ok.name) answer c.args.opened.now c.in-Ok.ensures.asked (subst P (sym place) (refl, c.requires)),
+      opens_at c.args.hall.now c.args.bytes.now (string_bytes c.in-Ok.name) answer c.args.opened.now c.in-Ok.ensures.asked
+          (subst P (sym place) (refl, c.requires)),
       c.told-in-None.ensures.text,
     )
