@@ -1,12 +1,12 @@
 //! Laws of the texts of logs: each is the contract of a function that does nothing, so that it is proved with the crate.
-ghost use Rattle.std.specs.Prelude.{◌≡◌, ℕ, List, option_map, Some, Ok};
-ghost use Rattle.serde_json.specs.Read.{read};
+ghost use Rattle.std.specs.Prelude.{◌≡◌, ◌≤◌, ℕ, List, length};
 ghost use Rattle.opid.specs.Operations.{Operation};
-ghost use Rattle.snapshot.specs.Snapshot.{StandsFor, AreInRange, told_by, log_text};
+ghost use Rattle.opid.specs.Lawful.{IsLawful};
+ghost use Rattle.snapshot.specs.Snapshot.{StandsFor, AreInRange, log_text};
 
-/// The text of a log is JSON that tells just that log.
+/// The text of a log stands for just that log.
 pub fn logs_read_back()
-    ensures { (log : List Operation) → AreInRange log → option_map told_by (read (log_text log)) ≡ Some (Ok log) }
+    ensures { (log : List Operation) → AreInRange log → IsLawful log → length log ≤ 131072 → StandsFor (log_text log) log }
 {}
 
 /// Two different logs have different texts.

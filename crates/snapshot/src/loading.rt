@@ -20,7 +20,7 @@ use wire_json::{check_keys, read_list, read_number, read_op, read_value};
 ///
 /// Refused with `BadSnapshot` exactly where `load_doc` is; else with `SiteUsed` exactly where the log has an operation of the
 /// site, since a number of its would be given twice; and with `Memory` in the place of any answer. Takes the steps of
-/// `load_doc`, and one for each operation.
+/// `load_doc` and those of `Replica::over_doc`.
 pub fn load(alloc: Global, bytes: &[u8], site: Site) -> Result<Replica, Refusal>
     ensures stands { IfOk result (λ r. StandsFor bytes.now r.log) }
     ensures opened { IfOk result (λ r. r ≡ record { site = site; log = r.log; held = []; room = 0 }) }
@@ -38,7 +38,9 @@ pub fn load(alloc: Global, bytes: &[u8], site: Site) -> Result<Replica, Refusal>
 /// The document over the log that the bytes stand for.
 ///
 /// Refused with `BadSnapshot` exactly where they stand for none, and with `Memory` in the place of any answer. Takes a
-/// reading of the bytes as JSON, and the steps of `Doc::integrate` for each operation.
+/// reading of the bytes as JSON, which is in memory as a whole, and the steps of `Doc::integrate` for each operation: a
+/// logarithmic number, and one for each element with a greater stamp that an insertion passes. Only a log in which many
+/// insertions at one place don't know of each other passes many.
 pub fn load_doc(alloc: Global, bytes: &[u8]) -> Result<Doc, Refusal>
     ensures stands { IfOk result (λ doc. StandsFor bytes.now doc.log) }
     ensures unreserved { IfOk result (λ doc. doc.room ≡ 0) }

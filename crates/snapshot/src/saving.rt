@@ -13,7 +13,8 @@ use wire_json::write_op;
 /// The one compact text of a replica's log, without a line feed; what is held back isn't in it. `load_doc` reads it to the
 /// same log.
 ///
-/// Refused with `Memory`. Takes time and memory in proportion to the text.
+/// Refused with `Memory`. Takes time and memory in proportion to the text: it walks the log by `Doc::ops_from`.
+#[tactic(auto, using(replica::proofs::Parts::left_after, replica::proofs::Parts::some_left))]
 pub fn save(alloc: Global, replica: &Replica) -> Result<String, Refusal>
     ensures text { IfOk result (λ s. string_bytes s ≡ log_text replica.now.log) }
     ensures stands { IfOk result (λ s. StandsFor (string_bytes s) replica.now.log) }
@@ -21,8 +22,11 @@ pub fn save(alloc: Global, replica: &Replica) -> Result<String, Refusal>
 {
     let doc = replica.doc();
     let mut text = String::from_str(alloc, "{\"format\":1,\"ops\":[")?;
-    for place in 0..doc.version() {
-        let op = doc.op(place);
+    let mut rest = doc.ops_from(0);
+    'told: for place in 0..doc.version() {
+        let Some(op) = rest.next() else {
+            unreachable!();
+        };
         push_op(alloc, &mut text, &op, place == 0)?;
     }
     text.push_str("]}")?;

@@ -13,10 +13,12 @@ const MISSING_PARENT: &str =
     "{\"format\":1,\"ops\":[{\"c\":[[0,1]],\"k\":\"i\",\"p\":[1,3],\"s\":0,\"x\":\"H\"}]}";
 
 const TWO_IN_ORDER: &str =
-    "{\"format\":1,\"ops\":[{\"c\":[[1,1]],\"k\":\"i\",\"p\":null,\"s\":1,\"x\":\"a\"},{\"c\":[[1,2]],\"k\":\"i\",\"p\":[1,1],\"s\":1,\"x\":\"b\"}]}";
+    "{\"format\":1,\"ops\":[{\"c\":[[1,1]],\"k\":\"i\",\"p\":null,\"s\":1,\"x\":\"a\"},\
+     {\"c\":[[1,2]],\"k\":\"i\",\"p\":[1,1],\"s\":1,\"x\":\"b\"}]}";
 
 const TWO_EXCHANGED: &str =
-    "{\"format\":1,\"ops\":[{\"c\":[[1,2]],\"k\":\"i\",\"p\":[1,1],\"s\":1,\"x\":\"b\"},{\"c\":[[1,1]],\"k\":\"i\",\"p\":null,\"s\":1,\"x\":\"a\"}]}";
+    "{\"format\":1,\"ops\":[{\"c\":[[1,2]],\"k\":\"i\",\"p\":[1,1],\"s\":1,\"x\":\"b\"},\
+     {\"c\":[[1,1]],\"k\":\"i\",\"p\":null,\"s\":1,\"x\":\"a\"}]}";
 
 // Whether the bytes stand for a log of that version, which reads so.
 fn tells(alloc: Global, bytes: &[u8], version: u32, text: &str) -> Result<bool, Fail> {

@@ -1,0 +1,107 @@
+-- The text of a log is UTF-8.
+use Rattle.std.proofs.Common.{◌<◌, ◌^◌, ℕ, Option, Some, None, List, [], ◌∷◌, ◌++◌, map, codes, decimal, refl, arith, IsUtf8}
+use Rattle.std.specs.Prelude.{encode_utf8_all, IsTrue}
+use Rattle.std.specs.Str.{all_scalars}
+use Rattle.std.specs.List.{AllByRecursion}
+use Rattle.std.proofs.lemmas.Fmt.{IsAscii-decimal}
+use Rattle.std.proofs.lemmas.Str.{IsUtf8-append, IsUtf8-nil, IsUtf8-from_ascii}
+use Rattle.json.proofs.Printed.Utf8.{IsUtf8-are_ascii, IsUtf8-quoted}
+use Rattle.opid.specs.declared.stamp.Stamp.{Stamp}
+use Rattle.opid.specs.declared.kind.OpKind.{OpKind}
+use Rattle.opid.specs.declared.kind.OpKind.TheVariants.{Ins, Del}
+use Rattle.opid.specs.Operations.{Operation}
+use Rattle.causal_clock.specs.Kinds.{IsClock}
+use Rattle.wire_json.specs.Text.{IsStampInRange, IsKindInRange, quote, more, listed, pairs_of, pair_text, clock_text, stamp_text, parent_text}
+use Rattle.wire_json.specs.Text.{op_text_of, op_text}
+use Rattle.wire_json.proofs.Pairs.{pairs_small}
+use Rattle.snapshot.specs.Snapshot.{AreInRange, log_text}
+
+number_text : (n : ℕ) → n < 2 ^ 32 → IsUtf8 (decimal n)
+number_text n h = IsUtf8-from_ascii (decimal n) (IsAscii-decimal n (omega arith))
+
+-- a text, and then others, one behind the other
+abbrev behind : List ℕ → List (List ℕ) → List ℕ
+behind t [] = t
+behind t (u ∷ us) = behind (t ++ u) us
+
+all_texts : (t : List ℕ) (us : List (List ℕ)) → IsUtf8 t → AllByRecursion IsUtf8 us → IsUtf8 (behind t us)
+all_texts t [] h k = h
+all_texts t (u ∷ us) h k = all_texts (t ++ u) us (IsUtf8-append t u h k.0) k.1
+
+more_texts : (ts : List (List ℕ)) → AllByRecursion IsUtf8 ts → IsUtf8 (more ts)
+more_texts [] h = IsUtf8-nil
+more_texts (t ∷ ts) h = all_texts (codes ",") (t ∷ more ts ∷ []) (IsUtf8-are_ascii _ refl) (h.0, (more_texts ts h.1, tt))
+
+listed_texts : (ts : List (List ℕ)) → AllByRecursion IsUtf8 ts → IsUtf8 (listed ts)
+listed_texts [] h = IsUtf8-are_ascii (codes "[]") refl
+listed_texts (t ∷ ts) h =
+    all_texts (codes "[") (t ∷ more ts ∷ codes "]" ∷ []) (IsUtf8-are_ascii _ refl) (h.0, (more_texts ts h.1, (IsUtf8-are_ascii _ refl, tt)))
+
+two_numbers : (m n : ℕ) → m < 2 ^ 32 → n < 2 ^ 32 → IsUtf8 (codes "[" ++ decimal m ++ codes "," ++ decimal n ++ codes "]")
+two_numbers m n h k =
+    all_texts (codes "[") (decimal m ∷ codes "," ∷ decimal n ∷ codes "]" ∷ []) (IsUtf8-are_ascii _ refl)
+    (number_text m h, (IsUtf8-are_ascii _ refl, (number_text n k, (IsUtf8-are_ascii _ refl, tt))))
+
+pair_texts : (ps : List (ℕ × ℕ)) → AllByRecursion (λ p. (p.0 < 2 ^ 32) × (p.1 < 2 ^ 32)) ps → AllByRecursion IsUtf8 (map pair_text ps)
+pair_texts [] h = tt
+pair_texts (p ∷ ps) h = (two_numbers p.0 p.1 h.0.0 h.0.1, pair_texts ps h.1)
+
+clock_texts : (clock : List ℕ) → IsClock clock → IsUtf8 (clock_text clock)
+clock_texts clock h = listed_texts (map pair_text (pairs_of clock)) (pair_texts (pairs_of clock) (pairs_small clock h))
+
+stamp_texts : (s : Stamp) → IsStampInRange s → IsUtf8 (stamp_text s)
+stamp_texts s h = two_numbers s.sum s.site h.0 (omega (arith, h.1))
+
+quoted_text : (c : ℕ) → IsTrue (all_scalars (c ∷ [])) → IsUtf8 (quote (c ∷ []))
+quoted_text c h = IsUtf8-quoted (encode_utf8_all (c ∷ [])) (c ∷ [], (h, refl))
+
+insertion_text : (s : ℕ) (clock : List ℕ) (parent : Option Stamp) (c : ℕ) → s < 32 → IsClock clock → IsUtf8 (parent_text parent)
+    → IsTrue (all_scalars (c ∷ [])) → IsUtf8 (op_text_of s clock (Ins parent c))
+insertion_text s clock parent c l k p h =
+    all_texts (codes "{\"c\":")
+    (clock_text clock ∷ codes ",\"k\":\"i\",\"p\":" ∷ parent_text parent ∷ codes ",\"s\":" ∷ decimal s ∷ codes ",\"x\":" ∷ quote (c ∷ []) ∷ codes "}" ∷ [])
+    (IsUtf8-are_ascii _ refl) (
+      clock_texts clock k,
+      (
+        IsUtf8-are_ascii _ refl,
+        (
+          p,
+          (
+            IsUtf8-are_ascii _ refl,
+            (
+              number_text s (omega (arith, l)),
+              (IsUtf8-are_ascii _ refl, (quoted_text c h, (IsUtf8-are_ascii _ refl, tt))),
+            ),
+          ),
+        ),
+      ),
+    )
+
+op_texts : (s : ℕ) (clock : List ℕ) (kind : OpKind) → s < 32 → IsClock clock → IsKindInRange kind → IsUtf8 (op_text_of s clock kind)
+op_texts s clock (Ins None c) l k r = insertion_text s clock None c l k (IsUtf8-are_ascii (codes "null") refl) r
+op_texts s clock (Ins (Some p) c) l k r = insertion_text s clock (Some p) c l k (stamp_texts p r.0) r.1
+op_texts s clock (Del t) l k r =
+    all_texts (codes "{\"c\":")
+    (clock_text clock ∷ codes ",\"k\":\"d\",\"s\":" ∷ decimal s ∷ codes ",\"t\":" ∷ stamp_text t ∷ codes "}" ∷ [])
+    (IsUtf8-are_ascii _ refl) (
+      clock_texts clock k,
+      (
+        IsUtf8-are_ascii _ refl,
+        (
+          number_text s (omega (arith, l)),
+          (IsUtf8-are_ascii _ refl, (stamp_texts t r, (IsUtf8-are_ascii _ refl, tt))),
+        ),
+      ),
+    )
+
+each_text : (log : List Operation) → AreInRange log → AllByRecursion IsUtf8 (map op_text log)
+each_text [] h = tt
+each_text (x ∷ log) h = (
+  op_texts x.site x.clock x.kind h.0.0.site (record { width = h.0.0.width; limit = h.0.0.limit }) h.0.1,
+  each_text log h.1,
+)
+
+pub IsUtf8-log_text : (log : List Operation) → AreInRange log → IsUtf8 (log_text log)
+IsUtf8-log_text log h =
+    all_texts (codes "{\"format\":1,\"ops\":") (listed (map op_text log) ∷ codes "}" ∷ []) (IsUtf8-are_ascii _ refl)
+    (listed_texts (map op_text log) (each_text log h), (IsUtf8-are_ascii _ refl, tt))
