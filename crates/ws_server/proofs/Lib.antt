@@ -10,3 +10,5 @@ pub mod Making
 pub mod Opening
 pub mod Passes
 pub mod Sockets
+pub mod Following
+pub mod Lending

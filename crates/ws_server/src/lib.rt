@@ -21,6 +21,7 @@ mod source;
 mod taking;
 #[cfg(test)]
 mod tests;
+mod through_pass;
 mod window;
 
 pub use carrying::carry;
@@ -39,4 +40,5 @@ pub use sink::Sink;
 pub use socket::{limits, serve_one, serve_socket};
 pub use source::Source;
 pub use taking::{FirstLine, first_line, whole_input};
+pub use through_pass::serve_through_pass;
 pub use window::Window;
