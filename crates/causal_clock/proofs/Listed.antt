@@ -1,5 +1,7 @@
 -- What the pairs of a clock leave when they are put in one after another.
-use Rattle.std.proofs.Common.{◌≡◌, ℕ, zero, suc, ◌+◌, ◌<◌, ◌≤◌, ◌⊎◌, inl, inr, List, [], ◌∷◌, length, set, get_or, refl, ap, ◌∙◌, sym, subst, arith, length-set, get_or-set_other, get_or-set_same, eqb, false, eqb-true, eq-eqb, drop, drop-cons, add-one, sum, ◌↔◌, map}
+use Rattle.std.proofs.Common.{◌≡◌, ℕ, zero, suc, ◌+◌, ◌<◌, ◌≤◌, ◌⊎◌, inl, inr, List, [], ◌∷◌, length, set, get_or, refl, ap, ◌∙◌, sym}
+use Rattle.std.proofs.Common.{subst, arith, length-set, get_or-set_other, get_or-set_same, eqb, false, eqb-true, eq-eqb, drop, drop-cons}
+use Rattle.std.proofs.Common.{add-one, sum, ◌↔◌, map}
 use Rattle.std.specs.List.{AllByRecursion as Each, sum_by}
 use Rattle.std.proofs.lemmas.Bool.{cases_eq, cond-true, cond-false, false_from_ne_true, cases_lt}
 use Rattle.std.proofs.lemmas.List.FromFn.{fill_by_all}
@@ -55,9 +57,15 @@ limited least total [] l g = omega arith
 limited least total (p ∷ ps) l g = omega (arith, limited (p.0 + 1) (total + p.1) ps g.2 g.3, sum_by-cons (λ (q : ℕ × ℕ). q.1) p ps)
 
 pub IsListing-goes_on : (ps : List (ℕ × ℕ)) → GoOn 0 0 ps → IsListing ps
-IsListing-goes_on ps g = record { rising = rising 0 0 ps g; counted = counted 0 0 ps g; limit = omega (arith, limited 0 0 ps (omega arith) g) }
+IsListing-goes_on ps g = record {
+  rising = rising 0 0 ps g;
+  counted = counted 0 0 ps g;
+  limit =
+      omega (arith, limited 0 0 ps (omega arith) g);
+}
 
-goes_on : (least total : ℕ) (ps : List (ℕ × ℕ)) → Each (λ p. least ≤ p.0) ps → AreRising ps → Each (λ p. 0 < p.1) ps → total + sum_by (λ p. p.1) ps ≤ 131072 → GoOn least total ps
+goes_on : (least total : ℕ) (ps : List (ℕ × ℕ)) → Each (λ p. least ≤ p.0) ps → AreRising ps → Each (λ p. 0 < p.1) ps
+    → total + sum_by (λ p. p.1) ps ≤ 131072 → GoOn least total ps
 goes_on least total [] h r c l = tt
 goes_on least total (p ∷ ps) h r c l =
     let more : sum_by (λ q. q.1) (p ∷ ps) ≡ p.1 + sum_by (λ q. q.1) ps = sum_by-cons (λ (q : ℕ × ℕ). q.1) p ps in
@@ -100,7 +108,8 @@ fill-at c (p ∷ ps) least s w i h r z l =
     (omega (arith, q)))
     (cases_eq p.0 s)
   where
-    other : (p.0 < s → get_or (fill (set c p.0 p.1) ps) s 0 ≡ count_in ps s) → (p.0 ≡ s → ⊥) → (s ≤ p.0) ⊎ (p.0 < s) → get_or (fill (set c p.0 p.1) ps) s 0 ≡ count_in ps s
+    other : (p.0 < s → get_or (fill (set c p.0 p.1) ps) s 0 ≡ count_in ps s) → (p.0 ≡ s → ⊥) → (s ≤ p.0) ⊎ (p.0 < s)
+        → get_or (fill (set c p.0 p.1) ps) s 0 ≡ count_in ps s
     other ih d (inl q) =
         fill-below (set c p.0 p.1) ps (p.0 + 1) s (reach p.0 ps r.0) (omega arith)
         ∙ get_or-set_other c p.0 s p.1 0 (λ e. d (sym e))
@@ -108,7 +117,8 @@ fill-at c (p ∷ ps) least s w i h r z l =
         ∙ sym (count_in-below ps (p.0 + 1) s (reach p.0 ps r.0) (omega arith))
     other ih d (inr q) = ih q
 
-    go : (p.0 < s → get_or (fill (set c p.0 p.1) ps) s 0 ≡ count_in ps s) → (p.0 ≡ s) ⊎ (p.0 ≡ s → ⊥) → get_or (fill (set c p.0 p.1) ps) s 0 ≡ count_in (p ∷ ps) s
+    go : (p.0 < s → get_or (fill (set c p.0 p.1) ps) s 0 ≡ count_in ps s) → (p.0 ≡ s) ⊎ (p.0 ≡ s → ⊥)
+        → get_or (fill (set c p.0 p.1) ps) s 0 ≡ count_in (p ∷ ps) s
     go ih (inl e) =
         fill-below (set c p.0 p.1) ps (p.0 + 1) s (reach p.0 ps r.0) (omega (arith, e))
         ∙ ap (λ v. get_or (set c p.0 p.1) v 0) (sym e)
@@ -127,7 +137,8 @@ get_or-clock_of_none k = get_or-map_zero (count_of []) sites k (λ x. refl)
 drop_all : (ps : List (ℕ × ℕ)) (i : ℕ) → length ps ≤ i → drop i ps ≡ []
 drop_all ps i l = drop_of_length-le ps l
 
-pub fill-clock_with : (ps : List (ℕ × ℕ)) (c : List ℕ) → length c ≡ 32 → ((k : ℕ) → get_or c k 0 ≡ 0) → Sited ps → IsListing ps → fill c ps ≡ clock_with ps
+pub fill-clock_with : (ps : List (ℕ × ℕ)) (c : List ℕ) → length c ≡ 32 → ((k : ℕ) → get_or c k 0 ≡ 0) → Sited ps → IsListing ps
+    → fill c ps ≡ clock_with ps
 unfolding sites
 fill-clock_with ps c w z i h =
     fill_by_all (count_in ps) (fill c ps) 32 0 (length-fill c ps ∙ w)
@@ -155,8 +166,10 @@ Goes-start ps = record { filled = refl; goes = ((λ g. g), (λ g. g)); zeros = �
     zero_at : (k : ℕ) → get_or (clock_of []) k 0 ≡ 0
     zero_at k = get_or-clock_of_none k
 
-pub Goes-step : (ps : List (ℕ × ℕ)) (least : ℕ) (c : List ℕ) (i : ℕ) (d : ℕ × ℕ) (new : List ℕ) → Goes ps least c i → i < length ps → d ≡ get_or ps i d
-    → least ≤ d.0 → 0 < d.1 → sum c + d.1 ≤ 131072 → d.0 < 32 → new ≡ set c d.0 d.1 → sum new + get_or c d.0 0 ≡ sum c + d.1 → Goes ps (d.0 + 1) new (i + 1)
+pub Goes-step : (ps : List (ℕ × ℕ)) (least : ℕ) (c : List ℕ) (i : ℕ) (d : ℕ × ℕ) (new : List ℕ) → Goes ps least c i → i < length ps
+    → d ≡ get_or ps i d
+    → least ≤ d.0 → 0 < d.1 → sum c + d.1 ≤ 131072 → d.0 < 32 → new ≡ set c d.0 d.1 → sum new + get_or c d.0 0 ≡ sum c + d.1
+    → Goes ps (d.0 + 1) new (i + 1)
 Goes-step ps least c i d new g l e a b m s n t =
     let here : drop i ps ≡ d ∷ drop (i + 1) ps = drop-here ps i d l e in
     let total : sum new ≡ sum c + d.1 = omega (arith, g.zeros d.0 a) in
@@ -187,5 +200,8 @@ pub Goes-end : (ps : List (ℕ × ℕ)) (least : ℕ) (c : List ℕ) (i : ℕ) �
 unfolding sites
 Goes-end ps least c i g l =
     let none : drop i ps ≡ [] = drop_all ps i l in
-    let listing : IsListing ps = IsListing-goes_on ps (g.goes.0 (subst (λ v. GoOn least (sum c) v) (sym none) tt)) in
-    (listing, ap (fill c) (sym none) ∙ g.filled ∙ fill-clock_with ps (clock_of []) refl (λ k. get_or-clock_of_none k) (Sited-each ps (λ k d m. g.sited k d (omega arith))) listing)
+    let listing : IsListing ps = IsListing-goes_on ps (g.goes.0 (subst (λ v. GoOn least (sum c) v) (sym none) tt)) in (
+      listing,
+      ap (fill c) (sym none) ∙ g.filled ∙ fill-clock_with ps (clock_of []) refl (λ k. get_or-clock_of_none k)
+          (Sited-each ps (λ k d m. g.sited k d (omega arith))) listing,
+    )

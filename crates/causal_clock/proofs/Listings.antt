@@ -18,17 +18,20 @@ pub record IsListing (pairs : List (ℕ × ℕ)) : Type 0 where
   pub counted : AllByRecursion (λ p. 0 < p.1) pairs
   pub limit : sum_by (λ p. p.1) pairs ≤ 131072
 
-all_pass : {A : Type 0} (test : A → Bool) (P : A → Type 0) → ((x : A) → P x → test x ≡ true) → (xs : List A) → AllByRecursion P xs → list_all test xs ≡ true
+all_pass : {A : Type 0} (test : A → Bool) (P : A → Type 0) → ((x : A) → P x → test x ≡ true) → (xs : List A) → AllByRecursion P xs
+    → list_all test xs ≡ true
 all_pass test P pass [] h = refl
 all_pass test P pass (x ∷ xs) h = ap₂ (λ a b. a && b) (pass x h.0) (all_pass test P pass xs h.1)
 
-passes : {A : Type 0} (test : A → Bool) (P : A → Type 0) → ((x : A) → test x ≡ true → P x) → (xs : List A) → list_all test xs ≡ true → AllByRecursion P xs
+passes : {A : Type 0} (test : A → Bool) (P : A → Type 0) → ((x : A) → test x ≡ true → P x) → (xs : List A) → list_all test xs ≡ true
+    → AllByRecursion P xs
 passes test P is [] h = tt
 passes test P is (x ∷ xs) h = let both = and_parts (test x) (list_all test xs) h in (is x both.0, passes test P is xs both.1)
 
 rises_where_rising : (ps : List (ℕ × ℕ)) → AreRising ps → rises ps ≡ true
 rises_where_rising [] h = refl
-rises_where_rising (p ∷ ps) h = ap₂ (λ a b. a && b) (all_pass (λ q. nat_lt p.0 q.0) (λ q. p.0 < q.0) (λ q. lt-ltb p.0 q.0) ps h.0) (rises_where_rising ps h.1)
+rises_where_rising (p ∷ ps) h =
+    ap₂ (λ a b. a && b) (all_pass (λ q. nat_lt p.0 q.0) (λ q. p.0 < q.0) (λ q. lt-ltb p.0 q.0) ps h.0) (rises_where_rising ps h.1)
 
 rising : (ps : List (ℕ × ℕ)) → rises ps ≡ true → AreRising ps
 rising [] h = tt

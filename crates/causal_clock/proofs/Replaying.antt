@@ -1,5 +1,6 @@
 -- A walk through a log: nothing is kept at first, then one operation more.
-use Rattle.std.proofs.Common.{◌≡◌, ℕ, zero, suc, ◌+◌, ◌<◌, ◌⊎◌, inl, inr, List, ◌∷◌, length, drop, replicate, set, get_or, slice_get, Option, Some, None, refl, ap, ◌∙◌, sym, arith, get_or-set_other, get_or-set_same}
+use Rattle.std.proofs.Common.{◌≡◌, ℕ, zero, suc, ◌+◌, ◌<◌, ◌⊎◌, inl, inr, List, ◌∷◌, length, drop, replicate, set, get_or, slice_get}
+use Rattle.std.proofs.Common.{Option, Some, None, refl, ap, ◌∙◌, sym, arith, get_or-set_other, get_or-set_same}
 use Rattle.std.proofs.lemmas.Bool.{cases_eq}
 use Rattle.std.proofs.lemmas.Option.{slice_get-get_or, get_or_from_slice_get}
 use Rattle.std.proofs.lemmas.List.{drop_more}
@@ -27,12 +28,14 @@ some_same : (s t : Seen) → Some s ≡ Some t → s ≡ t
 some_same s t h = cc
 
 -- one clock more is kept
-pub seen_more : (seen : List (Option Seen)) (ops : List Operation) (k : ℕ) (s : Seen) → k < length seen → s.counts ≡ (op_at ops s.place).clock → AreSeen seen ops → AreSeen (set seen k (Some s)) ops
+pub seen_more : (seen : List (Option Seen)) (ops : List Operation) (k : ℕ) (s : Seen) → k < length seen
+    → s.counts ≡ (op_at ops s.place).clock → AreSeen seen ops → AreSeen (set seen k (Some s)) ops
 seen_more seen ops k s l e h i t q = go (cases_eq i k)
   where
     go : (i ≡ k) ⊎ (i ≡ k → ⊥) → t.counts ≡ (op_at ops t.place).clock
     go (inl same) =
-        let there : s ≡ t = some_same s t (sym (get_or-set_same seen k (Some s) None l) ∙ ap (λ j. get_or (set seen k (Some s)) j None) (sym same) ∙ q) in
+        let there : s ≡ t = some_same s t (sym (get_or-set_same seen k (Some s) None l)
+        ∙ ap (λ j. get_or (set seen k (Some s)) j None) (sym same) ∙ q) in
         ap (λ (v : Seen). v.counts) (sym there) ∙ e ∙ ap (λ (v : Seen). (op_at ops v.place).clock) there
     go (inr other) = h i t (sym (get_or-set_other seen k i (Some s) None other) ∙ q)
 
@@ -43,19 +46,22 @@ same_op x y a b c =
     ∙ ap (λ v. let z : Operation = record { site = y.site; clock = y.clock; kind = v } in z) c
 
 -- the operation at the place, from the parts of its row
-pub op_read : (es : List (ℕ × ℕ)) (rows : List Row) (k : ℕ) (r : Row) (x : Operation) → AreRows es rows (logged es rows) → k < length rows → r ≡ get_or rows k r
+pub op_read : (es : List (ℕ × ℕ)) (rows : List Row) (k : ℕ) (r : Row) (x : Operation) → AreRows es rows (logged es rows) → k < length rows
+    → r ≡ get_or rows k r
     → x.site ≡ r.site → x.clock ≡ (op_at (logged es rows) k).clock → x.kind ≡ r.kind → slice_get (logged es rows) k ≡ Some x
 op_read es rows k r x h l e a b c =
     let at : row_at rows k ≡ r = row_read rows k r l e in
     let line = h k l in
     slice_get-get_or (logged es rows) k no_op (omega (arith, l, length-told no_clocks es rows))
-    ∙ ap Some (sym (same_op x (op_at (logged es rows) k) (a ∙ ap (λ (v : Row). v.site) (sym at) ∙ line.site) b (c ∙ ap (λ (v : Row). v.kind) (sym at) ∙ line.kind)))
+    ∙ ap Some (sym (same_op x (op_at (logged es rows) k) (a ∙ ap (λ (v : Row). v.site) (sym at) ∙ line.site) b
+    (c ∙ ap (λ (v : Row). v.kind) (sym at) ∙ line.kind)))
 
 pub length-logged : (es : List (ℕ × ℕ)) (rows : List Row) → length (logged es rows) ≡ length rows
 length-logged es rows = length-told no_clocks es rows
 
 -- what is left from a place on begins with the operation there
-pub left : (es : List (ℕ × ℕ)) (rows : List Row) (k : ℕ) (x : Operation) → k < length rows → slice_get (logged es rows) k ≡ Some x → drop k (logged es rows) ≡ x ∷ drop (k + 1) (logged es rows)
+pub left : (es : List (ℕ × ℕ)) (rows : List Row) (k : ℕ) (x : Operation) → k < length rows → slice_get (logged es rows) k ≡ Some x
+    → drop k (logged es rows) ≡ x ∷ drop (k + 1) (logged es rows)
 left es rows k x l h =
     drop_more (logged es rows) k x (omega (arith, l, length-logged es rows))
     ∙ ap (λ (y : Operation). y ∷ drop (k + 1) (logged es rows)) (get_or_from_slice_get (logged es rows) k x x h)

@@ -1,5 +1,6 @@
 -- A test of every site, site by site.
-use Rattle.std.proofs.Common.{◌≡◌, ℕ, zero, suc, ◌+◌, ◌<◌, Bool, true, false, ◌∙◌, refl, ap, subst, sym, arith, ◌&&◌, ◌||◌, List, eqb, eqb-true}
+use Rattle.std.proofs.Common.{◌≡◌, ℕ, zero, suc, ◌+◌, ◌<◌, Bool, true, false, ◌∙◌, refl, ap, subst, sym, arith, ◌&&◌, ◌||◌, List, eqb}
+use Rattle.std.proofs.Common.{eqb-true}
 use Rattle.std.specs.Prelude.{◌==◌, nat_le}
 use Rattle.std.specs.List.{range_with_len, list_all}
 use Rattle.std.proofs.lemmas.Bool.{false_from_ne_true}
@@ -26,10 +27,14 @@ pub covered : (own o : ℕ) (xs ys a b : List ℕ) → own ≡ o → xs ≡ a �
 unfolding sites
 covered own o xs ys a b e f g h =
     subst (λ v. true ≡ covers_others v a b) e (subst (λ v. true ≡ covers_others own v b) f (subst (λ v. true ≡ covers_others own xs v) g
-    (sym (each_site (λ k. k == own || nat_le (entry xs k) (entry ys k)) 0 32 (λ k l. let e : k ≡ 0 + k = omega arith in subst (λ j. (j == own || nat_le (entry xs j) (entry ys j)) ≡ true) e (h k l))))))
+    (sym (each_site (λ k. k == own || nat_le (entry xs k) (entry ys k)) 0 32
+    (λ k l. let e : k ≡ 0 + k = omega arith in subst (λ j. (j == own || nat_le (entry xs j) (entry ys j)) ≡ true) e (h k l))))))
 
-pub not_covered : (own o : ℕ) (xs ys a b : List ℕ) (k : ℕ) → own ≡ o → xs ≡ a → ys ≡ b → k < 32 → (k ≡ own → ⊥) → entry ys k < entry xs k → false ≡ covers_others o a b
+pub not_covered : (own o : ℕ) (xs ys a b : List ℕ) (k : ℕ) → own ≡ o → xs ≡ a → ys ≡ b → k < 32 → (k ≡ own → ⊥) → entry ys k < entry xs k
+    → false ≡ covers_others o a b
 unfolding sites
 not_covered own o xs ys a b k e f g l d m =
     subst (λ v. false ≡ covers_others v a b) e (subst (λ v. false ≡ covers_others own v b) f (subst (λ v. false ≡ covers_others own xs v) g
-    (sym (list_all-range_false (λ j. j == own || nat_le (entry xs j) (entry ys j)) 0 32 k l (let e : k ≡ 0 + k = omega arith in subst (λ j. (j == own || nat_le (entry xs j) (entry ys j)) ≡ false) e (uncovered k own (entry xs k) (entry ys k) d m))))))
+    (sym (list_all-range_false (λ j. j == own || nat_le (entry xs j) (entry ys j)) 0 32 k l
+    (let e : k ≡ 0 + k = omega arith in subst (λ j. (j == own || nat_le (entry xs j) (entry ys j)) ≡ false) e
+    (uncovered k own (entry xs k) (entry ys k) d m))))))

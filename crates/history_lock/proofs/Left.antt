@@ -49,8 +49,10 @@ module _ {T E : Type 0} (trail : T → List E) (mark : T → ℕ) (begun : ℕ) 
       let longer_ends : IsPrefix r.ends w.ends = subst (λ l. IsPrefix l w.ends) stood.5 (length (trail x) ∷ [], refl) in
       let onward_ends : (xs : List ℕ) → IsPrefix xs r.ends → IsPrefix xs w.ends = λ xs p. prefix_trans xs r.ends w.ends p longer_ends in
       let told : length v.told ≤ length (trail x) = prefix_length v.told (trail x) (onward v.told f.told) in
-      let old_mine : Among v.mine (trail x) = among_prefix v.mine (longer v.seen v.told) (trail x) (onward (longer v.seen v.told) (longer_prefix v.seen v.told r.log f.seen f.told)) f.mine in
-      let all_mine : Among w.mine (trail x) = among_append v.mine (drop (length v.found) (trail x)) (trail x) old_mine (among_drop (length v.found) (trail x)) in
+      let old_mine : Among v.mine (trail x) = among_prefix v.mine (longer v.seen v.told) (trail x)
+      (onward (longer v.seen v.told) (longer_prefix v.seen v.told r.log f.seen f.told)) f.mine in
+      let all_mine : Among w.mine (trail x) =
+      among_append v.mine (drop (length v.found) (trail x)) (trail x) old_mine (among_drop (length v.found) (trail x)) in
       let after : State (Option T) (Sight E) = stepped s 1 ((y + 1) % 2 ^ 64) id me.1 w gives in
       let home_now : after.homes ≡ some (Some x) ∷ [] = ap (put_back s.homes) slot ∙ ap (λ hs. set hs 0 (some (Some x))) r.slot in
       let all_made : (h : E → ℕ) → total (weight_of h) (set s.views id w) ≤ weigh h (trail x) = λ h.
@@ -72,7 +74,8 @@ module _ {T E : Type 0} (trail : T → List E) (mark : T → ℕ) (begun : ℕ) 
         order = omega arith;
         draws = omega arith;
         ends = w.ends;
-        turns = length-append v.ends (length (trail x) ∷ []) ∙ (let a : length v.ends ≡ r.served = ap length stood.5 ∙ r.turns in omega arith);
+        turns = length-append v.ends (length (trail x) ∷ [])
+            ∙ (let a : length v.ends ≡ r.served = ap length stood.5 ∙ r.turns in omega arith);
         last = last_snoc begun v.ends (length (trail x));
         lies = (refl, (let m = marked in omega arith));
         each_pass = each_set s.views id w (Fits {T = T} r.next (r.served + 1) (trail x) w.ends (home x) r.holder)
@@ -87,9 +90,11 @@ module _ {T E : Type 0} (trail : T → List E) (mark : T → ℕ) (begun : ℕ) 
               mine = subst (Among w.mine) (sym (longer_whole (trail x) v.told told)) all_mine;
             }
             (λ j z ne e. let g = r.each_pass j z e in record {
-              stands = stands_on r.next r.next r.served (r.served + 1) r.log (trail x) r.ends w.ends r.place (home x) r.holder r.holder j z (omega arith)
+              stands = stands_on r.next r.next r.served (r.served + 1) r.log (trail x) r.ends w.ends r.place (home x) r.holder r.holder j z
+                  (omega arith)
                   (λ le lt holds. let other : z.drawn ≢ r.served = λ same. ne (sym holds ∙ ap r.holder same ∙ stood.2) in omega arith)
-                  (λ _ _. refl) (λ o. let no : out j ≡ out id = sym o ∙ stood.3 in let no' : j ≡ id = cc no in absurd (ne no')) z.stage g.stands;
+                  (λ _ _. refl) (λ o. let no : out j ≡ out id = sym o ∙ stood.3 in let no' : j ≡ id = cc no in absurd (ne no'))
+                  z.stage g.stands;
               peeked = (let p = g.peeked in omega arith);
               account = onward_ends z.ends g.account;
               told_account = onward_ends z.told_ends g.told_account;
@@ -115,7 +120,12 @@ module _ {T E : Type 0} (trail : T → List E) (mark : T → ℕ) (begun : ℕ) 
                 (λ k. (finished v (trail (same k)), rest (slot k))),
                 subst (λ z. Among (finished v (trail z)).mine (trail z)) same all_mine,
                 left_next v y (trail x') (ap length stood.5 ∙ (r.turns ∙ sym here)),
-                record { opening = refl; account = (length (trail x') ∷ [], refl); seen = subst (λ z. IsPrefix v.seen (trail z)) same (onward v.seen f.seen) },
+                record {
+                  opening = refl;
+                  account = (length (trail x') ∷ [], refl);
+                  seen =
+                      subst (λ z. IsPrefix v.seen (trail z)) same (onward v.seen f.seen);
+                },
                 let P : T → Type 0 = λ z. (h : E → ℕ) → weigh h (finished v (trail z)).mine ≤ weigh h (trail z) in subst P same own_made,
               )),
           refl,

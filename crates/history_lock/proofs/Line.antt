@@ -38,8 +38,10 @@ given_else holder t j u ne = go (ℕ_discrete u t)
     go (no n) = refl
 
 -- what stays of another pass's place in the line
-pub stands_on : {T E : Type 0} (next next' served served' : ℕ) (log log' : List E) (ends ends' : List ℕ) (place place' : Place T) (holder holder' : ℕ → ℕ) (j : ℕ) (v : Sight E)
-    → next ≤ next' → (served ≤ v.drawn → v.drawn < next → holder v.drawn ≡ j → served' ≤ v.drawn) → ((t : ℕ) → t < next → holder' t ≡ holder t)
+pub stands_on : {T E : Type 0} (next next' served served' : ℕ) (log log' : List E) (ends ends' : List ℕ) (place place' : Place T)
+    (holder holder' : ℕ → ℕ) (j : ℕ) (v : Sight E)
+    → next ≤ next' → (served ≤ v.drawn → v.drawn < next → holder v.drawn ≡ j → served' ≤ v.drawn)
+    → ((t : ℕ) → t < next → holder' t ≡ holder t)
     → (place ≡ out j → (served' ≡ served) × (log' ≡ log) × (place' ≡ out j) × (ends' ≡ ends))
     → (st : Stage) → Stands next served log ends place holder j v st → Stands next' served' log' ends' place' holder' j v st
 stands_on next next' served served' log log' ends ends' place place' holder holder' j v more later same outside Idle k = tt
@@ -76,13 +78,17 @@ module _ {E : Type 0} where
   pub held_on : (views : List (Sight E)) (id : ℕ) (v w : Sight E) (t j : ℕ) → get_elem? views id ≡ some v
       → (HasTicket t v v.stage → HasTicket t w w.stage) → Held views t j → Held (set views id w) t j
   held_on views id v w t j at carry h = dite (ℕ_discrete j id)
-      (λ e. let same : h.0 ≡ v = some-injective h.0 v (sym h.1 ∙ ap (λ (i : ℕ). get_elem? views i) e ∙ at) in
-      (w, ap (λ (i : ℕ). get_elem? (set views id w) i) e ∙ set_at views id w v at, carry (subst (λ (u : Sight E). HasTicket t u u.stage) same h.2)))
+      (λ e. let same : h.0 ≡ v = some-injective h.0 v (sym h.1 ∙ ap (λ (i : ℕ). get_elem? views i) e ∙ at) in (
+        w,
+        ap (λ (i : ℕ). get_elem? (set views id w) i) e ∙ set_at views id w v at,
+        carry (subst (λ (u : Sight E). HasTicket t u u.stage) same h.2),
+      ))
       (λ ne. (h.0, set_else views id j w ne ∙ h.1, h.2))
 
   -- what holds of the pass that changed, and of each other pass, holds of each
   pub each_set : (views : List (Sight E)) (id : ℕ) (w : Sight E) (F : ℕ → Sight E → Type 0) → F id w
-      → ((j : ℕ) (u : Sight E) → j ≢ id → get_elem? views j ≡ some u → F j u) → (j : ℕ) (u : Sight E) → get_elem? (set views id w) j ≡ some u → F j u
+      → ((j : ℕ) (u : Sight E) → j ≢ id → get_elem? views j ≡ some u → F j u) → (j : ℕ) (u : Sight E)
+      → get_elem? (set views id w) j ≡ some u → F j u
   each_set views id w F here else j u e = ⊎_elim
       (λ (h : (j ≡ id) × (w ≡ u)). subst (λ (i : ℕ). F i u) (sym h.0) (subst (λ (x : Sight E). F id x) h.1 here))
       (λ (h : (j ≢ id) × (get_elem? views j ≡ some u)). else j u h.0 h.1)

@@ -22,8 +22,12 @@ module _ {T E : Type 0} (trail : T → List E) (mark : T → ℕ) (begun : ℕ) 
       → get_elem? views id ≡ some v → v.stage ≢ Inside
       → (place : Place T) → Lies trail mark served log views place → Lies trail mark served' log (set views id w) place
   lies_on served served' log views id v w le at not (home x) k = let b = k.1 in (k.0, omega arith)
-  lies_on served served' log views id v w le at not (out j) k =
-      (k.0, set_else views id j w (λ e. not (ap (λ (u : Sight E). u.stage) (some-injective v k.0 (sym at ∙ ap (λ (i : ℕ). get_elem? views i) (sym e) ∙ k.1)) ∙ k.2)) ∙ k.1, k.2)
+  lies_on served served' log views id v w le at not (out j) k = (
+    k.0,
+    set_else views id j w (λ e. not (ap (λ (u : Sight E). u.stage)
+        (some-injective v k.0 (sym at ∙ ap (λ (i : ℕ). get_elem? views i) (sym e) ∙ k.1)) ∙ k.2)) ∙ k.1,
+    k.2,
+  )
 
   pub lies_longer : (served : ℕ) (log : List E) (views : List (Sight E)) (w : Sight E) → (place : Place T)
       → Lies trail mark served log views place → Lies trail mark served log (views ++ w ∷ []) place
@@ -31,7 +35,8 @@ module _ {T E : Type 0} (trail : T → List E) (mark : T → ℕ) (begun : ℕ) 
   lies_longer served log views w (out j) k = (k.0, at_longer views (w ∷ []) j k.0 k.1, k.2)
 
   -- a step of a pass that isn't inside, with the value and its trail left as they are
-  pub steps_on : (s : State (Option T) (Sight E)) (r : Lock trail mark begun s) (id : ℕ) (v w : Sight E) (ws : List ℕ) (next : ℕ) (holder : ℕ → ℕ)
+  pub steps_on : (s : State (Option T) (Sight E)) (r : Lock trail mark begun s) (id : ℕ) (v w : Sight E) (ws : List ℕ) (next : ℕ)
+      (holder : ℕ → ℕ)
       → get_elem? s.views id ≡ some v → v.stage ≢ Inside → ws ≡ next ∷ r.served ∷ []
       → r.next ≤ next → next + w.left ≤ r.next + v.left → ((t : ℕ) → t < r.next → holder t ≡ r.holder t)
       → Fits next r.served r.log r.ends r.place holder id w
@@ -59,7 +64,8 @@ module _ {T E : Type 0} (trail : T → List E) (mark : T → ℕ) (begun : ℕ) 
         lies = lies_on r.served r.served r.log s.views id v w (omega arith) at not r.place r.lies;
         each_pass = each_set s.views id w (Fits next r.served r.log r.ends r.place holder) mine
             (λ j u ne e. let g = r.each_pass j u e in record {
-              stands = stands_on r.next next r.served r.served r.log r.log r.ends r.ends r.place r.place r.holder holder j u more (λ le _ _. le) same (λ o. (refl, refl, o, refl)) u.stage g.stands;
+              stands = stands_on r.next next r.served r.served r.log r.log r.ends r.ends r.place r.place r.holder holder j u more
+                  (λ le _ _. le) same (λ o. (refl, refl, o, refl)) u.stage g.stands;
               peeked = g.peeked;
               account = g.account;
               told_account = g.told_account;
@@ -81,7 +87,8 @@ module _ {T E : Type 0} (trail : T → List E) (mark : T → ℕ) (begun : ℕ) 
   -- the pass whose turn it is finds the value at home
   pub at_home : (s : State (Option T) (Sight E)) (r : Lock trail mark begun s) (id : ℕ) (v : Sight E)
       → get_elem? s.views id ≡ some v → v.stage ≢ Inside → (r.served < r.next → r.holder r.served ≡ id)
-      → (p : Place T) → r.place ≡ p → Lies trail mark r.served r.log s.views p → (x : T) × (r.place ≡ home x) × (trail x ≡ r.log) × (mark x ≤ r.served)
+      → (p : Place T) → r.place ≡ p → Lies trail mark r.served r.log s.views p
+      → (x : T) × (r.place ≡ home x) × (trail x ≡ r.log) × (mark x ≤ r.served)
   at_home s r id v at not whose (home x) e k = (x, e, k.0, k.1)
   at_home s r id v at not whose (out j) e k =
       let g = subst (Stands r.next r.served r.log r.ends r.place r.holder j k.0) k.2 (r.each_pass j k.0 k.1).stands in
@@ -90,7 +97,8 @@ module _ {T E : Type 0} (trail : T → List E) (mark : T → ℕ) (begun : ℕ) 
       absurd (not (ap (λ (u : Sight E). u.stage) same ∙ k.2))
 
   -- a pass takes the value
-  pub takes_on : (s : State (Option T) (Sight E)) (r : Lock trail mark begun s) (id : ℕ) (v w : Sight E) (ws : List ℕ) (next : ℕ) (holder : ℕ → ℕ) (x : T)
+  pub takes_on : (s : State (Option T) (Sight E)) (r : Lock trail mark begun s) (id : ℕ) (v w : Sight E) (ws : List ℕ) (next : ℕ)
+      (holder : ℕ → ℕ) (x : T)
       → get_elem? s.views id ≡ some v → r.place ≡ home x → w.stage ≡ Inside → ws ≡ next ∷ r.served ∷ []
       → r.next ≤ next → next + w.left ≤ r.next + v.left → ((t : ℕ) → t < r.next → holder t ≡ r.holder t)
       → Fits {T = T} next r.served r.log r.ends (out id) holder id w
@@ -118,7 +126,8 @@ module _ {T E : Type 0} (trail : T → List E) (mark : T → ℕ) (begun : ℕ) 
         lies = (w, set_at s.views id w v at, in_now);
         each_pass = each_set s.views id w (Fits {T = T} next r.served r.log r.ends (out id) holder) mine
             (λ j u ne e. let g = r.each_pass j u e in record {
-              stands = stands_on r.next next r.served r.served r.log r.log r.ends r.ends r.place (out id) r.holder holder j u more (λ le _ _. le) same
+              stands = stands_on r.next next r.served r.served r.log r.log r.ends r.ends r.place (out id) r.holder holder j u more
+                  (λ le _ _. le) same
                   (λ o. let no : home x ≡ out j = sym lies ∙ o in absurd (cc no)) u.stage g.stands;
               peeked = g.peeked;
               account = g.account;

@@ -55,13 +55,34 @@ module _ {T E : Type 0} (trail : T → List E) (mark : T → ℕ) (begun : ℕ) 
         ends = r.ends;
         turns = r.turns;
         last = r.last;
-        lies = lies_longer trail mark begun r.served r.log views right r.place (lies_kept r.served r.log s.views id v left at refl r.place r.lies);
+        lies = lies_longer trail mark begun r.served r.log views right r.place
+            (lies_kept r.served r.log s.views id v left at refl r.place r.lies);
         each_pass = λ j z e. ⊎_elim
             (λ was. each_set s.views id left (Fits r.next r.served r.log r.ends r.place r.holder)
-            record { stands = stands_same r.next r.served r.log r.ends r.place r.holder id n v v.stage f.stands; peeked = f.peeked; account = f.account; told_account = f.told_account; seen = f.seen; told = f.told; found = f.found; mine = f.mine }
+            record {
+              stands = stands_same r.next r.served r.log r.ends r.place r.holder id n v v.stage f.stands;
+              peeked =
+                  f.peeked;
+              account = f.account;
+              told_account = f.told_account;
+              seen = f.seen;
+              told = f.told;
+              found = f.found;
+              mine = f.mine;
+            }
             (λ i y ne e'. r.each_pass i y e') j z was)
             (λ (is : right ≡ z). subst (Fits r.next r.served r.log r.ends r.place r.holder j) is
-            record { stands = tt; peeked = omega arith; account = f.account; told_account = prefix_nil r.ends; seen = f.seen; told = prefix_nil r.log; found = prefix_nil v.seen; mine = among_nil (longer v.seen []) })
+            record {
+              stands = tt;
+              peeked = omega arith;
+              account = f.account;
+              told_account = prefix_nil r.ends;
+              seen = f.seen;
+              told =
+                  prefix_nil r.log;
+              found = prefix_nil v.seen;
+              mine = among_nil (longer v.seen []);
+            })
             (at_snoc views right z j e);
         each_ticket = λ t le lt.
             let h = held_on s.views id v left t (r.holder t) at (ticket_same t n v v.stage) (r.each_ticket t le lt) in
@@ -80,13 +101,18 @@ module _ {T E : Type 0} (trail : T → List E) (mark : T → ℕ) (begun : ℕ) 
       let sum = total_set left_of s.views id v both at in
       let sum' = total_set left_of views other w spent at' in
       let d = r.draws in let u = r.turns in
-      let lw : left_of both ≡ v.left + w.left = refl in let lv : left_of v ≡ v.left = refl in let lo : left_of w ≡ w.left = refl in let ls : left_of (spent {E = E}) ≡ 0 = refl in
+      let lw : left_of both ≡ v.left + w.left =
+      refl in let lv : left_of v ≡ v.left = refl in let lo : left_of w ≡ w.left = refl in let ls : left_of (spent {E = E}) ≡ 0 = refl in
       let f = r.each_pass id v at in
       let was : get_elem? s.views other ≡ some w = sym (set_else s.views id other both apart) ∙ at' in
       let g = r.each_pass other w was in
       let mine : Among (v.mine ++ w.mine) (longer v.seen w.seen) = among_append v.mine w.mine (longer v.seen w.seen)
-      (among_prefix v.mine (longer v.seen v.told) (longer v.seen w.seen) (subst (λ l. IsPrefix l (longer v.seen w.seen)) (sym (longer_whole v.seen v.told (omega arith))) (longer_first v.seen w.seen r.log f.seen g.seen)) f.mine)
-      (among_prefix w.mine (longer w.seen w.told) (longer v.seen w.seen) (subst (λ l. IsPrefix l (longer v.seen w.seen)) (sym (longer_whole w.seen w.told (omega arith))) (longer_second v.seen w.seen r.log f.seen g.seen)) g.mine) in
+      (among_prefix v.mine (longer v.seen v.told) (longer v.seen w.seen)
+      (subst (λ l. IsPrefix l (longer v.seen w.seen)) (sym (longer_whole v.seen v.told (omega arith)))
+      (longer_first v.seen w.seen r.log f.seen g.seen)) f.mine)
+      (among_prefix w.mine (longer w.seen w.told) (longer v.seen w.seen)
+      (subst (λ l. IsPrefix l (longer v.seen w.seen)) (sym (longer_whole w.seen w.told (omega arith)))
+      (longer_second v.seen w.seen r.log f.seen g.seen)) g.mine) in
       record {
         next = r.next;
         served = r.served;
@@ -100,19 +126,43 @@ module _ {T E : Type 0} (trail : T → List E) (mark : T → ℕ) (begun : ℕ) 
         ends = r.ends;
         turns = r.turns;
         last = r.last;
-        lies = lies_on trail mark begun r.served r.served r.log views other w spent (omega arith) at' (not_inside w.stage Idle idle' idle_not) r.place
-            (lies_on trail mark begun r.served r.served r.log s.views id v both (omega arith) at (not_inside v.stage Idle idle idle_not) r.place r.lies);
+        lies = lies_on trail mark begun r.served r.served r.log views other w spent (omega arith) at'
+            (not_inside w.stage Idle idle' idle_not) r.place
+            (lies_on trail mark begun r.served r.served r.log s.views id v both (omega arith) at
+            (not_inside v.stage Idle idle idle_not) r.place r.lies);
         each_pass = each_set views other spent (Fits r.next r.served r.log r.ends r.place r.holder)
-            record { stands = tt; peeked = omega arith; account = prefix_nil r.ends; told_account = prefix_nil r.ends; seen = prefix_nil r.log; told = prefix_nil r.log; found = prefix_nil []; mine = among_nil (longer [] []) }
+            record {
+              stands = tt;
+              peeked = omega arith;
+              account = prefix_nil r.ends;
+              told_account = prefix_nil r.ends;
+              seen =
+                  prefix_nil r.log;
+              told = prefix_nil r.log;
+              found = prefix_nil [];
+              mine = among_nil (longer [] []);
+            }
             (λ j z ne e. each_set s.views id both (Fits r.next r.served r.log r.ends r.place r.holder)
-            record { stands = subst (Stands r.next r.served r.log r.ends r.place r.holder id both) (sym idle) tt; peeked = f.peeked; account = f.account; told_account = g.account; seen = f.seen; told = g.seen; found = f.found; mine = mine }
+            record {
+              stands = subst (Stands r.next r.served r.log r.ends r.place r.holder id both) (sym idle) tt;
+              peeked =
+                  f.peeked;
+              account = f.account;
+              told_account = g.account;
+              seen = f.seen;
+              told = g.seen;
+              found = f.found;
+              mine = mine;
+            }
             (λ i y ne' e'. r.each_pass i y e') j z e);
         each_ticket = λ t le lt. held_on views other w spent t (r.holder t) at' (λ has. absurd (subst (HasTicket t w) idle' has))
             (held_on s.views id v both t (r.holder t) at (λ has. absurd (subst (HasTicket t v) idle has)) (r.each_ticket t le lt));
         whole = r.whole;
         made = λ h.
-            let c = total_set (weight_of h) s.views id v both at in let k = total_set (weight_of h) views other w spent at' in let m = r.made h in
-            let eb : weight_of h both ≡ weight_of h v + weight_of h w = weigh_append h v.mine w.mine in let es : weight_of h (spent {E = E}) ≡ 0 = refl in omega arith;
+            let c = total_set (weight_of h) s.views id v both at in let k =
+            total_set (weight_of h) views other w spent at' in let m = r.made h in
+            let eb : weight_of h both ≡ weight_of h v + weight_of h w =
+            weigh_append h v.mine w.mine in let es : weight_of h (spent {E = E}) ≡ 0 = refl in omega arith;
       }
 
   pub opens : (x : T) → mark x ≡ 0 → length (trail x) ≡ begun
@@ -133,7 +183,17 @@ module _ {T E : Type 0} (trail : T → List E) (mark : T → ℕ) (begun : ℕ) 
     lies = (refl, omega arith);
     each_pass = λ j v e. ⊎_elim (λ (none_there : get_elem? [] j ≡ some v). absurd (some-ne-none v (sym none_there)))
         (λ (is : opened (2 ^ 62) (trail x) ≡ v). subst (Fits 0 0 (trail x) [] (home x) (λ t. t) j) is
-        record { stands = tt; peeked = omega arith; account = prefix_nil []; told_account = prefix_nil []; seen = prefix_self (trail x); told = prefix_nil (trail x); found = prefix_nil (trail x); mine = among_nil (longer (trail x) []) })
+        record {
+          stands = tt;
+          peeked = omega arith;
+          account = prefix_nil [];
+          told_account = prefix_nil [];
+          seen =
+              prefix_self (trail x);
+          told = prefix_nil (trail x);
+          found = prefix_nil (trail x);
+          mine = among_nil (longer (trail x) []);
+        })
         (at_snoc [] (opened (2 ^ 62) (trail x)) v j e);
     each_ticket = λ t le lt. absurd (omega arith);
     whole = (x, refl);

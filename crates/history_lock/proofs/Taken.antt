@@ -30,7 +30,8 @@ ends_last n (x ∷ xs) h = refl
 -- its own entries are in the trail that it finds
 mine_found : {E : Type 0} (v : Sight E) (log found : List E) → found ≡ log → IsPrefix v.seen log → IsPrefix v.told log
     → Among v.mine (longer v.seen v.told) → Among v.mine found
-mine_found v log found is seen told mine = among_prefix v.mine (longer v.seen v.told) found (subst (IsPrefix (longer v.seen v.told)) (sym is) (longer_prefix v.seen v.told log seen told)) mine
+mine_found v log found is seen told mine = among_prefix v.mine (longer v.seen v.told) found
+    (subst (IsPrefix (longer v.seen v.told)) (sym is) (longer_prefix v.seen v.told log seen told)) mine
 
 -- no list that begins the whole is longer
 still_whole : {E : Type 0} (ms told whole log : List E) → whole ≡ log → IsPrefix told log → Among ms whole → Among ms (longer whole told)
@@ -57,7 +58,8 @@ module _ {T E : Type 0} (trail : T → List E) (mark : T → ℕ) (begun : ℕ) 
         w,
         takes 0 (Some h.0),
         ap (λ hs. get_elem? hs 0) value,
-        takes_on trail mark begun s r id v w (set s.words 1 x) r.next r.holder h.0 at h.1 refl words (omega arith) (omega arith) (λ _ _. refl)
+        takes_on trail mark begun s r id v w (set s.words 1 x) r.next r.holder h.0 at h.1 refl words (omega arith) (omega arith)
+            (λ _ _. refl)
             record {
               stands = (turn, later, ap r.holder (sym turn) ∙ stood.2, refl, h.2, refl);
               peeked = f.peeked;
@@ -73,7 +75,24 @@ module _ {T E : Type 0} (trail : T → List E) (mark : T → ℕ) (begun : ℕ) 
             refl,
         (
           (λ no. absurd (no mine)),
-          λ _. (h.0, refl, record { seen = subst (IsPrefix v.seen) (sym h.2) f.seen; mine = all_mine; marked = (let b = h.3 in omega arith); account = f.account; turns = r.turns ∙ sym here; last = λ some_turn. (let u = r.turns in ends_last begun r.ends (omega arith)) ∙ (r.last ∙ ap length (sym h.2)); left = found_left v begun x r.ends r.log (trail h.0) opened (r.turns ∙ sym here) r.last h.2; grows = record { opening = refl; account = f.account; seen = subst (IsPrefix v.seen) (sym h.2) f.seen } }),
+          λ _. (
+            h.0,
+            refl,
+            record {
+              seen = subst (IsPrefix v.seen) (sym h.2) f.seen;
+              mine = all_mine;
+              marked =
+                  (let b = h.3 in omega arith);
+              account = f.account;
+              turns = r.turns ∙ sym here;
+              last =
+                  λ some_turn. (let u = r.turns in ends_last begun r.ends (omega arith)) ∙ (r.last ∙ ap length (sym h.2));
+              left =
+                  found_left v begun x r.ends r.log (trail h.0) opened (r.turns ∙ sym here) r.last h.2;
+              grows =
+                  record { opening = refl; account = f.account; seen = subst (IsPrefix v.seen) (sym h.2) f.seen };
+            },
+          ),
           refl,
         ),
       ))
@@ -81,12 +100,14 @@ module _ {T E : Type 0} (trail : T → List E) (mark : T → ℕ) (begun : ℕ) 
         v,
         keeps,
         tt,
-        steps_on trail mark begun s r id v v (set s.words 1 x) r.next r.holder at not words (omega arith) (omega arith) (λ _ _. refl) f (λ t _ has. has) (λ t le lt. absurd (omega arith)) refl,
+        steps_on trail mark begun s r id v v (set s.words 1 x) r.next r.holder at not words (omega arith) (omega arith) (λ _ _. refl) f
+            (λ t _ has. has) (λ t le lt. absurd (omega arith)) refl,
         ((λ _. refl), (λ e. absurd (other e)), refl),
       ))
 
   abbrev Goes : State (Option T) (Sight E) → ℕ → ℕ → Me (Option T) (Sight E) → (ℕ → Me (Option T) (Sight E) → Type 0) → ℕ → Type 0
-  Goes s i id me then y = (w : Sight E) × (a : Act (Option T)) × Valid s.homes me.1 a × Lock trail mark begun (stepped s i y id me.1 w a) × then (get_or s.words i 0) (w, carried_after me.1 a)
+  Goes s i id me then y = (w : Sight E) × (a : Act (Option T)) × Valid s.homes me.1 a × Lock trail mark begun (stepped s i y id me.1 w a)
+      × then (get_or s.words i 0) (w, carried_after me.1 a)
 
   pub tries_kept : (n id : ℕ) (me : Me (Option T) (Sight E)) (old new : ℕ) → me.0.stage ≡ Peeked → me.0.opening ≡ begun
       → 0 < me.0.left → old ≡ me.0.peeked → new ≡ old + 1
@@ -124,7 +145,24 @@ module _ {T E : Type 0} (trail : T → List E) (mark : T → ℕ) (begun : ℕ) 
             (λ t le lt. let e : t ≡ r.next = omega arith in (ap holder e ∙ given_here r.holder r.next id, here ∙ sym e))
             refl,
         (
-          (λ _. (h.0, refl, record { seen = subst (IsPrefix v.seen) (sym h.2) f.seen; mine = all_mine; marked = (let b = h.3 in omega arith); account = f.account; turns = r.turns ∙ (turn ∙ sym here); last = λ some_turn. (let u = r.turns in ends_last begun r.ends (omega arith)) ∙ (r.last ∙ ap length (sym h.2)); left = found_left (drew v x) begun x r.ends r.log (trail h.0) opened (r.turns ∙ (turn ∙ sym here)) r.last h.2; grows = record { opening = refl; account = f.account; seen = subst (IsPrefix v.seen) (sym h.2) f.seen } })),
+          (λ _. (
+            h.0,
+            refl,
+            record {
+              seen = subst (IsPrefix v.seen) (sym h.2) f.seen;
+              mine = all_mine;
+              marked =
+                  (let b = h.3 in omega arith);
+              account = f.account;
+              turns = r.turns ∙ (turn ∙ sym here);
+              last =
+                  λ some_turn. (let u = r.turns in ends_last begun r.ends (omega arith)) ∙ (r.last ∙ ap length (sym h.2));
+              left =
+                  found_left (drew v x) begun x r.ends r.log (trail h.0) opened (r.turns ∙ (turn ∙ sym here)) r.last h.2;
+              grows =
+                  record { opening = refl; account = f.account; seen = subst (IsPrefix v.seen) (sym h.2) f.seen };
+            },
+          )),
           (λ no. absurd (no hit)),
           refl,
           is,
@@ -136,9 +174,20 @@ module _ {T E : Type 0} (trail : T → List E) (mark : T → ℕ) (begun : ℕ) 
         w,
         keeps,
         tt,
-        steps_on trail mark begun s r id v w (set s.words 0 x) r.next r.holder at not (ap (λ ws. set ws 0 x) r.words ∙ ap (λ k. k ∷ r.served ∷ []) here)
+        steps_on trail mark begun s r id v w (set s.words 0 x) r.next r.holder at not
+            (ap (λ ws. set ws 0 x) r.words ∙ ap (λ k. k ∷ r.served ∷ []) here)
             (omega arith) (omega arith) (λ _ _. refl)
-            record { stands = tt; peeked = f.peeked; account = f.account; told_account = f.told_account; seen = f.seen; told = f.told; found = f.found; mine = f.mine }
+            record {
+              stands = tt;
+              peeked = f.peeked;
+              account = f.account;
+              told_account = f.told_account;
+              seen = f.seen;
+              told =
+                  f.told;
+              found = f.found;
+              mine = f.mine;
+            }
             (λ t _ has. absurd (subst (HasTicket t v) looked has)) (λ t le lt. absurd (omega arith)) refl,
         ((λ hit. absurd (miss hit)), (λ _. refl), refl, is, step_up),
       ))

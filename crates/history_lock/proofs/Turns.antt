@@ -34,14 +34,16 @@ module _ {E : Type 0} where
       → last_or begun ends ≡ length log → found ≡ log
       → LeftFor (took v ends found) n found
   found_left v begun n ends log found is turns last same = record {
-    long = ap (λ k. slice_get (v.opening ∷ ends) k) (sym turns) ∙ (start_last v.opening ends ∙ ap Some (ap (λ k. last_or k ends) is ∙ (last ∙ ap length (sym same))));
+    long = ap (λ k. slice_get (v.opening ∷ ends) k) (sym turns)
+        ∙ (start_last v.opening ends ∙ ap Some (ap (λ k. last_or k ends) is ∙ (last ∙ ap length (sym same))));
     begins = prefix_self found;
   }
 
   -- what a pass leaves is left for the turn after its own
   pub left_next : (v : Sight E) (n : ℕ) (trail : List E) → length v.ends ≡ n → LeftFor (finished v trail) (n + 1) trail
   left_next v n trail turns = record {
-    long = ap (λ k. slice_get (v.opening ∷ (v.ends ++ length trail ∷ [])) k) (add-one n ∙ ap suc (sym turns)) ∙ get_snoc v.ends (length trail);
+    long = ap (λ k. slice_get (v.opening ∷ (v.ends ++ length trail ∷ [])) k) (add-one n ∙ ap suc (sym turns))
+        ∙ get_snoc v.ends (length trail);
     begins = prefix_self trail;
   }
 
@@ -58,7 +60,8 @@ module _ {E : Type 0} where
   -- what is known stays known
   pub left_stays : (v w : Sight E) (n : ℕ) (trail : List E) → Grows v w → LeftFor v n trail → LeftFor w n trail
   left_stays v w n trail g left = record {
-    long = prefix_get (starts_of v) (starts_of w) n (length trail) (g.account.0, ap (λ l. v.opening ∷ l) g.account.1 ∙ ap (λ k. k ∷ w.ends) (sym g.opening)) left.long;
+    long = prefix_get (starts_of v) (starts_of w) n (length trail)
+        (g.account.0, ap (λ l. v.opening ∷ l) g.account.1 ∙ ap (λ k. k ∷ w.ends) (sym g.opening)) left.long;
     begins = prefix_trans trail v.seen w.seen left.begins g.seen;
   }
 
@@ -110,7 +113,8 @@ get_below [] n k e = absurd cc
 get_below (x ∷ xs) zero k e = omega arith
 get_below (x ∷ xs) (suc n) k e = let h = get_below xs n k e in omega arith
 
--- who closes a lock with all draws but those of finished turns, and knows what was left for the turn after these, gets a value with that trail
+-- who closes a lock with all draws but those of finished turns, and knows what was left for the turn after these, gets a value with that
+-- trail
 pub closes_exact : {T E : Type 0} (trail : T → List E) (mark : T → ℕ) (v w : Sight E) (m n : ℕ) (t : List E) (x : T)
     → Finds trail mark v w m x → m + v.left ≤ 2 ^ 62 → n + v.left ≡ 2 ^ 62 → LeftFor v n t → trail x ≡ t
 closes_exact trail mark v w m n t x f below all left =
@@ -127,7 +131,8 @@ module _ {E : Type 0} where
   took_turn d e w n t drew is turns left is' next grows =
       let drawn : w.drawn ≡ n = ap (λ u. u.drawn) is' ∙ (ap (λ u. u.drawn) is ∙ drew) in
       let found : w.found ≡ t = ap (λ u. u.found) is' ∙ ap (λ u. u.found) is in
-      let P : ℕ → Type 0 = λ k. LeftFor w k w.found in let Q : List E → Type 0 = λ l. LeftFor w n l in let R : List E → Type 0 = λ l. LeftFor w (n + 1) l in
+      let P : ℕ → Type 0 = λ k. LeftFor w k w.found in let Q : List E → Type 0 =
+      λ l. LeftFor w n l in let R : List E → Type 0 = λ l. LeftFor w (n + 1) l in
       record {
         turn = subst P (sym drawn) (subst Q (sym found) (left_stays e w n t grows left));
         next = subst P (ap (λ k. k + 1) (sym drawn)) (subst R (sym found) next);
@@ -141,7 +146,13 @@ module _ {E : Type 0} where
   take_turns a b a1 a2 a' b0 b1 b' is is' g h first g' k k' second g'' later =
       let P : Sight E → Type 0 = λ u. TookTurns a b u b' in
       let le = prefix_length a2.ends b1.ends k'.account in let l = first.last in
-      subst P (sym is') record { first = first; second = second; order = omega arith; grows = (grows_trans a a1 a2 g g', grows_trans b a1 a2 h g', grows_trans a2 b1 b' k' g'') }
+      subst P (sym is') record {
+        first = first;
+        second = second;
+        order = omega arith;
+        grows =
+            (grows_trans a a1 a2 g g', grows_trans b a1 a2 h g', grows_trans a2 b1 b' k' g'');
+      }
 
   -- turn 0 finds the opening
   pub first_finds_opening : (w : Sight E) (n : ℕ) (found opening : List E) → LeftFor w n found → n ≡ 0 → LeftFor w 0 opening

@@ -5,7 +5,8 @@ use Rattle.opid.specs.Operations.{Operation}
 use Rattle.holdback.specs.Ready.{first_ready, without_first_ready}
 use Rattle.holdback.specs.First.{NoneReady, IsFirstReady}
 
-pub first_ready-Some : (clock : List ℕ) (held : List Operation) (x : Operation) → first_ready clock held ≡ Some x → IsFirstReady clock held x (without_first_ready clock held)
+pub first_ready-Some : (clock : List ℕ) (held : List Operation) (x : Operation) → first_ready clock held ≡ Some x
+    → IsFirstReady clock held x (without_first_ready clock held)
 first_ready-Some clock [] x h = cc
 first_ready-Some clock (y ∷ held) x h = go (is_next y.site y.clock clock) refl h (first_ready-Some clock held x)
   where
@@ -19,7 +20,8 @@ first_ready-Some clock (y ∷ held) x h = go (is_next y.site y.clock clock) refl
       others_are = refl;
     }
 
-    further : is_next y.site y.clock clock ≡ false → IsFirstReady clock held x (without_first_ready clock held) → IsFirstReady clock (y ∷ held) x (y ∷ without_first_ready clock held)
+    further : is_next y.site y.clock clock ≡ false → IsFirstReady clock held x (without_first_ready clock held)
+        → IsFirstReady clock (y ∷ held) x (y ∷ without_first_ready clock held)
     further e f = record {
       before = y ∷ f.before;
       after = f.after;
@@ -39,6 +41,7 @@ pub first_ready-None : (clock : List ℕ) (held : List Operation) → first_read
 first_ready-None clock [] h = tt
 first_ready-None clock (y ∷ held) h = go (is_next y.site y.clock clock) refl h (first_ready-None clock held)
   where
-    go : (t : Bool) → is_next y.site y.clock clock ≡ t → cond t (Some y) (first_ready clock held) ≡ None → (first_ready clock held ≡ None → NoneReady clock held) → NoneReady clock (y ∷ held)
+    go : (t : Bool) → is_next y.site y.clock clock ≡ t → cond t (Some y) (first_ready clock held) ≡ None
+        → (first_ready clock held ≡ None → NoneReady clock held) → NoneReady clock (y ∷ held)
     go true e s ih = cc
     go false e s ih = (e, ih s)

@@ -35,10 +35,13 @@ kind_itself (Del s) = is_same-refl s
 
 pub same-equal : (x y : Operation) → is_same_operation x y ≡ true → x ≡ y
 same-equal x y h =
-    let most : ((eqb x.site y.site && is_same_clock x.clock y.clock) ≡ true) × (is_same_kind x.kind y.kind ≡ true) = and_parts _ (is_same_kind x.kind y.kind) h in
-    let parts : (eqb x.site y.site ≡ true) × (is_same_clock x.clock y.clock ≡ true) = and_parts (eqb x.site y.site) (is_same_clock x.clock y.clock) most.0 in
+    let most : ((eqb x.site y.site && is_same_clock x.clock y.clock) ≡ true) × (is_same_kind x.kind y.kind ≡ true) =
+    and_parts _ (is_same_kind x.kind y.kind) h in
+    let parts : (eqb x.site y.site ≡ true) × (is_same_clock x.clock y.clock ≡ true) =
+    and_parts (eqb x.site y.site) (is_same_clock x.clock y.clock) most.0 in
     let with_kind : OpKind → Operation = λ k. record { site = y.site; clock = y.clock; kind = k } in
-    ap₂ (λ (s : ℕ) (c : List ℕ). let o : Operation = record { site = s; clock = c; kind = x.kind } in o) (eqb-true x.site y.site parts.0) (clocks x.clock y.clock parts.1)
+    ap₂ (λ (s : ℕ) (c : List ℕ). let o : Operation = record { site = s; clock = c; kind = x.kind } in o) (eqb-true x.site y.site parts.0)
+    (clocks x.clock y.clock parts.1)
     ∙ ap with_kind (kinds x.kind y.kind most.1)
 
 itself : (x : Operation) → is_same_operation x x ≡ true

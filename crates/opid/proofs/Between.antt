@@ -28,11 +28,13 @@ stand-between x (y ∷ ys) = go (is_before x.stamp y.stamp) (stand-between x ys)
     go true ih = Between-cons x y ys (stand x ys) ih
     go false ih = ([], y ∷ ys, refl, refl)
 
-stand_after-between : (p : Stamp) (x : Insertion) (xs : List Insertion) → list_any (λ y. is_same p y.stamp) xs ≡ true → Between x xs (stand_after p x xs)
+stand_after-between : (p : Stamp) (x : Insertion) (xs : List Insertion) → list_any (λ y. is_same p y.stamp) xs ≡ true
+    → Between x xs (stand_after p x xs)
 stand_after-between p x [] h = cc
 stand_after-between p x (y ∷ ys) h = go (is_same p y.stamp) refl (stand_after-between p x ys)
   where
-    go : (t : Bool) → is_same p y.stamp ≡ t → (list_any (λ z. is_same p z.stamp) ys ≡ true → Between x ys (stand_after p x ys)) → Between x (y ∷ ys) (cond t (y ∷ stand x ys) (y ∷ stand_after p x ys))
+    go : (t : Bool) → is_same p y.stamp ≡ t → (list_any (λ z. is_same p z.stamp) ys ≡ true → Between x ys (stand_after p x ys))
+        → Between x (y ∷ ys) (cond t (y ∷ stand x ys) (y ∷ stand_after p x ys))
     go true e ih = Between-cons x y ys (stand x ys) (stand-between x ys)
     go false e ih = Between-cons x y ys (stand_after p x ys) (ih (subst (λ b. (b || list_any (λ z. is_same p z.stamp) ys) ≡ true) e h))
 
@@ -55,6 +57,12 @@ Between-permutation x xs new (f, b, p, q) =
     (subst (λ r. IsPermutation (x ∷ (f ++ b)) r) (sym q) (IsPermutation-sym (f ++ x ∷ b) (x ∷ (f ++ b)) (IsPermutation-middle f x b)))
 
 -- a filter that keeps x
-pub Between-filter : (t : Insertion → Bool) (x : Insertion) (xs new : List Insertion) → t x ≡ true → Between x xs new → Between x (filter t xs) (filter t new)
-Between-filter t x xs new k (f, b, p, q) =
-    (filter t f, filter t b, ap (filter t) p ∙ filter-append t f b, ap (filter t) q ∙ filter-append t f (x ∷ b) ∙ ap (λ r. filter t f ++ r) (cond-true _ _ _ k))
+pub Between-filter : (t : Insertion → Bool) (x : Insertion) (xs new : List Insertion) → t x ≡ true → Between x xs new
+    → Between x (filter t xs) (filter t new)
+Between-filter t x xs new k (f, b, p, q) = (
+  filter t f,
+  filter t b,
+  ap (filter t) p ∙ filter-append t f b,
+  ap (filter t) q ∙ filter-append t f (x ∷ b)
+      ∙ ap (λ r. filter t f ++ r) (cond-true _ _ _ k),
+)

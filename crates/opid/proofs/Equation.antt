@@ -1,5 +1,6 @@
 -- The order is the one that the tree's equation states.
-use Rattle.std.proofs.Common.{None, ◌≡◌, Bool, true, false, cond, Option, Some, List, [], ◌∷◌, ◌++◌, reverse, refl, ap, ◌∙◌, sym, subst, append_assoc}
+use Rattle.std.proofs.Common.{None, ◌≡◌, Bool, true, false, cond, Option, Some, List, [], ◌∷◌, ◌++◌, reverse, refl, ap, ◌∙◌, sym, subst}
+use Rattle.std.proofs.Common.{append_assoc}
 use mathlib.Core.Path.{ap₂}
 use Rattle.std.specs.Prelude.{filter}
 use Rattle.std.proofs.lemmas.Bool.{cond-false, both_ways}
@@ -12,7 +13,8 @@ use Rattle.opid.specs.Operations.{Operation, insertions, Insertion}
 use Rattle.opid.specs.Tree.{IsPreorder, rising, all, is_child_of, preorder}
 use Rattle.opid.specs.Lawful.{IsSound}
 use Rattle.opid.proofs.Sound.{IsTree-sound}
-use Rattle.opid.proofs.Walk.{Above, IsRising, IsOlder, ParentsOlder, IsOlder-not_same, IsOlder-trans, Each-append, Each-filter, Each-weaker, append-nil}
+use Rattle.opid.proofs.Walk.{Above, IsRising, IsOlder, ParentsOlder, IsOlder-not_same, IsOlder-trans, Each-append, Each-filter, Each-weaker}
+use Rattle.opid.proofs.Walk.{append-nil}
 
 -- the same at a list
 abbrev pub children_of : List Insertion → Option Stamp → List Insertion
@@ -34,7 +36,8 @@ flat_map-agree f g [] h = refl
 flat_map-agree f g (x ∷ xs) h = ap₂ (λ a b. a ++ b) h.0 (flat_map-agree f g xs h.1)
 
 -- the smallest changes nothing below a greater element, or below itself
-preorder-smallest : (x : Insertion) (xs : List Insertion) (s : Stamp) → is_same_parent x.parent (Some s) ≡ false → preorder (x ∷ xs) (Some s) ≡ preorder xs (Some s)
+preorder-smallest : (x : Insertion) (xs : List Insertion) (s : Stamp) → is_same_parent x.parent (Some s) ≡ false
+    → preorder (x ∷ xs) (Some s) ≡ preorder xs (Some s)
 preorder-smallest x xs s h = ap (λ r. preorder xs (Some s) ++ r) (cond-false _ _ _ h) ∙ append-nil (preorder xs (Some s))
 
 pub preorder-equation : (xs : List Insertion) → IsRising xs → ParentsOlder xs → Preorders xs (preorder xs)
@@ -47,18 +50,24 @@ preorder-equation (x ∷ xs) r o p =
     step : Insertion → List Insertion
     step = λ c. c ∷ preorder (x ∷ xs) (Some c.stamp)
 
-    inner : flat_map (λ c. c ∷ preorder (x ∷ xs) (Some c.stamp)) (children_of xs p) ≡ flat_map (λ c. c ∷ preorder xs (Some c.stamp)) (children_of xs p)
+    inner : flat_map (λ c. c ∷ preorder (x ∷ xs) (Some c.stamp)) (children_of xs p)
+        ≡ flat_map (λ c. c ∷ preorder xs (Some c.stamp)) (children_of xs p)
     inner = flat_map-agree _ _ (children_of xs p)
         (Each-reverse (λ c. (c ∷ preorder (x ∷ xs) (Some c.stamp)) ≡ (c ∷ preorder xs (Some c.stamp))) (filter (is_child_of p) xs)
         (Each-filter (λ c. (c ∷ preorder (x ∷ xs) (Some c.stamp)) ≡ (c ∷ preorder xs (Some c.stamp))) (is_child_of p) xs
-        (Each-weaker (λ y. is_before x.stamp y.stamp ≡ true) (λ c. (c ∷ preorder (x ∷ xs) (Some c.stamp)) ≡ (c ∷ preorder xs (Some c.stamp)))
-        (λ y l. ap (λ t. y ∷ t) (preorder-smallest x xs y.stamp (IsOlder-not_same x.parent y.stamp (IsOlder-trans x.parent x.stamp y.stamp o.0 l)))) xs r.0)))
+        (Each-weaker (λ y. is_before x.stamp y.stamp ≡ true)
+        (λ c. (c ∷ preorder (x ∷ xs) (Some c.stamp)) ≡ (c ∷ preorder xs (Some c.stamp)))
+        (λ y l. ap (λ t. y ∷ t) (preorder-smallest x xs y.stamp
+        (IsOlder-not_same x.parent y.stamp (IsOlder-trans x.parent x.stamp y.stamp o.0 l)))) xs r.0)))
 
-    own : (t : Bool) → cond t (x ∷ preorder xs (Some x.stamp)) [] ≡ flat_map (λ c. c ∷ preorder (x ∷ xs) (Some c.stamp)) (cond t (x ∷ []) [])
-    own true = ap (λ t. x ∷ t) (sym (preorder-smallest x xs x.stamp (IsOlder-not_same x.parent x.stamp o.0))) ∙ sym (append-nil (x ∷ preorder (x ∷ xs) (Some x.stamp)))
+    own : (t : Bool) → cond t (x ∷ preorder xs (Some x.stamp)) []
+        ≡ flat_map (λ c. c ∷ preorder (x ∷ xs) (Some c.stamp)) (cond t (x ∷ []) [])
+    own true = ap (λ t. x ∷ t) (sym (preorder-smallest x xs x.stamp (IsOlder-not_same x.parent x.stamp o.0)))
+        ∙ sym (append-nil (x ∷ preorder (x ∷ xs) (Some x.stamp)))
     own false = refl
 
-    split : (t : Bool) → reverse (cond t (x ∷ filter (is_child_of p) xs) (filter (is_child_of p) xs)) ≡ reverse (filter (is_child_of p) xs) ++ cond t (x ∷ []) []
+    split : (t : Bool) → reverse (cond t (x ∷ filter (is_child_of p) xs) (filter (is_child_of p) xs))
+        ≡ reverse (filter (is_child_of p) xs) ++ cond t (x ∷ []) []
     split true = reverse-push x (filter (is_child_of p) xs)
     split false = sym (append-nil (reverse (filter (is_child_of p) xs)))
 
@@ -78,36 +87,48 @@ below_agree xs f g p i j h =
     ∙ flat_map-agree (λ c. c ∷ f (Some c.stamp)) (λ c. c ∷ g (Some c.stamp)) (children_of xs p)
     (Each-reverse (λ c. (c ∷ f (Some c.stamp)) ≡ (c ∷ g (Some c.stamp))) (filter (is_child_of p) xs)
     (Each-where (λ c. (c ∷ f (Some c.stamp)) ≡ (c ∷ g (Some c.stamp))) (is_child_of p) xs
-    (Each-weaker (λ c. is_child_of p c ≡ true → f (Some c.stamp) ≡ g (Some c.stamp)) (λ c. is_child_of p c ≡ true → (c ∷ f (Some c.stamp)) ≡ (c ∷ g (Some c.stamp))) (λ c k e. ap (λ r. c ∷ r) (k e)) xs h)))
+    (Each-weaker (λ c. is_child_of p c ≡ true → f (Some c.stamp) ≡ g (Some c.stamp))
+    (λ c. is_child_of p c ≡ true → (c ∷ f (Some c.stamp)) ≡ (c ∷ g (Some c.stamp))) (λ c k e. ap (λ r. c ∷ r) (k e)) xs h)))
     ∙ sym (j p)
 
 agrees : (xs : List Insertion) (f g : Option Stamp → List Insertion) → Preorders xs f → Preorders xs g
-    → (front ys : List Insertion) → front ++ ys ≡ xs → IsRising ys → ParentsOlder front → ParentsOlder ys → Each (λ e. Above e.stamp ys) front
+    → (front ys : List Insertion) → front ++ ys ≡ xs → IsRising ys → ParentsOlder front → ParentsOlder ys
+    → Each (λ e. Above e.stamp ys) front
     → Each (λ y. f (Some y.stamp) ≡ g (Some y.stamp)) ys
 agrees xs f g i j front [] e r o q a = tt
 agrees xs f g i j front (y ∷ zs) e r o q a =
-    let rest : Each (λ z. f (Some z.stamp) ≡ g (Some z.stamp)) zs = agrees xs f g i j (front ++ y ∷ []) zs (append_assoc front (y ∷ []) zs ∙ e) r.1
+    let rest : Each (λ z. f (Some z.stamp) ≡ g (Some z.stamp)) zs =
+    agrees xs f g i j (front ++ y ∷ []) zs (append_assoc front (y ∷ []) zs ∙ e) r.1
     (Each-append (λ z. IsOlder z.parent z.stamp) front (y ∷ []) o (q.0, tt)) q.1
-    (Each-append (λ z. Above z.stamp zs) front (y ∷ []) (Each-weaker (λ z. Above z.stamp (y ∷ zs)) (λ z. Above z.stamp zs) (λ z b. b.1) front a) (r.0, tt)) in (
+    (Each-append (λ z. Above z.stamp zs) front (y ∷ []) (Each-weaker (λ z. Above z.stamp (y ∷ zs)) (λ z. Above z.stamp zs)
+    (λ z b. b.1) front a) (r.0, tt)) in (
       below_agree xs f g (Some y.stamp) i j
           (subst (Each (λ c. is_child_of (Some y.stamp) c ≡ true → f (Some c.stamp) ≡ g (Some c.stamp))) e
           (Each-append (λ c. is_child_of (Some y.stamp) c ≡ true → f (Some c.stamp) ≡ g (Some c.stamp)) front (y ∷ zs)
           (none front o a) (
             (λ k. absurd (both_ways _ (IsOlder-not_same y.parent y.stamp q.0) k)),
-            Each-weaker (λ z. f (Some z.stamp) ≡ g (Some z.stamp)) (λ c. is_child_of (Some y.stamp) c ≡ true → f (Some c.stamp) ≡ g (Some c.stamp)) (λ z b _. b) zs rest,
+            Each-weaker (λ z. f (Some z.stamp) ≡ g (Some z.stamp))
+                (λ c. is_child_of (Some y.stamp) c ≡ true → f (Some c.stamp) ≡ g (Some c.stamp)) (λ z b _. b) zs rest,
           ))),
       rest,
     )
   where
-    none : (front : List Insertion) → ParentsOlder front → Each (λ e. Above e.stamp (y ∷ zs)) front → Each (λ c. is_child_of (Some y.stamp) c ≡ true → f (Some c.stamp) ≡ g (Some c.stamp)) front
+    none : (front : List Insertion) → ParentsOlder front → Each (λ e. Above e.stamp (y ∷ zs)) front
+        → Each (λ c. is_child_of (Some y.stamp) c ≡ true → f (Some c.stamp) ≡ g (Some c.stamp)) front
     none [] o a = tt
-    none (c ∷ cs) o a = ((λ k. absurd (both_ways _ (IsOlder-not_same c.parent y.stamp (IsOlder-trans c.parent c.stamp y.stamp o.0 a.0.0)) k)), none cs o.1 a.1)
+    none (c ∷ cs) o a = (
+      (λ k. absurd (both_ways _ (IsOlder-not_same c.parent y.stamp (IsOlder-trans c.parent c.stamp y.stamp o.0 a.0.0))
+          k)),
+      none cs o.1 a.1,
+    )
 
 -- Only one function meets the tree's equation.
-pub preorder_at-only : (xs : List Insertion) → IsRising xs → ParentsOlder xs → (f : Option Stamp → List Insertion) → Preorders xs f → (p : Option Stamp) → f p ≡ preorder xs p
+pub preorder_at-only : (xs : List Insertion) → IsRising xs → ParentsOlder xs → (f : Option Stamp → List Insertion) → Preorders xs f
+    → (p : Option Stamp) → f p ≡ preorder xs p
 preorder_at-only xs r o f i p =
     below_agree xs f (preorder xs) p i (preorder-equation xs r o)
-    (Each-weaker (λ y. f (Some y.stamp) ≡ preorder xs (Some y.stamp)) (λ c. is_child_of p c ≡ true → f (Some c.stamp) ≡ preorder xs (Some c.stamp)) (λ y h _. h) xs
+    (Each-weaker (λ y. f (Some y.stamp) ≡ preorder xs (Some y.stamp))
+    (λ c. is_child_of p c ≡ true → f (Some c.stamp) ≡ preorder xs (Some c.stamp)) (λ y h _. h) xs
     (agrees xs f (preorder xs) i (preorder-equation xs r o) [] xs refl r tt o tt))
 
 pub preorder-meets : (ops : List Operation) → IsSound ops → IsPreorder ops (preorder (rising (insertions ops)))

@@ -1,5 +1,6 @@
 -- Parts of lists that are gathered one item after another.
-use Rattle.std.proofs.Common.{◌≡◌, ℕ, zero, suc, ◌+◌, ◌-◌, ◌<◌, ◌≤◌, Some, List, [], ◌∷◌, ◌++◌, length, get_or, take, drop, refl, ap, ap₂, ◌∙◌, sym, arith, append_assoc}
+use Rattle.std.proofs.Common.{◌≡◌, ℕ, zero, suc, ◌+◌, ◌-◌, ◌<◌, ◌≤◌, Some, List, [], ◌∷◌, ◌++◌, length, get_or, take, drop, refl, ap, ap₂}
+use Rattle.std.proofs.Common.{◌∙◌, sym, arith, append_assoc}
 use Rattle.std.specs.Prelude.{slice_get}
 use Rattle.std.proofs.lemmas.List.{append-nil, drop_more}
 use Rattle.std.proofs.lemmas.Option.{slice_get_within, get_or_from_slice_get}
@@ -14,13 +15,16 @@ take_none [] (suc n) e = refl
 take_none (x ∷ xs) n e = ap (λ k. take k (x ∷ xs)) e
 
 -- from one place to another, of which the first is before the second
-pub between_at : {X : Type 0} (xs : List X) (p end : ℕ) (x : X) → p < end → slice_get xs p ≡ Some x → take (end - p) (drop p xs) ≡ x ∷ take (end - (p + 1)) (drop (p + 1) xs)
-between_at xs p end x h e = ap₂ (λ n ys. take n ys) size (rest_at xs p x (slice_get_within xs p x e) (sym (get_or_from_slice_get xs p x x e)))
+pub between_at : {X : Type 0} (xs : List X) (p end : ℕ) (x : X) → p < end → slice_get xs p ≡ Some x
+    → take (end - p) (drop p xs) ≡ x ∷ take (end - (p + 1)) (drop (p + 1) xs)
+between_at xs p end x h e = ap₂ (λ n ys. take n ys) size (rest_at xs p x (slice_get_within xs p x e)
+    (sym (get_or_from_slice_get xs p x x e)))
   where
     size : end - p ≡ suc (end - (p + 1))
     size = omega (arith, h)
 
-pub gathered : {X : Type 0} (xs made made' whole : List X) (p end : ℕ) (x : X) → p < end → slice_get xs p ≡ Some x → made ++ take (end - p) (drop p xs) ≡ whole → made' ≡ made ++ x ∷ []
+pub gathered : {X : Type 0} (xs made made' whole : List X) (p end : ℕ) (x : X) → p < end → slice_get xs p ≡ Some x
+    → made ++ take (end - p) (drop p xs) ≡ whole → made' ≡ made ++ x ∷ []
     → made' ++ take (end - (p + 1)) (drop (p + 1) xs) ≡ whole
 gathered xs made made' whole p end x h e so_far is =
     ap (λ ys. ys ++ take (end - (p + 1)) (drop (p + 1) xs)) is

@@ -1,11 +1,13 @@
 -- The preorder has each element exactly once.
-use Rattle.std.proofs.Common.{◌≡◌, ℕ, ◌+◌, ◌≤◌, Bool, true, false, cond, Option, Some, None, List, [], ◌∷◌, ◌++◌, refl, ap, ◌∙◌, sym, subst, arith, append_assoc, inl, inr}
+use Rattle.std.proofs.Common.{◌≡◌, ℕ, ◌+◌, ◌≤◌, Bool, true, false, cond, Option, Some, None, List, [], ◌∷◌, ◌++◌, refl, ap, ◌∙◌, sym, subst}
+use Rattle.std.proofs.Common.{arith, append_assoc, inl, inr}
 use Rattle.std.specs.Prelude.{count_by}
 use Rattle.std.specs.List.{AllByRecursion as Each, list_any}
 use Rattle.std.specs.List.Sorted.{IsPermutation}
 use Rattle.std.proofs.lemmas.Bool.{both_ways, false_from_ne_true, or_cases, cond-true, cond-false}
 use Rattle.std.proofs.lemmas.List.Folds.{list_any-append}
-use Rattle.std.proofs.lemmas.List.Sorted.{IsPermutation-refl, IsPermutation-trans, IsPermutation-cons, IsPermutation-append_comm, list_any-IsPermutation, sum_by-IsPermutation}
+use Rattle.std.proofs.lemmas.List.Sorted.{IsPermutation-refl, IsPermutation-trans, IsPermutation-cons, IsPermutation-append_comm}
+use Rattle.std.proofs.lemmas.List.Sorted.{list_any-IsPermutation, sum_by-IsPermutation}
 use Rattle.std.proofs.lemmas.List.Sums.{sum_by-cons}
 use Rattle.opid.specs.declared.stamp.Stamp.{Stamp}
 use Rattle.opid.specs.Stamps.{is_before, is_same}
@@ -13,7 +15,8 @@ use Rattle.opid.specs.Operations.{Insertion}
 use Rattle.opid.specs.Tree.{insert_rising, rising, preorder}
 use Rattle.opid.specs.Lawful.{AreApart}
 use Rattle.opid.proofs.Order.{is_before-asym, is_same-eq, is_before-not_same, is_same-refl}
-use Rattle.opid.proofs.Walk.{walk, Above, Childless, IsRising, IsOlder, ParentsOlder, IsOlder-trans, IsOlder-not_same, Each-weaker, append-nil, preorder-insert_rising}
+use Rattle.opid.proofs.Walk.{walk, Above, Childless, IsRising, IsOlder, ParentsOlder, IsOlder-trans, IsOlder-not_same, Each-weaker}
+use Rattle.opid.proofs.Walk.{append-nil, preorder-insert_rising}
 use Rattle.opid.proofs.Rising.{HasParent, IsTree}
 use Rattle.opid.proofs.Between.{walk-between, insert_rising-between, Between-permutation}
 
@@ -41,17 +44,25 @@ IsRising-back [] ys r = r
 IsRising-back (x ∷ xs) ys r = IsRising-back xs ys r.1
 
 -- those in front of x are before it
-IsRising-below : (xs : List Insertion) (x : Insertion) (ys : List Insertion) → IsRising (xs ++ x ∷ ys) → Each (λ y. is_before y.stamp x.stamp ≡ true) xs
+IsRising-below : (xs : List Insertion) (x : Insertion) (ys : List Insertion) → IsRising (xs ++ x ∷ ys)
+    → Each (λ y. is_before y.stamp x.stamp ≡ true) xs
 IsRising-below [] x ys r = tt
 IsRising-below (y ∷ xs) x ys r = ((Each-back (λ z. is_before y.stamp z.stamp ≡ true) xs (x ∷ ys) r.0).0, IsRising-below xs x ys r.1)
 
-insert_rising-last : (x : Insertion) (xs : List Insertion) → Each (λ y. is_before y.stamp x.stamp ≡ true) xs → insert_rising x xs ≡ xs ++ x ∷ []
+insert_rising-last : (x : Insertion) (xs : List Insertion) → Each (λ y. is_before y.stamp x.stamp ≡ true) xs
+    → insert_rising x xs ≡ xs ++ x ∷ []
 insert_rising-last x [] h = refl
 insert_rising-last x (y ∷ ys) h = cond-false _ _ _ (is_before-asym y.stamp x.stamp h.0) ∙ ap (λ r. y ∷ r) (insert_rising-last x ys h.1)
 
 -- what is before x is none of x and those after it
-not_from : (p : Stamp) (x : Insertion) (ys : List Insertion) → is_before p x.stamp ≡ true → Above x.stamp ys → list_any (λ y. is_same p y.stamp) (x ∷ ys) ≡ false
-not_from p x ys h a = false_from_ne_true (list_any (λ y. is_same p y.stamp) (x ∷ ys)) (λ e. go (x ∷ ys) (h, Each-weaker (λ z. is_before x.stamp z.stamp ≡ true) (λ z. is_before p z.stamp ≡ true) (λ z l. IsOlder-trans (Some p) x.stamp z.stamp h l) ys a) e)
+not_from : (p : Stamp) (x : Insertion) (ys : List Insertion) → is_before p x.stamp ≡ true → Above x.stamp ys
+    → list_any (λ y. is_same p y.stamp) (x ∷ ys) ≡ false
+not_from p x ys h a = false_from_ne_true (list_any (λ y. is_same p y.stamp) (x ∷ ys))
+    (λ e. go (x ∷ ys) (
+      h,
+      Each-weaker (λ z. is_before x.stamp z.stamp ≡ true) (λ z. is_before p z.stamp ≡ true)
+          (λ z l. IsOlder-trans (Some p) x.stamp z.stamp h l) ys a,
+    ) e)
   where
     go : (zs : List Insertion) → Each (λ z. is_before p z.stamp ≡ true) zs → list_any (λ y. is_same p y.stamp) zs ≡ true → ⊥
     go [] b e = cc
@@ -60,24 +71,29 @@ not_from p x ys h a = false_from_ne_true (list_any (λ y. is_same p y.stamp) (x 
       | inr q ↦ go zs b.1 q
     ]
 
-parent_in_front : (front : List Insertion) (x : Insertion) (ys : List Insertion) (o : Option Stamp) → IsOlder o x.stamp → Above x.stamp ys → HasParent (front ++ x ∷ ys) o → HasParent front o
+parent_in_front : (front : List Insertion) (x : Insertion) (ys : List Insertion) (o : Option Stamp) → IsOlder o x.stamp → Above x.stamp ys
+    → HasParent (front ++ x ∷ ys) o → HasParent front o
 parent_in_front front x ys None i a h = tt
-parent_in_front front x ys (Some p) i a h = elim (or_cases (list_any (λ y. is_same p y.stamp) front) (list_any (λ y. is_same p y.stamp) (x ∷ ys)) (sym (list_any-append (λ (y : Insertion). is_same p y.stamp) front (x ∷ ys)) ∙ h)) [
-  | inl e ↦ e
-  | inr e ↦ absurd (both_ways _ (not_from p x ys i a) e)
-]
+parent_in_front front x ys (Some p) i a h = elim (or_cases (list_any (λ y. is_same p y.stamp) front)
+    (list_any (λ y. is_same p y.stamp) (x ∷ ys)) (sym (list_any-append (λ (y : Insertion). is_same p y.stamp) front (x ∷ ys)) ∙ h)) [
+      | inl e ↦ e
+      | inr e ↦ absurd (both_ways _ (not_from p x ys i a) e)
+    ]
 
 HasParent-permutation : (xs ys : List Insertion) (o : Option Stamp) → IsPermutation xs ys → HasParent xs o → HasParent ys o
 HasParent-permutation xs ys None s h = tt
 HasParent-permutation xs ys (Some p) s h = sym (list_any-IsPermutation (λ (y : Insertion). is_same p y.stamp) xs ys s) ∙ h
 
 -- none of those below x is a child of x
-childless_below : (front : List Insertion) (x : Insertion) → Each (λ y. is_before y.stamp x.stamp ≡ true) front → ParentsOlder front → Childless (Some x.stamp) front
+childless_below : (front : List Insertion) (x : Insertion) → Each (λ y. is_before y.stamp x.stamp ≡ true) front → ParentsOlder front
+    → Childless (Some x.stamp) front
 childless_below [] x b o = tt
-childless_below (y ∷ ys) x b o = (IsOlder-not_same y.parent x.stamp (IsOlder-trans y.parent y.stamp x.stamp o.0 b.0), childless_below ys x b.1 o.1)
+childless_below (y ∷ ys) x b o =
+    (IsOlder-not_same y.parent x.stamp (IsOlder-trans y.parent y.stamp x.stamp o.0 b.0), childless_below ys x b.1 o.1)
 
 -- the order of a rising list is a permutation of it, one element after another
-preorder-goes_on : (front xs : List Insertion) → IsRising (front ++ xs) → ParentsOlder (front ++ xs) → Each (λ y. HasParent (front ++ xs) y.parent) xs
+preorder-goes_on : (front xs : List Insertion) → IsRising (front ++ xs) → ParentsOlder (front ++ xs)
+    → Each (λ y. HasParent (front ++ xs) y.parent) xs
     → IsPermutation front (preorder front None) → IsPermutation (front ++ xs) (preorder (front ++ xs) None)
 preorder-goes_on front [] r o c s = subst (λ l. IsPermutation l (preorder l None)) (sym (append-nil front)) s
 preorder-goes_on front (x ∷ xs) r o c s =
@@ -98,12 +114,14 @@ preorder-goes_on front (x ∷ xs) r o c s =
     fronts = Each-front (λ y. IsOlder y.parent y.stamp) front (x ∷ xs) o
 
     there : HasParent (preorder front None) x.parent
-    there = HasParent-permutation front (preorder front None) x.parent s (parent_in_front front x xs x.parent older (IsRising-back front (x ∷ xs) r).0 c.0)
+    there = HasParent-permutation front (preorder front None) x.parent s
+        (parent_in_front front x xs x.parent older (IsRising-back front (x ∷ xs) r).0 c.0)
 
     walked : preorder (front ++ x ∷ []) None ≡ walk x.parent x (preorder front None)
     walked =
         ap (λ l. preorder l None) (sym (insert_rising-last x front below))
-        ∙ preorder-insert_rising x.stamp x.parent x.ch front older (IsRising-front front (x ∷ xs) r) fronts (childless_below front x below fronts)
+        ∙ preorder-insert_rising x.stamp x.parent x.ch front older (IsRising-front front (x ∷ xs) r) fronts
+        (childless_below front x below fronts)
 
     here : IsPermutation (front ++ x ∷ []) (preorder (front ++ x ∷ []) None)
     here =
@@ -112,14 +130,16 @@ preorder-goes_on front (x ∷ xs) r o c s =
         (IsPermutation-append_comm front (x ∷ []))
         (IsPermutation-trans (x ∷ front) (x ∷ preorder front None) (walk x.parent x (preorder front None))
         (IsPermutation-cons x front (preorder front None) s)
-        (Between-permutation x (preorder front None) (walk x.parent x (preorder front None)) (walk-between x.parent x (preorder front None) there))))
+        (Between-permutation x (preorder front None) (walk x.parent x (preorder front None))
+        (walk-between x.parent x (preorder front None) there))))
 
 -- the order of a tree has its insertions, each exactly as often
 pub preorder-permutation : (xs : List Insertion) → IsTree xs → IsPermutation xs (preorder (rising xs) None)
 preorder-permutation xs t =
     IsPermutation-trans xs (rising xs) (preorder (rising xs) None) (rising-permutation xs)
     (preorder-goes_on [] (rising xs) t.rises t.older
-    (Each-weaker (λ y. HasParent xs y.parent) (λ y. HasParent (rising xs) y.parent) (λ y h. HasParent-permutation xs (rising xs) y.parent (rising-permutation xs) h) (rising xs) t.closed)
+    (Each-weaker (λ y. HasParent xs y.parent) (λ y. HasParent (rising xs) y.parent)
+    (λ y h. HasParent-permutation xs (rising xs) y.parent (rising-permutation xs) h) (rising xs) t.closed)
     (IsPermutation-refl []))
 
 -- how often a stamp stands in a list
@@ -146,7 +166,8 @@ none-times : (s : Stamp) (xs : List Insertion) → times s xs ≤ 0 → Each (λ
 none-times s [] h = tt
 none-times s (x ∷ xs) h = go (is_same s x.stamp) refl (none-times s xs)
   where
-    go : (t : Bool) → is_same s x.stamp ≡ t → (times s xs ≤ 0 → Each (λ y. is_same s y.stamp ≡ false) xs) → (is_same s x.stamp ≡ false) × Each (λ y. is_same s y.stamp ≡ false) xs
+    go : (t : Bool) → is_same s x.stamp ≡ t → (times s xs ≤ 0 → Each (λ y. is_same s y.stamp ≡ false) xs)
+        → (is_same s x.stamp ≡ false) × Each (λ y. is_same s y.stamp ≡ false) xs
     go true e ih = absurd (omega (arith, h, times-cons s x xs, counts_one (is_same s x.stamp) e))
     go false e ih = (e, ih (omega (arith, h, times-cons s x xs, counts_none (is_same s x.stamp) e)))
 
@@ -156,7 +177,8 @@ AreApart-times (x ∷ xs) a s = go (is_same s x.stamp) refl (AreApart-times xs a
   where
     go : (t : Bool) → is_same s x.stamp ≡ t → times s xs ≤ 1 → times s (x ∷ xs) ≤ 1
     go true e ih =
-        let rest : times s xs ≡ 0 = times-none s xs (subst (λ r. Each (λ y. is_same r y.stamp ≡ false) xs) (sym (is_same-eq s x.stamp e)) a.0) in
+        let rest : times s xs ≡ 0 =
+        times-none s xs (subst (λ r. Each (λ y. is_same r y.stamp ≡ false) xs) (sym (is_same-eq s x.stamp e)) a.0) in
         omega (arith, rest, times-cons s x xs, counts_one (is_same s x.stamp) e)
     go false e ih = omega (arith, ih, times-cons s x xs, counts_none (is_same s x.stamp) e)
 
@@ -168,4 +190,5 @@ times-AreApart (x ∷ xs) f = (
 )
 
 pub AreApart-permutation : (xs ys : List Insertion) → IsPermutation xs ys → AreApart xs → AreApart ys
-AreApart-permutation xs ys p a = times-AreApart ys (λ s. subst (λ n. n ≤ 1) (sym (sum_by-IsPermutation (λ (y : Insertion). cond (is_same s y.stamp) 1 0) xs ys p)) (AreApart-times xs a s))
+AreApart-permutation xs ys p a = times-AreApart ys (λ s. subst (λ n. n ≤ 1)
+    (sym (sum_by-IsPermutation (λ (y : Insertion). cond (is_same s y.stamp) 1 0) xs ys p)) (AreApart-times xs a s))

@@ -30,27 +30,34 @@ pub IsRising-insert_rising : (x : Insertion) (xs : List Insertion) → Lacks x.s
 IsRising-insert_rising x [] l r = (tt, tt)
 IsRising-insert_rising x (y ∷ ys) l r = go (is_before x.stamp y.stamp) refl (IsRising-insert_rising x ys l.1 r.1)
   where
-    go : (t : Bool) → is_before x.stamp y.stamp ≡ t → IsRising (insert_rising x ys) → IsRising (cond t (x ∷ y ∷ ys) (y ∷ insert_rising x ys))
+    go : (t : Bool) → is_before x.stamp y.stamp ≡ t → IsRising (insert_rising x ys)
+        → IsRising (cond t (x ∷ y ∷ ys) (y ∷ insert_rising x ys))
     go true e ih = ((e, Above-trans x.stamp y ys e r.0), r)
     go false e ih = (Each-insert_rising (λ z. is_before y.stamp z.stamp ≡ true) x ys (is_before-total x.stamp y.stamp e l.0) r.0, ih)
 
 -- it doesn't matter which of two is put in first
-pub insert_rising-swap : (a b : Insertion) (xs : List Insertion) → is_same a.stamp b.stamp ≡ false → insert_rising a (insert_rising b xs) ≡ insert_rising b (insert_rising a xs)
+pub insert_rising-swap : (a b : Insertion) (xs : List Insertion) → is_same a.stamp b.stamp ≡ false
+    → insert_rising a (insert_rising b xs) ≡ insert_rising b (insert_rising a xs)
 insert_rising-swap a b [] h = go (is_before a.stamp b.stamp) refl (is_before b.stamp a.stamp) refl
   where
-    go : (t : Bool) → is_before a.stamp b.stamp ≡ t → (u : Bool) → is_before b.stamp a.stamp ≡ u → cond t (a ∷ b ∷ []) (b ∷ a ∷ []) ≡ cond u (b ∷ a ∷ []) (a ∷ b ∷ [])
+    go : (t : Bool) → is_before a.stamp b.stamp ≡ t → (u : Bool) → is_before b.stamp a.stamp ≡ u
+        → cond t (a ∷ b ∷ []) (b ∷ a ∷ []) ≡ cond u (b ∷ a ∷ []) (a ∷ b ∷ [])
     go true e true f = absurd (both_ways _ (is_before-asym a.stamp b.stamp e) f)
     go true e false f = refl
     go false e true f = refl
     go false e false f = absurd (both_ways _ f (is_before-total a.stamp b.stamp e h))
 insert_rising-swap a b (y ∷ ys) h =
-    go (is_before a.stamp y.stamp) refl (is_before b.stamp y.stamp) refl (is_before a.stamp b.stamp) refl (is_before b.stamp a.stamp) refl (insert_rising-swap a b ys h)
+    go (is_before a.stamp y.stamp) refl (is_before b.stamp y.stamp) refl (is_before a.stamp b.stamp) refl (is_before b.stamp a.stamp) refl
+    (insert_rising-swap a b ys h)
   where
-    go : (p : Bool) → is_before a.stamp y.stamp ≡ p → (q : Bool) → is_before b.stamp y.stamp ≡ q → (t : Bool) → is_before a.stamp b.stamp ≡ t → (u : Bool) → is_before b.stamp a.stamp ≡ u
+    go : (p : Bool) → is_before a.stamp y.stamp ≡ p → (q : Bool) → is_before b.stamp y.stamp ≡ q → (t : Bool)
+        → is_before a.stamp b.stamp ≡ t → (u : Bool) → is_before b.stamp a.stamp ≡ u
         → insert_rising a (insert_rising b ys) ≡ insert_rising b (insert_rising a ys)
         → insert_rising a (cond q (b ∷ y ∷ ys) (y ∷ insert_rising b ys)) ≡ insert_rising b (cond p (a ∷ y ∷ ys) (y ∷ insert_rising a ys))
-    go true e true f true g u v ih = cond-true _ _ _ g ∙ ap (λ r. a ∷ r) (sym (cond-true _ _ _ f)) ∙ sym (cond-false _ _ _ (is_before-asym a.stamp b.stamp g))
-    go true e true f false g u v ih = cond-false _ _ _ g ∙ ap (λ r. b ∷ r) (cond-true _ _ _ e) ∙ sym (cond-true _ _ _ (is_before-total a.stamp b.stamp g h))
+    go true e true f true g u v ih =
+        cond-true _ _ _ g ∙ ap (λ r. a ∷ r) (sym (cond-true _ _ _ f)) ∙ sym (cond-false _ _ _ (is_before-asym a.stamp b.stamp g))
+    go true e true f false g u v ih =
+        cond-false _ _ _ g ∙ ap (λ r. b ∷ r) (cond-true _ _ _ e) ∙ sym (cond-true _ _ _ (is_before-total a.stamp b.stamp g h))
     go true e false f t g true v ih = absurd (both_ways _ f (is_before-trans b.stamp a.stamp y.stamp v e))
     go true e false f t g false v ih = cond-true _ _ _ e ∙ ap (λ r. a ∷ r) (sym (cond-false _ _ _ f)) ∙ sym (cond-false _ _ _ v)
     go false e true f true g u v ih = absurd (both_ways _ e (is_before-trans a.stamp b.stamp y.stamp g f))
@@ -74,8 +81,10 @@ pub record IsTree (xs : List Insertion) : Type 0 where
   pub older : ParentsOlder (rising xs)
   pub closed : Each (λ y. HasParent xs y.parent) (rising xs)
 
-pub Childless-new : (s : Stamp) (xs : List Insertion) → IsTree xs → list_any (λ x. is_same s x.stamp) xs ≡ false → Childless (Some s) (rising xs)
-Childless-new s xs t n = Each-weaker (λ y. HasParent xs y.parent) (λ y. is_child_of (Some s) y ≡ false) (λ y h. go y.parent h) (rising xs) t.closed
+pub Childless-new : (s : Stamp) (xs : List Insertion) → IsTree xs → list_any (λ x. is_same s x.stamp) xs ≡ false
+    → Childless (Some s) (rising xs)
+Childless-new s xs t n = Each-weaker (λ y. HasParent xs y.parent) (λ y. is_child_of (Some s) y ≡ false) (λ y h. go y.parent h)
+    (rising xs) t.closed
   where
     go : (o : Option Stamp) → HasParent xs o → is_same_parent o (Some s) ≡ false
     go None h = refl
@@ -89,14 +98,17 @@ HasParent-push xs x (Some p) h = list_any-append (λ x. is_same p x.stamp) xs (x
 pub IsTree-nil : IsTree []
 IsTree-nil = record { rises = tt; older = tt; closed = tt }
 
-pub IsTree-push : (xs : List Insertion) (x : Insertion) → IsTree xs → list_any (λ y. is_same x.stamp y.stamp) xs ≡ false → IsOlder x.parent x.stamp → HasParent xs x.parent → IsTree (xs ++ x ∷ [])
+pub IsTree-push : (xs : List Insertion) (x : Insertion) → IsTree xs → list_any (λ y. is_same x.stamp y.stamp) xs ≡ false
+    → IsOlder x.parent x.stamp → HasParent xs x.parent → IsTree (xs ++ x ∷ [])
 IsTree-push xs x t n o h =
     let lacks : Lacks x.stamp xs = Each-none (λ y. is_same x.stamp y.stamp) xs n in
     let eq : insert_rising x (rising xs) ≡ rising (xs ++ x ∷ []) = sym (rising-push xs x lacks) in
     record {
-      rises = subst IsRising eq (IsRising-insert_rising x (rising xs) (Each-rising (λ y. is_same x.stamp y.stamp ≡ false) xs lacks) t.rises);
+      rises = subst IsRising eq (IsRising-insert_rising x (rising xs)
+          (Each-rising (λ y. is_same x.stamp y.stamp ≡ false) xs lacks) t.rises);
       older = subst ParentsOlder eq (Each-insert_rising (λ y. IsOlder y.parent y.stamp) x (rising xs) o t.older);
       closed = subst (Each (λ y. HasParent (xs ++ x ∷ []) y.parent)) eq
           (Each-insert_rising (λ y. HasParent (xs ++ x ∷ []) y.parent) x (rising xs) (HasParent-push xs x x.parent h)
-          (Each-weaker (λ y. HasParent xs y.parent) (λ y. HasParent (xs ++ x ∷ []) y.parent) (λ y k. HasParent-push xs x y.parent k) (rising xs) t.closed));
+          (Each-weaker (λ y. HasParent xs y.parent) (λ y. HasParent (xs ++ x ∷ []) y.parent) (λ y k. HasParent-push xs x y.parent k)
+          (rising xs) t.closed));
     }

@@ -9,4 +9,23 @@ use Rattle.opid.proofs.Runs.{asked_insertions-lawful, asked_deletions-lawful}
 use Rattle.opid.proofs.Placing.{asked_insertions-placed}
 use Rattle.opid.proofs.Playing.{plays}
 
-pub ruleset laws = (number_of-injective, name_of-injective, is_before-irrefl, is_before-trans, is_before-tie, preorder-meets, preorder-only, all-permutation, AreApart-all, all-same, all-of_part, visible-part, IsSound-lawful, IsLawful-take, asked_insertions-lawful, asked_deletions-lawful, asked_insertions-placed, plays)
+pub ruleset laws = (
+  number_of-injective,
+  name_of-injective,
+  is_before-irrefl,
+  is_before-trans,
+  is_before-tie,
+  preorder-meets,
+  preorder-only,
+  all-permutation,
+  AreApart-all,
+  all-same,
+  all-of_part,
+  visible-part,
+  IsSound-lawful,
+  IsLawful-take,
+  asked_insertions-lawful,
+  asked_deletions-lawful,
+  asked_insertions-placed,
+  plays,
+)

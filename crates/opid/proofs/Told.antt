@@ -2,12 +2,17 @@
 use Rattle.std.proofs.Common.{◌≡◌, ℕ, Option, Some, List, [], ◌∷◌, refl, ap, ◌∙◌, sym, nat_eq}
 use Rattle.std.specs.Prelude.{find, bytes_eq}
 use Rattle.opid.specs.declared.refusal.Refusal.{Refusal}
-use Rattle.opid.specs.declared.refusal.Refusal.TheVariants.{BadJson, BadField, UnknownKind, NoRoom, NoSession, TooManySessions, BadNumber, BadVersion, BadPlace, BadText, BadCount, Full, HistoryFull, BadSite, BadClock, OwnSite, Conflict, HoldFull, NotRising, UnknownElement, NotOlder, BadHave, BadRange, Busy, Worn, Memory, SiteUsed, BadSnapshot, TooLong}
+use Rattle.opid.specs.declared.refusal.Refusal.TheVariants.{BadJson, BadField, UnknownKind, NoRoom, NoSession, TooManySessions, BadNumber}
+use Rattle.opid.specs.declared.refusal.Refusal.TheVariants.{BadVersion, BadPlace, BadText, BadCount, Full, HistoryFull, BadSite, BadClock}
+use Rattle.opid.specs.declared.refusal.Refusal.TheVariants.{OwnSite, Conflict, HoldFull, NotRising, UnknownElement, NotOlder, BadHave}
+use Rattle.opid.specs.declared.refusal.Refusal.TheVariants.{BadRange, Busy, Worn, Memory, SiteUsed, BadSnapshot, TooLong}
 use Rattle.opid.specs.Refusals.{number_of, name_of}
 
 refusals : List Refusal
 refusals =
-    BadJson ∷ BadField ∷ UnknownKind ∷ NoRoom ∷ NoSession ∷ TooManySessions ∷ BadNumber ∷ BadVersion ∷ BadPlace ∷ BadText ∷ BadCount ∷ Full ∷ HistoryFull ∷ BadSite ∷ BadClock ∷ OwnSite ∷ Conflict ∷ HoldFull ∷ NotRising ∷ UnknownElement ∷ NotOlder ∷ BadHave ∷ BadRange ∷ Busy ∷ Worn ∷ Memory ∷ SiteUsed ∷ BadSnapshot ∷ TooLong ∷ []
+    BadJson ∷ BadField ∷ UnknownKind ∷ NoRoom ∷ NoSession ∷ TooManySessions ∷ BadNumber ∷ BadVersion ∷ BadPlace ∷ BadText ∷ BadCount ∷ Full
+    ∷ HistoryFull ∷ BadSite ∷ BadClock ∷ OwnSite ∷ Conflict ∷ HoldFull ∷ NotRising ∷ UnknownElement ∷ NotOlder ∷ BadHave ∷ BadRange
+    ∷ Busy ∷ Worn ∷ Memory ∷ SiteUsed ∷ BadSnapshot ∷ TooLong ∷ []
 
 with_number : ℕ → Option Refusal
 with_number n = find (λ r. nat_eq (number_of r) n) refusals

@@ -1,7 +1,10 @@
 -- The numbers and names of refusals, which are the server's own.
 use Rattle.std.specs.Prelude.{ℕ, List, codes}
 use Rattle.opid.specs.declared.refusal.Refusal.{Refusal}
-use Rattle.opid.specs.declared.refusal.Refusal.TheVariants.{BadJson, BadField, UnknownKind, NoRoom, NoSession, TooManySessions, BadNumber, BadVersion, BadPlace, BadText, BadCount, Full, HistoryFull, BadSite, BadClock, OwnSite, Conflict, HoldFull, NotRising, UnknownElement, NotOlder, BadHave, BadRange, Busy, Worn, Memory, SiteUsed, BadSnapshot, TooLong}
+use Rattle.opid.specs.declared.refusal.Refusal.TheVariants.{BadJson, BadField, UnknownKind, NoRoom, NoSession, TooManySessions, BadNumber}
+use Rattle.opid.specs.declared.refusal.Refusal.TheVariants.{BadVersion, BadPlace, BadText, BadCount, Full, HistoryFull, BadSite, BadClock}
+use Rattle.opid.specs.declared.refusal.Refusal.TheVariants.{OwnSite, Conflict, HoldFull, NotRising, UnknownElement, NotOlder, BadHave}
+use Rattle.opid.specs.declared.refusal.Refusal.TheVariants.{BadRange, Busy, Worn, Memory, SiteUsed, BadSnapshot, TooLong}
 
 -- the number by which replies tell a refusal
 abbrev pub number_of : Refusal → ℕ

@@ -1,5 +1,6 @@
 -- Each way through the checks of a delivery, and where it leads.
-use Rattle.std.proofs.Common.{◌≡◌, ℕ, Bool, true, false, cond, Option, Some, None, Ok, Err, Result, List, [], ◌∷◌, ◌++◌, length, refl, ap, ◌∙◌, ◌<◌, arith}
+use Rattle.std.proofs.Common.{◌≡◌, ℕ, Bool, true, false, cond, Option, Some, None, Ok, Err, Result, List, [], ◌∷◌, ◌++◌, length, refl, ap}
+use Rattle.std.proofs.Common.{◌∙◌, ◌<◌, arith}
 use Rattle.std.specs.Prelude.{nat_lt}
 use Rattle.std.specs.Option.{option_or}
 use Rattle.std.proofs.lemmas.Bool.{cond-true, cond-false}
@@ -27,43 +28,52 @@ compared-Ok x y e {P} = go (is_same_operation x y) e
 
 -- what isn't in the log is looked for among what is held
 not_in_log : (log held : List Operation) (x : Operation) → look_for x log ≡ Ok false → look_for x (log ++ held) ≡ look_for x held
-not_in_log log held x e = ap (compared x) (find-append (λ y. is_same_number (number_of x) (number_of y)) log held) ∙ go (with_number (number_of x) log) e
+not_in_log log held x e = ap (compared x) (find-append (λ y. is_same_number (number_of x) (number_of y)) log held)
+    ∙ go (with_number (number_of x) log) e
   where
     go : (o : Option Operation) → compared x o ≡ Ok false → compared x (option_or o (with_number (number_of x) held)) ≡ look_for x held
     go None e = refl
     go (Some y) e = compared-Ok x y e
 
 in_log : (log held : List Operation) (x : Operation) → look_for x log ≡ Ok true → look_for x (log ++ held) ≡ Ok true
-in_log log held x e = ap (compared x) (find-append (λ y. is_same_number (number_of x) (number_of y)) log held) ∙ go (with_number (number_of x) log) e
+in_log log held x e = ap (compared x) (find-append (λ y. is_same_number (number_of x) (number_of y)) log held)
+    ∙ go (with_number (number_of x) log) e
   where
     go : (o : Option Operation) → compared x o ≡ Ok true → compared x (option_or o (with_number (number_of x) held)) ≡ Ok true
     go None e = cc
     go (Some y) e = e
 
 other_in_log : (log held : List Operation) (x : Operation) (r : Refusal) → look_for x log ≡ Err r → look_for x (log ++ held) ≡ Err r
-other_in_log log held x r e = ap (compared x) (find-append (λ y. is_same_number (number_of x) (number_of y)) log held) ∙ go (with_number (number_of x) log) e
+other_in_log log held x r e = ap (compared x) (find-append (λ y. is_same_number (number_of x) (number_of y)) log held)
+    ∙ go (with_number (number_of x) log) e
   where
     go : (o : Option Operation) → compared x o ≡ Err r → compared x (option_or o (with_number (number_of x) held)) ≡ Err r
     go None e = cc
     go (Some y) e = e
 
 -- an operation that doesn't claim the site
-found : (site : ℕ) (log held : List Operation) (x : Operation) (r : Result Bool Refusal) → claims_site site log x ≡ false → look_for x (log ++ held) ≡ r → deliver site log held x ≡ deliver_found r log held x
+found : (site : ℕ) (log held : List Operation) (x : Operation) (r : Result Bool Refusal) → claims_site site log x ≡ false
+    → look_for x (log ++ held) ≡ r → deliver site log held x ≡ deliver_found r log held x
 found site log held x r c e = cond-false _ _ _ c ∙ ap (λ v. deliver_found v log held x) e
 
-pub deliver-own : (site : ℕ) (log held : List Operation) (x : Operation) → claims_site site log x ≡ true → deliver site log held x ≡ unchanged (Err OwnSite) log held
+pub deliver-own : (site : ℕ) (log held : List Operation) (x : Operation) → claims_site site log x ≡ true
+    → deliver site log held x ≡ unchanged (Err OwnSite) log held
 deliver-own site log held x c = cond-true _ _ _ c
 
-pub deliver-in_log : (site : ℕ) (log held : List Operation) (x : Operation) → claims_site site log x ≡ false → look_for x log ≡ Ok true → deliver site log held x ≡ unchanged (Ok Again) log held
+pub deliver-in_log : (site : ℕ) (log held : List Operation) (x : Operation) → claims_site site log x ≡ false → look_for x log ≡ Ok true
+    → deliver site log held x ≡ unchanged (Ok Again) log held
 deliver-in_log site log held x c e = found site log held x (Ok true) c (in_log log held x e)
 
-pub deliver-other_in_log : (site : ℕ) (log held : List Operation) (x : Operation) (r : Refusal) → claims_site site log x ≡ false → look_for x log ≡ Err r → deliver site log held x ≡ unchanged (Err r) log held
+pub deliver-other_in_log : (site : ℕ) (log held : List Operation) (x : Operation) (r : Refusal) → claims_site site log x ≡ false
+    → look_for x log ≡ Err r → deliver site log held x ≡ unchanged (Err r) log held
 deliver-other_in_log site log held x r c e = found site log held x (Err r) c (other_in_log log held x r e)
 
-pub deliver-held : (site : ℕ) (log held : List Operation) (x : Operation) → claims_site site log x ≡ false → look_for x log ≡ Ok false → look_for x held ≡ Ok true → deliver site log held x ≡ unchanged (Ok Again) log held
+pub deliver-held : (site : ℕ) (log held : List Operation) (x : Operation) → claims_site site log x ≡ false → look_for x log ≡ Ok false
+    → look_for x held ≡ Ok true → deliver site log held x ≡ unchanged (Ok Again) log held
 deliver-held site log held x c e f = found site log held x (Ok true) c (not_in_log log held x e ∙ f)
 
-pub deliver-other_held : (site : ℕ) (log held : List Operation) (x : Operation) (r : Refusal) → claims_site site log x ≡ false → look_for x log ≡ Ok false → look_for x held ≡ Err r → deliver site log held x ≡ unchanged (Err r) log held
+pub deliver-other_held : (site : ℕ) (log held : List Operation) (x : Operation) (r : Refusal) → claims_site site log x ≡ false
+    → look_for x log ≡ Ok false → look_for x held ≡ Err r → deliver site log held x ≡ unchanged (Err r) log held
 deliver-other_held site log held x r c e f = found site log held x (Err r) c (not_in_log log held x e ∙ f)
 
 -- what isn't ready is offered to what is held
@@ -72,10 +82,12 @@ of_arrival (Err r) log held x = unchanged (Err r) log held
 of_arrival (Ok arrivals.Kept) log held x = record { outcome = Ok Kept; log = log; held = held ++ x ∷ [] }
 of_arrival (Ok arrivals.Again) log held x = unchanged (Ok Again) log held
 
-waits : (site : ℕ) (log held : List Operation) (x : Operation) → claims_site site log x ≡ false → look_for x log ≡ Ok false → is_ready log x ≡ false → deliver site log held x ≡ of_arrival (offered x held) log held x
+waits : (site : ℕ) (log held : List Operation) (x : Operation) → claims_site site log x ≡ false → look_for x log ≡ Ok false
+    → is_ready log x ≡ false → deliver site log held x ≡ of_arrival (offered x held) log held x
 waits site log held x c e w = found site log held x (look_for x held) c (not_in_log log held x e) ∙ go (look_for x held)
   where
-    full : (t : Bool) → cond t (record { outcome = Ok Kept; log = log; held = held ++ x ∷ [] }) (unchanged (Err HoldFull) log held) ≡ of_arrival (cond t (Ok arrivals.Kept) (Err HoldFull)) log held x
+    full : (t : Bool) → cond t (record { outcome = Ok Kept; log = log; held = held ++ x ∷ [] }) (unchanged (Err HoldFull) log held)
+        ≡ of_arrival (cond t (Ok arrivals.Kept) (Err HoldFull)) log held x
     full true = refl
     full false = refl
 
@@ -84,32 +96,51 @@ waits site log held x c e w = found site log held x (look_for x held) c (not_in_
     go (Ok true) = refl
     go (Ok false) = cond-false _ _ _ w ∙ full (nat_lt (length held) 1024)
 
-pub deliver-kept : (site : ℕ) (log held : List Operation) (x : Operation) → claims_site site log x ≡ false → look_for x log ≡ Ok false → is_ready log x ≡ false → offered x held ≡ Ok arrivals.Kept
+pub deliver-kept : (site : ℕ) (log held : List Operation) (x : Operation) → claims_site site log x ≡ false → look_for x log ≡ Ok false
+    → is_ready log x ≡ false → offered x held ≡ Ok arrivals.Kept
     → deliver site log held x ≡ record { outcome = Ok Kept; log = log; held = held ++ x ∷ [] }
 deliver-kept site log held x c e w f = waits site log held x c e w ∙ ap (λ r. of_arrival r log held x) f
 
-pub deliver-kept_again : (site : ℕ) (log held : List Operation) (x : Operation) → claims_site site log x ≡ false → look_for x log ≡ Ok false → is_ready log x ≡ false → offered x held ≡ Ok arrivals.Again
+pub deliver-kept_again : (site : ℕ) (log held : List Operation) (x : Operation) → claims_site site log x ≡ false → look_for x log ≡ Ok false
+    → is_ready log x ≡ false → offered x held ≡ Ok arrivals.Again
     → deliver site log held x ≡ unchanged (Ok Again) log held
 deliver-kept_again site log held x c e w f = waits site log held x c e w ∙ ap (λ r. of_arrival r log held x) f
 
-pub deliver-not_kept : (site : ℕ) (log held : List Operation) (x : Operation) (r : Refusal) → claims_site site log x ≡ false → look_for x log ≡ Ok false → is_ready log x ≡ false → offered x held ≡ Err r
+pub deliver-not_kept : (site : ℕ) (log held : List Operation) (x : Operation) (r : Refusal) → claims_site site log x ≡ false
+    → look_for x log ≡ Ok false → is_ready log x ≡ false → offered x held ≡ Err r
     → deliver site log held x ≡ unchanged (Err r) log held
 deliver-not_kept site log held x r c e w f = waits site log held x c e w ∙ ap (λ o. of_arrival o log held x) f
 
 -- what is ready
-goes : (site : ℕ) (log held : List Operation) (x : Operation) (r : Option Refusal) → claims_site site log x ≡ false → look_for x log ≡ Ok false → look_for x held ≡ Ok false → is_ready log x ≡ true → refusal_of log x ≡ r
+goes : (site : ℕ) (log held : List Operation) (x : Operation) (r : Option Refusal) → claims_site site log x ≡ false
+    → look_for x log ≡ Ok false → look_for x held ≡ Ok false → is_ready log x ≡ true → refusal_of log x ≡ r
     → deliver site log held x ≡ integrate r log held x
-goes site log held x r c e f w a = found site log held x (Ok false) c (not_in_log log held x e ∙ f) ∙ cond-true _ _ _ w ∙ ap (λ o. integrate o log held x) a
+goes site log held x r c e f w a =
+    found site log held x (Ok false) c (not_in_log log held x e ∙ f) ∙ cond-true _ _ _ w ∙ ap (λ o. integrate o log held x) a
 
-pub deliver-refused : (site : ℕ) (log held : List Operation) (x : Operation) (r : Refusal) → claims_site site log x ≡ false → look_for x log ≡ Ok false → look_for x held ≡ Ok false → is_ready log x ≡ true
+pub deliver-refused : (site : ℕ) (log held : List Operation) (x : Operation) (r : Refusal) → claims_site site log x ≡ false
+    → look_for x log ≡ Ok false → look_for x held ≡ Ok false → is_ready log x ≡ true
     → refusal_of log x ≡ Some r → deliver site log held x ≡ unchanged (Err r) log held
 deliver-refused site log held x r c e f w a = goes site log held x (Some r) c e f w a
 
-pub deliver-took : (site : ℕ) (log held : List Operation) (x : Operation) → claims_site site log x ≡ false → look_for x log ≡ Ok false → look_for x held ≡ Ok false → is_ready log x ≡ true
-    → refusal_of log x ≡ None → deliver site log held x ≡ settled (settle (record { log = log ++ x ∷ []; held = held; taken = 1; dropped = 0 }))
+pub deliver-took : (site : ℕ) (log held : List Operation) (x : Operation) → claims_site site log x ≡ false → look_for x log ≡ Ok false
+    → look_for x held ≡ Ok false → is_ready log x ≡ true
+    → refusal_of log x ≡ None → deliver site log held x ≡ settled
+    (settle (record { log = log ++ x ∷ []; held = held; taken = 1; dropped = 0 }))
 deliver-took site log held x c e f w a = goes site log held x None c e f w a
 
-pub ruleset ways = (deliver-own, deliver-in_log, deliver-other_in_log, deliver-held, deliver-other_held, deliver-kept, deliver-kept_again, deliver-not_kept, deliver-refused, deliver-took)
+pub ruleset ways = (
+  deliver-own,
+  deliver-in_log,
+  deliver-other_in_log,
+  deliver-held,
+  deliver-other_held,
+  deliver-kept,
+  deliver-kept_again,
+  deliver-not_kept,
+  deliver-refused,
+  deliver-took,
+)
 
 -- what is kept finds fewer than 1,024
 pub kept-few : (held : List Operation) (x : Operation) → offered x held ≡ Ok arrivals.Kept → length held < 1024

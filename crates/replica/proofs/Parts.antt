@@ -1,5 +1,6 @@
 -- The part of a log that is told.
-use Rattle.std.proofs.Common.{◌≡◌, ℕ, ◌+◌, ◌-◌, ◌<◌, ◌≤◌, ◌⊎◌, inl, inr, false, List, [], ◌∷◌, Some, Ok, length, get_or, take, drop, ap, ◌∙◌, sym, arith}
+use Rattle.std.proofs.Common.{◌≡◌, ℕ, ◌+◌, ◌-◌, ◌<◌, ◌≤◌, ◌⊎◌, inl, inr, false, List, [], ◌∷◌, Some, Ok, length, get_or, take, drop, ap}
+use Rattle.std.proofs.Common.{◌∙◌, sym, arith}
 use Rattle.std.specs.Prelude.{min, nat_lt, slice_get, ◌==◌, ◌||◌}
 use Rattle.std.proofs.lemmas.Bool.{cond-false, cases_lt}
 use Rattle.std.proofs.lemmas.Bool.Decides.{nat_tests}
@@ -9,7 +10,8 @@ use Rattle.opid.specs.Operations.{Operation}
 use Rattle.replica.specs.Part.{part_of}
 
 -- the part up to its end
-pub part_of_end : (log : List Operation) (after max end : ℕ) → after ≤ length log → 0 < max → max ≤ 64 → end ≡ min (length log) (after + max) → part_of log after max ≡ Ok (take (end - after) (drop after log))
+pub part_of_end : (log : List Operation) (after max end : ℕ) → after ≤ length log → 0 < max → max ≤ 64
+    → end ≡ min (length log) (after + max) → part_of log after max ≡ Ok (take (end - after) (drop after log))
 part_of_end log after max end l p m e = cond-false _ _ _ accepted ∙ ap Ok (go (cases_lt (length log) (after + max)))
   where
     accepted : (nat_lt (length log) after || (max == 0 || nat_lt 64 max)) ≡ false
@@ -22,7 +24,8 @@ part_of_end log after max end l p m e = cond-false _ _ _ accepted ∙ ap Ok (go 
     go (inr q) = ap (λ k. take k (drop after log)) (omega (arith, q, e))
 
 -- what a walk gives is the operation at its place, and it goes on behind it
-pub left_after : (log : List Operation) (n : ℕ) (x : Operation) (rest : List Operation) → drop n log ≡ x ∷ rest → (slice_get log n ≡ Some x) × (rest ≡ drop (n + 1) log)
+pub left_after : (log : List Operation) (n : ℕ) (x : Operation) (rest : List Operation) → drop n log ≡ x ∷ rest
+    → (slice_get log n ≡ Some x) × (rest ≡ drop (n + 1) log)
 left_after log n x rest e =
     let within : n < length log = omega (arith, length-drop n log, ap (length {A = Operation}) e) in
     let same : x ∷ rest ≡ get_or log n x ∷ drop (n + 1) log = sym e ∙ drop_more log n x within in (

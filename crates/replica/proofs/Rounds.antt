@@ -16,9 +16,11 @@ pub round-none : (s : Settling) → length s.log < 131072 → first_ready (clock
 round-none s l e = cond-false _ _ _ (lt-leb 131072 (length s.log) l) ∙ ap (λ o. round_with o s) e
 
 -- the first that is ready is appended, or dropped
-pub round-some : (s : Settling) (x : Operation) (r : Option Refusal) → length s.log < 131072 → first_ready (clock_of s.log) s.held ≡ Some x → refusal_of s.log x ≡ r
+pub round-some : (s : Settling) (x : Operation) (r : Option Refusal) → length s.log < 131072 → first_ready (clock_of s.log) s.held ≡ Some x
+    → refusal_of s.log x ≡ r
     → round s ≡ appended_or_dropped r x (taken_out s)
-round-some s x r l e f = cond-false _ _ _ (lt-leb 131072 (length s.log) l) ∙ ap (λ o. round_with o s) e ∙ ap (λ o. appended_or_dropped o x (taken_out s)) f
+round-some s x r l e f = cond-false _ _ _ (lt-leb 131072 (length s.log) l) ∙ ap (λ o. round_with o s) e
+    ∙ ap (λ o. appended_or_dropped o x (taken_out s)) f
 
 -- rounds that change nothing
 pub rounds-stay : (n : ℕ) (s : Settling) → round s ≡ s → rounds n s ≡ s

@@ -1,5 +1,6 @@
 -- The rows of places: one place more in a row, and rows whose memory grows.
-use Rattle.std.proofs.Common.{◌≡◌, ℕ, zero, suc, ◌+◌, ◌<◌, ◌≤◌, List, [], ◌∷◌, ◌++◌, length, get_or, set, map, max, replicate, refl, ap, ◌∙◌, sym, subst, arith, ◌⊎◌, inl, inr, get_or-set_other, get_or-set_same}
+use Rattle.std.proofs.Common.{◌≡◌, ℕ, zero, suc, ◌+◌, ◌<◌, ◌≤◌, List, [], ◌∷◌, ◌++◌, length, get_or, set, map, max, replicate, refl, ap}
+use Rattle.std.proofs.Common.{◌∙◌, sym, subst, arith, ◌⊎◌, inl, inr, get_or-set_other, get_or-set_same}
 use Rattle.std.specs.List.{AllByRecursion as Each}
 use mathlib.Core.Path.{ap₂}
 use Rattle.std.proofs.lemmas.Bool.{cases_eq}
@@ -19,7 +20,8 @@ places-at (r ∷ rows) zero d l = refl
 places-at (r ∷ rows) (suc i) d l = places-at rows i d (omega arith)
 
 -- a place is added to a row
-pub pushed : (rows : List PlacesOfOne) (now : List (List ℕ)) (i site place : ℕ) (r new : PlacesOfOne) → places rows ≡ now → i ≡ site → i < length rows
+pub pushed : (rows : List PlacesOfOne) (now : List (List ℕ)) (i site place : ℕ) (r new : PlacesOfOne) → places rows ≡ now → i ≡ site
+    → i < length rows
     → new.places ≡ (get_or rows i r).places ++ place ∷ [] → places (set rows i new) ≡ set now site (get_or now site [] ++ place ∷ [])
 pushed rows now i site place r new e f l n =
     subst (λ v. places (set rows i new) ≡ set v site (get_or v site [] ++ place ∷ [])) e
@@ -27,7 +29,8 @@ pushed rows now i site place r new e f l n =
     (places-set rows i new ∙ ap (set (places rows) i) (n ∙ ap (λ (ps : List ℕ). ps ++ place ∷ []) (sym (places-at rows i r l)))))
 
 -- rows of no places
-pub no_places : (rows : List PlacesOfOne) (n : ℕ) (blank : PlacesOfOne) → blank.places ≡ [] → length rows ≡ n → ((k : ℕ) → k < n → get_or rows k blank ≡ blank) → places rows ≡ replicate n []
+pub no_places : (rows : List PlacesOfOne) (n : ℕ) (blank : PlacesOfOne) → blank.places ≡ [] → length rows ≡ n
+    → ((k : ℕ) → k < n → get_or rows k blank ≡ blank) → places rows ≡ replicate n []
 no_places [] zero blank b e h = refl
 no_places [] (suc n) blank b e h = absurd (omega (arith, e))
 no_places (r ∷ rows) zero blank b e h = absurd (omega (arith, e))
@@ -36,13 +39,15 @@ no_places (r ∷ rows) (suc n) blank b e h =
     (no_places rows n blank b (omega (arith, e)) (λ k l. h (suc k) (omega arith)))
 
 -- a row that keeps its places
-pub kept_places : (rows : List PlacesOfOne) (i : ℕ) (r new : PlacesOfOne) → i < length rows → r ≡ get_or rows i r → new.places ≡ r.places → places (set rows i new) ≡ places rows
+pub kept_places : (rows : List PlacesOfOne) (i : ℕ) (r new : PlacesOfOne) → i < length rows → r ≡ get_or rows i r → new.places ≡ r.places
+    → places (set rows i new) ≡ places rows
 kept_places [] i r new l e f = absurd (omega arith)
 kept_places (s ∷ rows) zero r new l e f = ap (λ (p : List ℕ). p ∷ places rows) (f ∙ ap (λ (q : PlacesOfOne). q.places) e)
 kept_places (s ∷ rows) (suc i) r new l e f = ap (λ (ps : List (List ℕ)). s.places ∷ ps) (kept_places rows i r new (omega arith) e f)
 
 -- a row that keeps its memory
-pub kept_room : (rows : List PlacesOfOne) (i room : ℕ) (r new : PlacesOfOne) → i < length rows → r ≡ get_or rows i r → r.room ≤ new.room → Each (λ q. room ≤ q.room) rows → Each (λ q. room ≤ q.room) (set rows i new)
+pub kept_room : (rows : List PlacesOfOne) (i room : ℕ) (r new : PlacesOfOne) → i < length rows → r ≡ get_or rows i r → r.room ≤ new.room
+    → Each (λ q. room ≤ q.room) rows → Each (λ q. room ≤ q.room) (set rows i new)
 kept_room [] i room r new l e f h = absurd (omega arith)
 kept_room (s ∷ rows) zero room r new l e f h =
     let same : r.room ≡ s.room = ap (λ (q : PlacesOfOne). q.room) e in
@@ -50,25 +55,30 @@ kept_room (s ∷ rows) zero room r new l e f h =
 kept_room (s ∷ rows) (suc i) room r new l e f h = (h.0, kept_room rows i room r new (omega arith) e f h.1)
 
 -- the greater of two reserves
-pub greater_room : (rows : List PlacesOfOne) (a b room : ℕ) → room ≡ max a b → Each (λ q. a ≤ q.room) rows → Each (λ q. b ≤ q.room) rows → Each (λ q. room ≤ q.room) rows
+pub greater_room : (rows : List PlacesOfOne) (a b room : ℕ) → room ≡ max a b → Each (λ q. a ≤ q.room) rows → Each (λ q. b ≤ q.room) rows
+    → Each (λ q. room ≤ q.room) rows
 greater_room [] a b room e f g = tt
 greater_room (r ∷ rows) a b room e f g = (omega (arith, e, f.0, g.0), greater_room rows a b room e f.1 g.1)
 
 -- what holds of each place
-pub each_row : (rows : List PlacesOfOne) (n : ℕ) → ((k : ℕ) (d : PlacesOfOne) → k < length rows → n ≤ (get_or rows k d).room) → Each (λ q. n ≤ q.room) rows
+pub each_row : (rows : List PlacesOfOne) (n : ℕ) → ((k : ℕ) (d : PlacesOfOne) → k < length rows → n ≤ (get_or rows k d).room)
+    → Each (λ q. n ≤ q.room) rows
 each_row [] n h = tt
 each_row (r ∷ rows) n h = (h 0 r (omega arith), each_row rows n (λ k d l. h (suc k) d (omega arith)))
 
 -- one row more has the room
-pub enough_more : (rows : List PlacesOfOne) (i n : ℕ) (new : PlacesOfOne) → i < length rows → n ≤ new.room → ((k : ℕ) (d : PlacesOfOne) → k < i → n ≤ (get_or rows k d).room)
+pub enough_more : (rows : List PlacesOfOne) (i n : ℕ) (new : PlacesOfOne) → i < length rows → n ≤ new.room
+    → ((k : ℕ) (d : PlacesOfOne) → k < i → n ≤ (get_or rows k d).room)
     → (k : ℕ) (d : PlacesOfOne) → k < i + 1 → n ≤ (get_or (set rows i new) k d).room
 enough_more rows i n new l m h k d b = go (cases_eq k i)
   where
     go : (k ≡ i) ⊎ (k ≡ i → ⊥) → n ≤ (get_or (set rows i new) k d).room
     go (inl q) =
-        let here : (get_or (set rows i new) k d).room ≡ new.room = ap (λ j. (get_or (set rows i new) j d).room) q ∙ ap (λ (r : PlacesOfOne). r.room) (get_or-set_same rows i new d l) in
+        let here : (get_or (set rows i new) k d).room ≡ new.room =
+        ap (λ j. (get_or (set rows i new) j d).room) q ∙ ap (λ (r : PlacesOfOne). r.room) (get_or-set_same rows i new d l) in
         omega (arith, here, m)
     go (inr q) =
-        let there : (get_or (set rows i new) k d).room ≡ (get_or rows k d).room = ap (λ (r : PlacesOfOne). r.room) (get_or-set_other rows i k new d q) in
+        let there : (get_or (set rows i new) k d).room ≡ (get_or rows k d).room =
+        ap (λ (r : PlacesOfOne). r.room) (get_or-set_other rows i k new d q) in
         let below : k < i = omega arith in
         omega (arith, there, h k d below)

@@ -1,5 +1,6 @@
 -- Operations that go behind a log one after another.
-use Rattle.std.proofs.Common.{◌≡◌, ℕ, ◌+◌, ◌<◌, ◌≤◌, ◌⊎◌, inl, inr, Some, None, List, [], ◌∷◌, ◌++◌, length, drop, get_or, ap, ◌∙◌, sym, subst, arith, append_assoc}
+use Rattle.std.proofs.Common.{◌≡◌, ℕ, ◌+◌, ◌<◌, ◌≤◌, ◌⊎◌, inl, inr, Some, None, List, [], ◌∷◌, ◌++◌, length, drop, get_or, ap, ◌∙◌, sym}
+use Rattle.std.proofs.Common.{subst, arith, append_assoc}
 use Rattle.std.proofs.lemmas.List.{append-nil, drop_all, length-append, length-drop}
 use Rattle.opid.specs.declared.refusal.Refusal.{Refusal}
 use Rattle.opid.specs.declared.refusal.Refusal.TheVariants.{Memory}
@@ -17,28 +18,36 @@ use Rattle.replica.proofs.Lawfully.{accepted-may_follow}
 first_may_follow : (log : List Operation) (x : Operation) (xs : List Operation) → IsLawful (log ++ x ∷ xs) → MayFollow log x
 first_may_follow log x xs l = (goes_on_after [] log (x ∷ xs) l).0
 
-pub next_may_follow : (first log ops : List Operation) (n : ℕ) (x : Operation) → IsLawful (first ++ ops) → n < length ops → x ≡ get_or ops n x → log ++ drop n ops ≡ first ++ ops → MayFollow log x
+pub next_may_follow : (first log ops : List Operation) (n : ℕ) (x : Operation) → IsLawful (first ++ ops) → n < length ops
+    → x ≡ get_or ops n x → log ++ drop n ops ≡ first ++ ops → MayFollow log x
 next_may_follow first log ops n x l h e so_far =
     first_may_follow log x (drop (n + 1) ops) (subst IsLawful (sym so_far ∙ ap (λ xs. log ++ xs) (rest_at ops n x h e)) l)
 
-pub next_fits : (first log ops : List Operation) (n : ℕ) → length first + length ops ≤ 131072 → n < length ops → log ++ drop n ops ≡ first ++ ops → length log < 131072
+pub next_fits : (first log ops : List Operation) (n : ℕ) → length first + length ops ≤ 131072 → n < length ops
+    → log ++ drop n ops ≡ first ++ ops → length log < 131072
 next_fits first log ops n b h so_far =
-    let here : length log + length (drop n ops) ≡ length first + length ops = sym (length-append log (drop n ops)) ∙ ap length so_far ∙ length-append first ops in
+    let here : length log + length (drop n ops) ≡ length first + length ops =
+    sym (length-append log (drop n ops)) ∙ ap length so_far ∙ length-append first ops in
     omega (arith, here, length-drop n ops, b, h)
 
-pub next_accepted : (first log ops : List Operation) (n : ℕ) (x : Operation) → IsOperation x → IsLawful (first ++ ops) → length first + length ops ≤ 131072 → n < length ops → x ≡ get_or ops n x
+pub next_accepted : (first log ops : List Operation) (n : ℕ) (x : Operation) → IsOperation x → IsLawful (first ++ ops)
+    → length first + length ops ≤ 131072 → n < length ops → x ≡ get_or ops n x
     → log ++ drop n ops ≡ first ++ ops → refusal_of log x ≡ None
-next_accepted first log ops n x o l b h e so_far = accepted-may_follow log x o (next_fits first log ops n b h so_far) (next_may_follow first log ops n x l h e so_far)
+next_accepted first log ops n x o l b h e so_far =
+    accepted-may_follow log x o (next_fits first log ops n b h so_far) (next_may_follow first log ops n x l h e so_far)
 
 -- what may follow a log that has room for it is not refused
-pub never_refused : (log : List Operation) (x : Operation) (e : Refusal) (room : ℕ) → refusal_of log x ≡ None → 0 < room → (refusal_of log x ≡ Some e) ⊎ ((e ≡ Memory) × (room ≡ 0) × (length log < 131072)) → ⊥
+pub never_refused : (log : List Operation) (x : Operation) (e : Refusal) (room : ℕ) → refusal_of log x ≡ None → 0 < room
+    → (refusal_of log x ≡ Some e) ⊎ ((e ≡ Memory) × (room ≡ 0) × (length log < 131072)) → ⊥
 never_refused log x e room n r (inl h) = cc
 never_refused log x e room n r (inr h) = omega (arith, h.1, r)
 
-pub one_more : (first log log' ops : List Operation) (n : ℕ) (x : Operation) → n < length ops → x ≡ get_or ops n x → log ++ drop n ops ≡ first ++ ops → log' ≡ log ++ x ∷ []
+pub one_more : (first log log' ops : List Operation) (n : ℕ) (x : Operation) → n < length ops → x ≡ get_or ops n x
+    → log ++ drop n ops ≡ first ++ ops → log' ≡ log ++ x ∷ []
     → log' ++ drop (n + 1) ops ≡ first ++ ops
 one_more first log log' ops n x h e so_far is =
-    ap (λ l. l ++ drop (n + 1) ops) is ∙ append_assoc log (x ∷ []) (drop (n + 1) ops) ∙ ap (λ xs. log ++ xs) (sym (rest_at ops n x h e)) ∙ so_far
+    ap (λ l. l ++ drop (n + 1) ops) is ∙ append_assoc log (x ∷ []) (drop (n + 1) ops)
+    ∙ ap (λ xs. log ++ xs) (sym (rest_at ops n x h e)) ∙ so_far
 
 pub all_added : (first log ops : List Operation) (n : ℕ) → length ops ≤ n → log ++ drop n ops ≡ first ++ ops → log ≡ first ++ ops
 all_added first log ops n h so_far = sym (append-nil log) ∙ ap (λ xs. log ++ xs) (sym (drop_all n ops h)) ∙ so_far

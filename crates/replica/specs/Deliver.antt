@@ -1,6 +1,7 @@
 -- Delivery of an operation to a replica: it is offered, by the checks in their order; and where it is integrated, what is
 -- held back settles (Roh, Jeon, Kim and Lee 2011; causal delivery).
-use Rattle.std.specs.Prelude.{ℕ, Bool, true, false, ◌==◌, ◌&&◌, nat_lt, if◌then◌else◌, Option, Some, None, Result, Ok, Err, List, [], ◌∷◌, ◌++◌, length}
+use Rattle.std.specs.Prelude.{ℕ, Bool, true, false, ◌==◌, ◌&&◌, nat_lt, if◌then◌else◌, Option, Some, None, Result, Ok, Err, List, [], ◌∷◌}
+use Rattle.std.specs.Prelude.{◌++◌, length}
 use Rattle.opid.specs.declared.refusal.Refusal.{Refusal}
 use Rattle.opid.specs.declared.refusal.Refusal.TheVariants.{OwnSite, HoldFull}
 use Rattle.opid.specs.Clocks.{entry}
@@ -32,7 +33,8 @@ unchanged outcome log held = record { outcome = outcome; log = log; held = held 
 
 -- what isn't ready is held back, unless 1,024 are
 abbrev pub hold : List Operation → List Operation → Operation → Delivered
-hold log held x = if nat_lt (length held) 1024 then record { outcome = Ok Kept; log = log; held = held ++ x ∷ [] } else unchanged (Err HoldFull) log held
+hold log held x = if nat_lt (length held) 1024 then record { outcome = Ok Kept; log = log; held = held ++ x ∷ [] }
+    else unchanged (Err HoldFull) log held
 
 abbrev pub settled : Settling → Delivered
 settled s = record { outcome = Ok (Took s.taken s.dropped); log = s.log; held = s.held }
@@ -57,7 +59,8 @@ claims_site site log x = x.site == site && nat_lt (entry (clock_of log) site) (e
 
 -- an operation is delivered to the replica of a site
 abbrev pub deliver : ℕ → List Operation → List Operation → Operation → Delivered
-deliver site log held x = if claims_site site log x then unchanged (Err OwnSite) log held else deliver_found (look_for x (log ++ held)) log held x
+deliver site log held x = if claims_site site log x then unchanged (Err OwnSite) log held
+    else deliver_found (look_for x (log ++ held)) log held x
 
 -- how many operations a delivery integrated
 abbrev pub taken_by : Delivery → ℕ

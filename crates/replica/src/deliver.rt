@@ -81,8 +81,10 @@ pub(crate) fn deliver(
     op: Op,
 ) -> Result<Delivery, Refusal>
     requires { AreReserved room log.old held.old }
-    ensures delivered { IfOk result (λ d. deliver site log.old.log held.old.ops op ≡ record { outcome = Ok d; log = log.new.log; held = held.new.ops }) }
-    ensures cause { IfErr result (λ e. ((deliver site log.old.log held.old.ops op).outcome ≡ Err e) ⊎ ((e ≡ Memory) × (room ≤ length held.old.ops))) }
+    ensures delivered { IfOk result (λ d. deliver site log.old.log held.old.ops op
+        ≡ record { outcome = Ok d; log = log.new.log; held = held.new.ops }) }
+    ensures cause { IfErr result (λ e. ((deliver site log.old.log held.old.ops op).outcome ≡ Err e)
+        ⊎ ((e ≡ Memory) × (room ≤ length held.old.ops))) }
     ensures err { OnErr result ((log.new.log ≡ log.old.log) × (held.new ≡ held.old)) }
     ensures less_room { IfOk result (λ d. AreReserved (room - taken_by d) log.new held.new) }
     ensures same_room { OnErr result (AreReserved room log.new held.new) }

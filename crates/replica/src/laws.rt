@@ -13,8 +13,10 @@ ghost use Rattle.replica.specs.Deliver.{deliver};
 /// A ready operation is refused by a log with room exactly where the log wouldn't stay lawful.
 #[tactic(auto, using(crate::proofs::Stated::laws))]
 pub fn refused_where_not_lawful()
-    ensures accepted { (log : List Operation) (x : Operation) → IsLawful log → IsOperation x → is_ready log x ≡ true → refusal_of log x ≡ None → MayFollow log x }
-    ensures refused { (log : List Operation) (x : Operation) → IsOperation x → length log < 131072 → MayFollow log x → refusal_of log x ≡ None }
+    ensures accepted { (log : List Operation) (x : Operation) → IsLawful log → IsOperation x → is_ready log x ≡ true
+        → refusal_of log x ≡ None → MayFollow log x }
+    ensures refused { (log : List Operation) (x : Operation) → IsOperation x → length log < 131072 → MayFollow log x
+        → refusal_of log x ≡ None }
 {}
 
 /// Settling ends where the log is full or nothing that is held back is ready.
@@ -26,5 +28,6 @@ pub fn settling_ends_settled()
 /// The log stays lawful, whatever is delivered.
 #[tactic(auto, using(crate::proofs::Stated::laws))]
 pub fn deliveries_keep_the_log_lawful()
-    ensures { (site : ℕ) (log held : List Operation) (x : Operation) → IsLawful log → AreOperations held → IsOperation x → IsLawful (deliver site log held x).log }
+    ensures { (site : ℕ) (log held : List Operation) (x : Operation) → IsLawful log → AreOperations held → IsOperation x
+        → IsLawful (deliver site log held x).log }
 {}

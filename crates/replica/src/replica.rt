@@ -196,7 +196,8 @@ impl Replica {
     /// log's length, or `max` is 0 or above 64; and with `Memory`. Takes the steps of `Doc::ops_from` for each.
     pub fn ops(&self, after: u32, max: u32) -> Result<Vec<Op>, Refusal>
         ensures ok { IfOk result (λ ops. part_of self.now.log after max ≡ Ok ops.items) }
-        ensures cause { IfErr result (λ e. (part_of self.now.log after max ≡ Err e) ⊎ (IsOk (part_of self.now.log after max) × (e ≡ Memory))) }
+        ensures cause { IfErr result (λ e. (part_of self.now.log after max ≡ Err e)
+            ⊎ (IsOk (part_of self.now.log after max) × (e ≡ Memory))) }
     {
         copy_part(self.alloc, self.log.doc(), after, max)
     }

@@ -13,7 +13,11 @@ pub(crate) fn append_all(log: &mut Log, ops: &[Op]) -> Result<(u32, u32), Refusa
     requires lawful { IsLawful (log.old.log ++ ops.now) }
     requires few { length log.old.log + length ops.now ≤ 131072 }
     ensures reply { IfOk result (λ r. r ≡ (length log.old.log, length log.old.log + length ops.now)) }
-    ensures grown { OnOk result (log.new ≡ record { log = log.old.log ++ ops.now; room = max log.old.room (length ops.now) - length ops.now }) }
+    ensures grown { OnOk result (log.new ≡ record {
+      log = log.old.log ++ ops.now;
+      room =
+          max log.old.room (length ops.now) - length ops.now;
+    }) }
     ensures cause { IfErr result (λ e. e ≡ Memory) }
     ensures err { OnErr result (log.new ≡ log.old) }
 {

@@ -5,7 +5,8 @@ use Rattle.std.proofs.lemmas.List.{length-append}
 use Rattle.opid.specs.Operations.{Operation}
 use Rattle.opid.specs.Delivery.{clock_of}
 use Rattle.opid.specs.Lawful.{IsLawful}
-use Rattle.opid.proofs.Orders.{Among, Each-at, Among-append, Among-append_left, Among-append_right, Among-from_Contains, Contains-from_Among}
+use Rattle.opid.proofs.Orders.{Among, Each-at, Among-append, Among-append_left, Among-append_right, Among-from_Contains}
+use Rattle.opid.proofs.Orders.{Contains-from_Among}
 use Rattle.holdback.specs.First.{NoneReady}
 use Rattle.room.specs.declared.call.Call.{Call}
 use Rattle.room.specs.declared.call.Call.TheVariants.{Join, Ins, Del, Pull, Leave, Ops, Put, Read}
@@ -54,7 +55,8 @@ received_more log held ops more r = record {
     logged x (inl a) = Among-append_left x ops more (Among-from_Contains ops x (r.logged x (Contains-from_Among log x a)))
     logged x (inr a) = Among-append_right x ops more a
 
-pub call-follows : (world : List Account) → IsWorld world → (site : ℕ) (a : Account) → (s : Stood site world a) → (t : ℕ) (c : Call) → puts c ≡ None → may_record a.state ≡ true
+pub call-follows : (world : List Account) → IsWorld world → (site : ℕ) (a : Account) → (s : Stood site world a) → (t : ℕ) (c : Call)
+    → puts c ≡ None → may_record a.state ≡ true
     → t ≤ length a.history → mark a.history ≤ t → Follows (logs_of world) a (called a t c)
 call-follows world w site a s t c p e q l = record {
   site = m.site;
@@ -69,9 +71,11 @@ call-follows world w site a s t c p e q l = record {
   held = λ y k. held_of (logs_of world) a r y (subst (Among y) m.held k);
   settled = subst (λ held. (131072 ≤ length (next a.state c).log) ⊎ NoneReady (clock_of (next a.state c).log) held) (sym m.held)
       (subst (λ l. (131072 ≤ length l) ⊎ NoneReady (clock_of l) a.state.held) (sym m.log_is) (waits r.settled));
-  received = subst (IsReceived (next a.state c).log (next a.state c).held) (sym (got_on (logs_of world) a t c r e ∙ ap (λ l. got a ++ l) (received_own a.state c p m)))
+  received = subst (IsReceived (next a.state c).log (next a.state c).held)
+      (sym (got_on (logs_of world) a t c r e ∙ ap (λ l. got a ++ l) (received_own a.state c p m)))
       (subst (λ held. IsReceived (next a.state c).log held (got a ++ m.made)) (sym m.held)
-      (subst (λ l. IsReceived l a.state.held (got a ++ m.made)) (sym m.log_is) (received_more a.state.log a.state.held (got a) m.made r.received)));
+      (subst (λ l. IsReceived l a.state.held (got a ++ m.made)) (sym m.log_is)
+      (received_more a.state.log a.state.held (got a) m.made r.received)));
 }
   where
     r : IsSiteOf (logs_of world) a
@@ -84,6 +88,8 @@ call-follows world w site a s t c p e q l = record {
       limit = Each-at (λ b. length b.log ≤ 131072) (logs_of world) (log_of a) (w.logs).limit (log_there site world a s);
     }) p
 
-    waits : (131072 ≤ length a.state.log) ⊎ NoneReady (clock_of a.state.log) a.state.held → (131072 ≤ length (a.state.log ++ m.made)) ⊎ NoneReady (clock_of (a.state.log ++ m.made)) a.state.held
+    waits : (131072 ≤ length a.state.log) ⊎ NoneReady (clock_of a.state.log) a.state.held
+        → (131072 ≤ length (a.state.log ++ m.made)) ⊎ NoneReady (clock_of (a.state.log ++ m.made)) a.state.held
     waits (inl f) = inl (omega (arith, f, length-append a.state.log m.made))
-    waits (inr n) = inr (waits_on (logs_of world) w.logs a.state.site a.state.log (log_there site world a s) r.consistent.site m.made m.own a.state.held (held_of (logs_of world) a r) n)
+    waits (inr n) = inr (waits_on (logs_of world) w.logs a.state.site a.state.log
+        (log_there site world a s) r.consistent.site m.made m.own a.state.held (held_of (logs_of world) a r) n)

@@ -1,5 +1,6 @@
 -- An operation that is carried may follow.
-use Rattle.std.proofs.Common.{◌≡◌, ℕ, ◌+◌, ◌≤◌, true, Result, Ok, Err, List, [], ◌∷◌, ◌++◌, length, ap, ◌∙◌, sym, subst, arith, inl, inr, ◌⊎◌}
+use Rattle.std.proofs.Common.{◌≡◌, ℕ, ◌+◌, ◌≤◌, true, Result, Ok, Err, List, [], ◌∷◌, ◌++◌, length, ap, ◌∙◌, sym, subst, arith, inl, inr}
+use Rattle.std.proofs.Common.{◌⊎◌}
 use Rattle.std.specs.Prelude.{Contains, if◌then◌else◌}
 use Rattle.opid.specs.declared.refusal.Refusal.{Refusal}
 use Rattle.opid.specs.declared.refusal.Refusal.TheVariants.{HistoryFull}
@@ -7,7 +8,8 @@ use Rattle.opid.specs.Operations.{Operation}
 use Rattle.opid.specs.Delivery.{clock_of}
 use Rattle.opid.specs.Lawful.{IsLawful}
 use Rattle.opid.specs.Strong.{SiteLog}
-use Rattle.opid.proofs.Orders.{Among, Each-at, Among-append, Among-append_left, Among-append_right, Among-from_Contains, Contains-from_Among}
+use Rattle.opid.proofs.Orders.{Among, Each-at, Among-append, Among-append_left, Among-append_right, Among-from_Contains}
+use Rattle.opid.proofs.Orders.{Contains-from_Among}
 use Rattle.opid.proofs.Worlds.{Of, AreOf}
 use Rattle.holdback.specs.First.{NoneReady}
 use Rattle.replica.specs.declared.delivery.Delivery.{Delivery}
@@ -47,7 +49,8 @@ accepted-taken (Ok Kept) x y a e = inl e
 accepted-taken (Ok Again) x y a e = inl e
 accepted-taken (Err r) x y a e = absurd a
 
-received_carried : (logs : List SiteLog) (S : State) (x : Operation) (ops : List Operation) (d : Delivered) → Carries logs S.site S.log S.held x d → IsReceived S.log S.held ops → IsReceived d.log d.held (ops ++ taken_in d.outcome x)
+received_carried : (logs : List SiteLog) (S : State) (x : Operation) (ops : List Operation) (d : Delivered)
+    → Carries logs S.site S.log S.held x d → IsReceived S.log S.held ops → IsReceived d.log d.held (ops ++ taken_in d.outcome x)
 received_carried logs S x ops d c r = record {
   stay = λ y k. stays y (Among-append y ops (taken_in d.outcome x) (Among-from_Contains (ops ++ taken_in d.outcome x) y k));
   logged = λ y k. comes y (inl (Among-from_Contains d.log y k));
@@ -73,27 +76,40 @@ received_carried logs S x ops d c r = record {
     comes : (y : Operation) → In d.log d.held y → Contains (ops ++ taken_in d.outcome x) y
     comes y i = elim (c.come y i) [
       | inl k ↦ Contains-from_Among (ops ++ taken_in d.outcome x) y (Among-append_left y ops (taken_in d.outcome x) (in_ops y k))
-      | inr t ↦ Contains-from_Among (ops ++ taken_in d.outcome x) y (Among-append_right y ops (taken_in d.outcome x) (accepted-taken d.outcome x y t.0 t.1))
+      | inr t ↦ Contains-from_Among (ops ++ taken_in d.outcome x) y
+          (Among-append_right y ops (taken_in d.outcome x) (accepted-taken d.outcome x y t.0 t.1))
     ]
 
 abbrev pub put_one : Operation → Call
 put_one x = Put (x ∷ [])
 
-pub put-answer : (S : State) (x : Operation) → may_record S ≡ true → answer S (put_one x) ≡ replies.Put (outcome_of (deliver S.site S.log S.held x).outcome ∷ [])
+pub put-answer : (S : State) (x : Operation) → may_record S ≡ true
+    → answer S (put_one x) ≡ replies.Put (outcome_of (deliver S.site S.log S.held x).outcome ∷ [])
 put-answer S x e = ap (λ b. if b then recorded_answer S (put_one x) else replies.No HistoryFull) e
 
-put-next : (S : State) (x : Operation) → may_record S ≡ true → next S (put_one x) ≡ record S { log = (deliver S.site S.log S.held x).log; held = (deliver S.site S.log S.held x).held; count = S.count + 1 }
+put-next : (S : State) (x : Operation) → may_record S ≡ true
+    → next S (put_one x) ≡ record S {
+      log = (deliver S.site S.log S.held x).log;
+      held = (deliver S.site S.log S.held x).held;
+      count =
+          S.count + 1;
+    }
 put-next S x e = next_is S (put_one x) e
 
-put-received : (S : State) (x : Operation) → may_record S ≡ true → received S (put_one x) ≡ taken_in (deliver S.site S.log S.held x).outcome x
+put-received : (S : State) (x : Operation) → may_record S ≡ true
+    → received S (put_one x) ≡ taken_in (deliver S.site S.log S.held x).outcome x
 put-received S x e = ap (taken_of (x ∷ [])) (put-answer S x e)
 
-pub carry-carries : (world : List Account) → IsWorld world → (site : ℕ) (a : Account) → (s : Stood site world a) → (x : Operation) → Of (logs_of world) x → Carries (logs_of world) a.state.site a.state.log a.state.held x (deliver a.state.site a.state.log a.state.held x)
+pub carry-carries : (world : List Account) → IsWorld world → (site : ℕ) (a : Account) → (s : Stood site world a) → (x : Operation)
+    → Of (logs_of world) x → Carries (logs_of world) a.state.site a.state.log a.state.held x
+    (deliver a.state.site a.state.log a.state.held x)
 carry-carries world w site a s x o =
     let r : IsSiteOf (logs_of world) a = Each-at (IsSiteOf (logs_of world)) world a w.rooms (room_there site world a s) in
-    deliver-carries (logs_of world) w.logs a.state.site a.state.log a.state.held (record { here = log_there site world a s; held_of = held_of (logs_of world) a r; settled = r.settled }) x o
+    deliver-carries (logs_of world) w.logs a.state.site a.state.log a.state.held
+    (record { here = log_there site world a s; held_of = held_of (logs_of world) a r; settled = r.settled }) x o
 
-pub carry-follows : (world : List Account) → IsWorld world → (site : ℕ) (a : Account) → (s : Stood site world a) → (t : ℕ) (x : Operation) → Of (logs_of world) x → may_record a.state ≡ true
+pub carry-follows : (world : List Account) → IsWorld world → (site : ℕ) (a : Account) → (s : Stood site world a) → (t : ℕ) (x : Operation)
+    → Of (logs_of world) x → may_record a.state ≡ true
     → t ≤ length a.history → mark a.history ≤ t → Follows (logs_of world) a (called a t (put_one x))
 carry-follows world w site a s t x o e q l = record {
   site = ap (λ (S : State). S.site) n;
@@ -108,8 +124,10 @@ carry-follows world w site a s t x o e q l = record {
   marked = marked_on a t (put_one x) e q;
   held = subst (λ (S : State). AreOf (logs_of world) S.held) (sym n) c.held_of;
   settled = subst (λ (S : State). (131072 ≤ length S.log) ⊎ NoneReady (clock_of S.log) S.held) (sym n) c.settled;
-  received = subst (IsReceived (next a.state (put_one x)).log (next a.state (put_one x)).held) (sym (got_on (logs_of world) a t (put_one x) r e ∙ ap (λ l. got a ++ l) (put-received a.state x e)))
-      (subst (λ (S : State). IsReceived S.log S.held (got a ++ taken_in d.outcome x)) (sym n) (received_carried (logs_of world) a.state x (got a) d c r.received));
+  received = subst (IsReceived (next a.state (put_one x)).log (next a.state (put_one x)).held)
+      (sym (got_on (logs_of world) a t (put_one x) r e ∙ ap (λ l. got a ++ l) (put-received a.state x e)))
+      (subst (λ (S : State). IsReceived S.log S.held (got a ++ taken_in d.outcome x)) (sym n)
+      (received_carried (logs_of world) a.state x (got a) d c r.received));
 }
   where
     r : IsSiteOf (logs_of world) a

@@ -6,7 +6,8 @@ use Rattle.opid.specs.Operations.{Operation}
 use Rattle.opid.specs.Delivery.{clock_of}
 use Rattle.opid.specs.Lawful.{IsLawful}
 use Rattle.opid.specs.Strong.{SiteLog, AreCountedFrom, IsOfOne}
-use Rattle.opid.proofs.Orders.{Among, Each-at, Each-by, Among-append, Among-append_left, Among-append_right, Among-from_Contains, Contains-from_Among}
+use Rattle.opid.proofs.Orders.{Among, Each-at, Each-by, Among-append, Among-append_left, Among-append_right, Among-from_Contains}
+use Rattle.opid.proofs.Orders.{Contains-from_Among}
 use Rattle.opid.proofs.Worlds.{Of, AreOf}
 use Rattle.holdback.specs.First.{NoneReady}
 use Rattle.room.specs.declared.call.Call.{Call}
@@ -54,15 +55,18 @@ there_at front back a = Among-append_right a front (a ∷ back) (inl refl)
 pub room_there : (site : ℕ) (world : List Account) (a : Account) → (s : Stood site world a) → Among a world
 room_there site world a s = subst (Among a) (sym s.world_is) (there_at s.front s.back a)
 
-pub log_there : (site : ℕ) (world : List Account) (a : Account) → (s : Stood site world a) → Among (site_log a.state.site a.state.log) (logs_of world)
+pub log_there : (site : ℕ) (world : List Account) (a : Account) → (s : Stood site world a)
+    → Among (site_log a.state.site a.state.log) (logs_of world)
 log_there site world a s =
     subst (Among (log_of a)) (sym (ap (λ w. logs_of w) s.world_is ∙ logs-append s.front (a ∷ s.back)))
     (Among-append_right (log_of a) (logs_of s.front) (log_of a ∷ logs_of s.back) (inl refl))
 
-pub replaced : (site : ℕ) (world : List Account) (a new : Account) → IsWorld world → (s : Stood site world a) → Follows (logs_of world) a new → IsWorld (with_room site new world)
+pub replaced : (site : ℕ) (world : List Account) (a new : Account) → IsWorld world → (s : Stood site world a)
+    → Follows (logs_of world) a new → IsWorld (with_room site new world)
 replaced site world a new w s f = record {
   logs = logs-grown (logs_of world) (logs_of (with_room site new world)) w.logs g f.lawful f.limit f.own_or_of f.counted;
-  rooms = Each-by (IsSiteOf (logs_of (with_room site new world))) (with_room site new world) (λ c i. room c (Among-append c s.front (new ∷ s.back) (subst (Among c) (s.with_new new) i)));
+  rooms = Each-by (IsSiteOf (logs_of (with_room site new world))) (with_room site new world)
+      (λ c i. room c (Among-append c s.front (new ∷ s.back) (subst (Among c) (s.with_new new) i)));
 }
   where
     g : Grow (logs_of world) (logs_of (with_room site new world))
@@ -82,7 +86,8 @@ replaced site world a new w s f = record {
     old_room c i = let r : IsSiteOf (logs_of world) c = Each-at (IsSiteOf (logs_of world)) world c w.rooms i in record {
       consistent = r.consistent;
       marked = r.marked;
-      held = λ x k. Of-to (logs_of (with_room site new world)) x (Of-grown (logs_of world) (logs_of (with_room site new world)) g x (Of-from (logs_of world) x (r.held x k)));
+      held = λ x k. Of-to (logs_of (with_room site new world)) x
+          (Of-grown (logs_of world) (logs_of (with_room site new world)) g x (Of-from (logs_of world) x (r.held x k)));
       settled = r.settled;
       received = r.received;
     }
@@ -91,7 +96,8 @@ replaced site world a new w s f = record {
     new_room = record {
       consistent = f.consistent;
       marked = f.marked;
-      held = λ x k. Of-to (logs_of (with_room site new world)) x (Of-grown (logs_of world) (logs_of (with_room site new world)) g x (f.held x (Among-from_Contains new.state.held x k)));
+      held = λ x k. Of-to (logs_of (with_room site new world)) x
+          (Of-grown (logs_of world) (logs_of (with_room site new world)) g x (f.held x (Among-from_Contains new.state.held x k)));
       settled = f.settled;
       received = f.received;
     }
@@ -117,12 +123,15 @@ mark-push : (n : ℕ) (h : List (ℕ × Call)) (e : ℕ × Call) → mark_from n
 mark-push n [] e = refl
 mark-push n (f ∷ h) e = mark-push (f.0 + 1) h e
 
-pub marked_on : (a : Account) (t : ℕ) (c : Call) → may_record a.state ≡ true → t ≤ length a.history → mark (called a t c).history ≤ length (called a t c).history
+pub marked_on : (a : Account) (t : ℕ) (c : Call) → may_record a.state ≡ true → t ≤ length a.history
+    → mark (called a t c).history ≤ length (called a t c).history
 marked_on a t c e b =
     subst (λ (h : List (ℕ × Call)). mark h ≤ length h) (sym (recorded_is a t c e))
     (omega (arith, b, mark-push 0 a.history (t, c), length-append a.history ((t, c) ∷ [])))
 
-pub got_on : (logs : List SiteLog) (a : Account) (t : ℕ) (c : Call) → IsSiteOf logs a → may_record a.state ≡ true → got (called a t c) ≡ got a ++ received a.state c
+pub got_on : (logs : List SiteLog) (a : Account) (t : ℕ) (c : Call) → IsSiteOf logs a → may_record a.state ≡ true
+    → got (called a t c) ≡ got a ++ received a.state c
 got_on logs a t c r e =
-    ap (λ h. got (record { opening = a.opening; history = h; state = a.state })) (recorded_is a t c e) ∙ got-push a.opening.log a.opening a.history (t, c)
+    ap (λ h. got (record { opening = a.opening; history = h; state = a.state })) (recorded_is a t c e)
+    ∙ got-push a.opening.log a.opening a.history (t, c)
     ∙ ap (λ S. got a ++ received S c) r.consistent.replays

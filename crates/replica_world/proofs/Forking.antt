@@ -30,15 +30,18 @@ room-forked logs b a r = record {
 min_right : (m n : ℕ) → min m n ≤ n
 min_right m n = grind (arith, nat_tests)
 
-pub forked : (site : ℕ) (world : List Account) (a : Account) → IsWorld world → Stood site world a → (new n : ℕ) → new < 32 → Each (λ c. c.site ≢ new) (logs_of world)
+pub forked : (site : ℕ) (world : List Account) (a : Account) → IsWorld world → Stood site world a → (new n : ℕ) → new < 32
+    → Each (λ c. c.site ≢ new) (logs_of world)
     → IsWorld (world ++ account_over (room_over new (take n a.state.log)) ∷ [])
 forked site world a w s new n small d = record {
   logs = subst AreLogs (sym logs_are) (logs-forked (logs_of world) w.logs (log_of a) (log_there site world a s) new n d);
   rooms = subst (λ logs. Each (IsSiteOf logs) (world ++ b ∷ [])) (sym logs_are)
       (Each-append (IsSiteOf (logs_of world ++ log_of b ∷ [])) world (b ∷ [])
-      (Each-by (IsSiteOf (logs_of world ++ log_of b ∷ [])) world (λ c i. room-forked (logs_of world) (log_of b) c (Each-at (IsSiteOf (logs_of world)) world c w.rooms i))) (
+      (Each-by (IsSiteOf (logs_of world ++ log_of b ∷ [])) world
+      (λ c i. room-forked (logs_of world) (log_of b) c (Each-at (IsSiteOf (logs_of world)) world c w.rooms i))) (
         record {
-          consistent = consistent_over new (take n a.state.log) small (IsLawful-take a.state.log n there.lawful) (omega (arith, length-take n a.state.log, min_right n (length a.state.log), there.short));
+          consistent = consistent_over new (take n a.state.log) small (IsLawful-take a.state.log n there.lawful)
+              (omega (arith, length-take n a.state.log, min_right n (length a.state.log), there.short));
           marked = omega arith;
           held = λ x k. absurd (nothing x (Among-from_Contains [] x k));
           settled = inr tt;

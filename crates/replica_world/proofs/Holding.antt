@@ -1,5 +1,6 @@
 -- What follows of a world, how it begins, and what it answers.
-use Rattle.std.proofs.Common.{◌≡◌, ◌≢◌, ℕ, ◌+◌, ◌<◌, ◌≤◌, zero, suc, Bool, true, false, not, Option, Some, None, Result, Ok, Err, List, [], ◌∷◌, length, map, filter, refl, ap, ◌∙◌, sym, subst, arith, inl, inr, ◌⊎◌}
+use Rattle.std.proofs.Common.{◌≡◌, ◌≢◌, ℕ, ◌+◌, ◌<◌, ◌≤◌, zero, suc, Bool, true, false, not, Option, Some, None, Result, Ok, Err, List, []}
+use Rattle.std.proofs.Common.{◌∷◌, length, map, filter, refl, ap, ◌∙◌, sym, subst, arith, inl, inr, ◌⊎◌}
 use mathlib.Core.Path.{ap₂}
 use Rattle.std.specs.Prelude.{Contains, if◌then◌else◌, slice_get, cond}
 use Rattle.std.specs.List.{AllByRecursion as Each, list_any}
@@ -73,15 +74,18 @@ whole world w a i f = whole_got (logs_of world) (w.logs).lawful (w.logs).world (
     of y (inl k) = (log_of a, log_in world a i, Among-from_Contains a.state.log y k)
     of y (inr k) = held_of (logs_of world) a r y (Among-from_Contains a.state.held y k)
 
-    waiting : (131072 ≤ length a.state.log) ⊎ NoneReady (clock_of a.state.log) a.state.held → Each (λ y. is_ready a.state.log y ≡ false) a.state.held
+    waiting : (131072 ≤ length a.state.log) ⊎ NoneReady (clock_of a.state.log) a.state.held
+        → Each (λ y. is_ready a.state.log y ≡ false) a.state.held
     waiting (inl full) = absurd (omega (arith, f, full))
     waiting (inr n) = n
 
 -- ---- logs with the same operations read the same
 
-deleted_by : (ops : List Operation) (s : Stamp) → is_deleted ops s ≡ true → (x : Operation) × Among x ops × (list_any (λ t. is_same s t) (targets_of x.kind) ≡ true)
+deleted_by : (ops : List Operation) (s : Stamp) → is_deleted ops s ≡ true
+    → (x : Operation) × Among x ops × (list_any (λ t. is_same s t) (targets_of x.kind) ≡ true)
 deleted_by [] s e = cc
-deleted_by (x ∷ ops) s e = go (or_cases _ _ (sym (list_any-append (λ (t : Stamp). is_same s t) (targets_of x.kind) (targets ops)) ∙ e)) (deleted_by ops s)
+deleted_by (x ∷ ops) s e = go (or_cases _ _ (sym (list_any-append (λ (t : Stamp). is_same s t) (targets_of x.kind) (targets ops)) ∙ e))
+    (deleted_by ops s)
   where
     go : (list_any (λ t. is_same s t) (targets_of x.kind) ≡ true) ⊎ (list_any (λ t. is_same s t) (targets ops) ≡ true)
         → (is_deleted ops s ≡ true → (y : Operation) × Among y ops × (list_any (λ t. is_same s t) (targets_of y.kind) ≡ true))
@@ -89,10 +93,13 @@ deleted_by (x ∷ ops) s e = go (or_cases _ _ (sym (list_any-append (λ (t : Sta
     go (inl h) ih = (x, inl refl, h)
     go (inr h) ih = let r = ih h in (r.0, inr r.1, r.2)
 
-by_deleted : (ops : List Operation) (s : Stamp) (x : Operation) → Among x ops → list_any (λ t. is_same s t) (targets_of x.kind) ≡ true → is_deleted ops s ≡ true
+by_deleted : (ops : List Operation) (s : Stamp) (x : Operation) → Among x ops → list_any (λ t. is_same s t) (targets_of x.kind) ≡ true
+    → is_deleted ops s ≡ true
 by_deleted [] s x i e = absurd i
-by_deleted (y ∷ ops) s x (inl q) e = list_any-append (λ (t : Stamp). is_same s t) (targets_of y.kind) (targets ops) ∙ or_left _ _ (subst (λ (z : Operation). list_any (λ t. is_same s t) (targets_of z.kind) ≡ true) q e)
-by_deleted (y ∷ ops) s x (inr i) e = list_any-append (λ (t : Stamp). is_same s t) (targets_of y.kind) (targets ops) ∙ or_right (list_any (λ t. is_same s t) (targets_of y.kind)) _ (by_deleted ops s x i e)
+by_deleted (y ∷ ops) s x (inl q) e = list_any-append (λ (t : Stamp). is_same s t) (targets_of y.kind) (targets ops)
+    ∙ or_left _ _ (subst (λ (z : Operation). list_any (λ t. is_same s t) (targets_of z.kind) ≡ true) q e)
+by_deleted (y ∷ ops) s x (inr i) e = list_any-append (λ (t : Stamp). is_same s t) (targets_of y.kind) (targets ops)
+    ∙ or_right (list_any (λ t. is_same s t) (targets_of y.kind)) _ (by_deleted ops s x i e)
 
 deleted-part : (part whole : List Operation) → Parts part whole → (s : Stamp) → is_deleted part s ≡ true → is_deleted whole s ≡ true
 deleted-part part whole h s e = let d = deleted_by part s e in by_deleted whole s d.0 (h d.0 d.1) d.2
@@ -109,7 +116,8 @@ filter-agree p q (x ∷ xs) h = ap₂ (λ b r. cond b (x ∷ r) r) (h x) (filter
 pub same_reading : (a b : List Operation) → IsLawful a → IsLawful b → Parts a b → Parts b a → reading a ≡ reading b
 same_reading a b l m f g =
     ap (map (λ (x : Insertion). x.ch))
-    (filter-agree (λ x. not (is_deleted a x.stamp)) (λ x. not (is_deleted b x.stamp)) (all a) (λ x. ap not (same_truth (is_deleted a x.stamp) (is_deleted b x.stamp) (deleted-part a b f x.stamp) (deleted-part b a g x.stamp)))
+    (filter-agree (λ x. not (is_deleted a x.stamp)) (λ x. not (is_deleted b x.stamp)) (all a)
+    (λ x. ap not (same_truth (is_deleted a x.stamp) (is_deleted b x.stamp) (deleted-part a b f x.stamp) (deleted-part b a g x.stamp)))
     ∙ ap (filter (λ x. not (is_deleted b x.stamp))) (all-same a b (IsSound-lawful a l) (IsSound-lawful b m) (part a b f) (part b a g)))
   where
     part : (c d : List Operation) → Parts c d → IsPart c d
@@ -150,13 +158,21 @@ world_converges world w = record {
 
 -- ---- the beginning
 
-each_empty : (P : SiteLog → Type 0) (site n : ℕ) → ((i : ℕ) → site ≤ i → i < site + n → P (site_log i [])) → Each P (logs_of (empty_rooms site n))
+each_empty : (P : SiteLog → Type 0) (site n : ℕ) → ((i : ℕ) → site ≤ i → i < site + n → P (site_log i []))
+    → Each P (logs_of (empty_rooms site n))
 each_empty P site zero f = tt
-each_empty P site (suc n) f = (f site (omega arith) (omega arith), each_empty P (site + 1) n (λ i a b. f i (omega (arith, a)) (omega (arith, b))))
+each_empty P site (suc n) f = (
+  f site (omega arith) (omega arith),
+  each_empty P (site + 1) n (λ i a b. f i (omega (arith, a)) (omega (arith, b))),
+)
 
-each_room : (P : Account → Type 0) (site n : ℕ) → ((i : ℕ) → site ≤ i → i < site + n → P (account_over (empty_room i))) → Each P (empty_rooms site n)
+each_room : (P : Account → Type 0) (site n : ℕ) → ((i : ℕ) → site ≤ i → i < site + n → P (account_over (empty_room i)))
+    → Each P (empty_rooms site n)
 each_room P site zero f = tt
-each_room P site (suc n) f = (f site (omega arith) (omega arith), each_room P (site + 1) n (λ i a b. f i (omega (arith, a)) (omega (arith, b))))
+each_room P site (suc n) f = (
+  f site (omega arith) (omega arith),
+  each_room P (site + 1) n (λ i a b. f i (omega (arith, a)) (omega (arith, b))),
+)
 
 differ : (site n : ℕ) → SitesDiffer (logs_of (empty_rooms site n))
 differ site zero = tt
@@ -192,7 +208,8 @@ told (Ok Kept) h = tt
 told (Ok Again) h = tt
 told (Err e) h = h
 
-carried-tells : (world : List Account) → IsWorld world → (start to n : ℕ) (o p : Option Account) → room_of start world ≡ o → room_of to world ≡ p → TellsCarried (carry_to to o p n world).reply
+carried-tells : (world : List Account) → IsWorld world → (start to n : ℕ) (o p : Option Account) → room_of start world ≡ o
+    → room_of to world ≡ p → TellsCarried (carry_to to o p n world).reply
 carried-tells world w start to n None p e f = inl refl
 carried-tells world w start to n (Some a) None e f = inl refl
 carried-tells world w start to n (Some a) (Some b) e f = go (slice_get a.state.log n) refl
@@ -202,10 +219,12 @@ carried-tells world w start to n (Some a) (Some b) e f = go (slice_get a.state.l
     go (Some x) q = by (may_record b.state) refl
       where
         c : Carries (logs_of world) b.state.site b.state.log b.state.held x (deliver b.state.site b.state.log b.state.held x)
-        c = carry-carries world w to b (stood to world b f) x (log_of a, log_there start world a (stood start world a e), in_log_at a.state.log n x q)
+        c = carry-carries world w to b (stood to world b f) x
+            (log_of a, log_there start world a (stood start world a e), in_log_at a.state.log n x q)
 
         by : (t : Bool) → may_record b.state ≡ t → TellsNoLoss (answer b.state (put_one x))
-        by true m = subst TellsNoLoss (sym (put-answer b.state x m)) (told (deliver b.state.site b.state.log b.state.held x).outcome c.outcome, tt)
+        by true m = subst TellsNoLoss (sym (put-answer b.state x m))
+            (told (deliver b.state.site b.state.log b.state.held x).outcome c.outcome, tt)
         by false m = subst TellsNoLoss (sym (ap (λ t. if t then recorded_answer b.state (put_one x) else replies.No HistoryFull) m)) refl
 
 pub loses_nothing : (world : List Account) → IsWorld world → (e : Event) → LosesNothing e (step world e).reply

@@ -1,5 +1,6 @@
 -- What is found among the identifiers of a site, by halves or along them.
-use Rattle.std.proofs.Common.{◌≡◌, ℕ, zero, suc, ◌-◌, ◌<◌, ◌≤◌, inl, inr, Bool, true, false, cond, eqb, eqb-true, eq-eqb, Some, None, List, [], ◌∷◌, ◌++◌, length, get_or, refl, ◌∙◌, sym, subst, arith, nat_cmp, Less, Equal, Greater}
+use Rattle.std.proofs.Common.{◌≡◌, ℕ, zero, suc, ◌-◌, ◌<◌, ◌≤◌, inl, inr, Bool, true, false, cond, eqb, eqb-true, eq-eqb, Some, None, List}
+use Rattle.std.proofs.Common.{[], ◌∷◌, ◌++◌, length, get_or, refl, ◌∙◌, sym, subst, arith, nat_cmp, Less, Equal, Greater}
 use Rattle.std.specs.Ordering.{ordering_index}
 use Rattle.std.specs.List.{AllByRecursion as Each}
 use Rattle.std.specs.List.Sorted.{IsNonDecreasingBy, IsPartitionPoint}
@@ -27,14 +28,16 @@ Each-get P (x ∷ xs) zero d h l = h.0
 Each-get P (x ∷ xs) (suc k) d h l = Each-get P xs k d h.1 (omega arith)
 
 -- the sum at a place names what stands there
-pub find_id-at : (ids : List (ℕ × ℕ)) (k sum : ℕ) (d : ℕ × ℕ) → AreRising ids → k < length ids → (get_or ids k d).0 ≡ sum → find_id sum ids ≡ Some (get_or ids k d).1
+pub find_id-at : (ids : List (ℕ × ℕ)) (k sum : ℕ) (d : ℕ × ℕ) → AreRising ids → k < length ids → (get_or ids k d).0 ≡ sum
+    → find_id sum ids ≡ Some (get_or ids k d).1
 find_id-at [] k sum d r l e = absurd (omega arith)
 find_id-at (id ∷ ids) zero sum d r l e = cond-true _ _ _ (eq-eqb id.0 sum e)
 find_id-at (id ∷ ids) (suc k) sum d r l e =
     let below : id.0 < (get_or ids k d).0 = Each-get (λ (i : ℕ × ℕ). id.0 < i.0) ids k d r.0 (omega arith) in
     cond-false _ _ _ (eqb-differs id.0 sum (λ q. omega (arith, q, e, below))) ∙ find_id-at ids k sum d r.1 (omega arith) e
 
-find_id-none : (ids : List (ℕ × ℕ)) (sum : ℕ) → ((k : ℕ) (d : ℕ × ℕ) → k < length ids → (get_or ids k d).0 ≡ sum → ⊥) → find_id sum ids ≡ None
+find_id-none : (ids : List (ℕ × ℕ)) (sum : ℕ) → ((k : ℕ) (d : ℕ × ℕ) → k < length ids → (get_or ids k d).0 ≡ sum → ⊥)
+    → find_id sum ids ≡ None
 find_id-none [] sum h = refl
 find_id-none (id ∷ ids) sum h =
     cond-false _ _ _ (eqb-differs id.0 sum (λ e. h 0 id (omega arith) e)) ∙ find_id-none ids sum (λ k d l e. h (suc k) d (omega arith) e)
@@ -60,11 +63,13 @@ rises (id ∷ ids) (suc i) zero d r l m = absurd (omega arith)
 rises (id ∷ ids) (suc i) (suc j) d r l m = rises ids i j d r.1 (omega arith) (omega arith)
 
 -- what a search by halves finds
-pub halves-found : (ids : List (ℕ × ℕ)) (k sum : ℕ) (d : ℕ × ℕ) → AreRising ids → k < length ids → ((e : ℕ × ℕ) → nat_cmp (get_or ids k e).0 sum ≡ Equal) → Some (get_or ids k d).1 ≡ find_id sum ids
+pub halves-found : (ids : List (ℕ × ℕ)) (k sum : ℕ) (d : ℕ × ℕ) → AreRising ids → k < length ids
+    → ((e : ℕ × ℕ) → nat_cmp (get_or ids k e).0 sum ≡ Equal) → Some (get_or ids k d).1 ≡ find_id sum ids
 halves-found ids k sum d r l h = sym (find_id-at ids k sum d r l (equal_from (get_or ids k d).0 sum (h d)))
 
 pub halves-none : (ids : List (ℕ × ℕ)) (k sum : ℕ) → AreRising ids
-    → (IsNonDecreasingBy (λ (i : ℕ × ℕ). ordering_index (nat_cmp i.0 sum)) ids → IsPartitionPoint (λ (i : ℕ × ℕ). nat_cmp i.0 sum ≡ Less) (λ (i : ℕ × ℕ). nat_cmp i.0 sum ≡ Greater) ids k)
+    → (IsNonDecreasingBy (λ (i : ℕ × ℕ). ordering_index (nat_cmp i.0 sum)) ids
+    → IsPartitionPoint (λ (i : ℕ × ℕ). nat_cmp i.0 sum ≡ Less) (λ (i : ℕ × ℕ). nat_cmp i.0 sum ≡ Greater) ids k)
     → None ≡ find_id sum ids
 halves-none ids k sum r h =
     let parts = h (λ i j d l m. index_rises (get_or ids i d).0 (get_or ids j d).0 sum (rises ids i j d r l m)) in
@@ -82,7 +87,8 @@ pub IsGreatest-last : (ids : List (ℕ × ℕ)) (d : ℕ × ℕ) → AreRising i
 IsGreatest-last ids d r l = record {
   elem = (get_or ids (length ids - 1) d).1;
   found = find_id-at ids (length ids - 1) (get_or ids (length ids - 1) d).0 d r (omega arith) refl;
-  above = Each-by_place (λ i. i.0 ≤ (get_or ids (length ids - 1) d).0) ids d (λ k m. rises ids k (length ids - 1) d r (omega arith) (omega arith));
+  above = Each-by_place (λ i. i.0 ≤ (get_or ids (length ids - 1) d).0) ids d
+      (λ k m. rises ids k (length ids - 1) d r (omega arith) (omega arith));
 }
 
 -- one identifier more
@@ -90,15 +96,18 @@ pub find_id-kept : (ids : List (ℕ × ℕ)) (s k : ℕ) (id : ℕ × ℕ) → f
 find_id-kept [] s k id h = cc
 find_id-kept (i ∷ ids) s k id h = go (eqb i.0 s) (find_id-kept ids s k id) h
   where
-    go : (t : Bool) → (find_id s ids ≡ Some k → find_id s (ids ++ id ∷ []) ≡ Some k) → cond t (Some i.1) (find_id s ids) ≡ Some k → cond t (Some i.1) (find_id s (ids ++ id ∷ [])) ≡ Some k
+    go : (t : Bool) → (find_id s ids ≡ Some k → find_id s (ids ++ id ∷ []) ≡ Some k) → cond t (Some i.1) (find_id s ids) ≡ Some k
+        → cond t (Some i.1) (find_id s (ids ++ id ∷ [])) ≡ Some k
     go true ih e = e
     go false ih e = ih e
 
-pub find_id-push : (ids : List (ℕ × ℕ)) (s : ℕ) (id : ℕ × ℕ) → find_id s ids ≡ None → find_id s (ids ++ id ∷ []) ≡ cond (eqb id.0 s) (Some id.1) None
+pub find_id-push : (ids : List (ℕ × ℕ)) (s : ℕ) (id : ℕ × ℕ) → find_id s ids ≡ None
+    → find_id s (ids ++ id ∷ []) ≡ cond (eqb id.0 s) (Some id.1) None
 find_id-push [] s id h = refl
 find_id-push (i ∷ ids) s id h = go (eqb i.0 s) (find_id-push ids s id) h
   where
-    go : (t : Bool) → (find_id s ids ≡ None → find_id s (ids ++ id ∷ []) ≡ cond (eqb id.0 s) (Some id.1) None) → cond t (Some i.1) (find_id s ids) ≡ None → cond t (Some i.1) (find_id s (ids ++ id ∷ [])) ≡ cond (eqb id.0 s) (Some id.1) None
+    go : (t : Bool) → (find_id s ids ≡ None → find_id s (ids ++ id ∷ []) ≡ cond (eqb id.0 s) (Some id.1) None)
+        → cond t (Some i.1) (find_id s ids) ≡ None → cond t (Some i.1) (find_id s (ids ++ id ∷ [])) ≡ cond (eqb id.0 s) (Some id.1) None
     go true ih e = cc
     go false ih e = ih e
 

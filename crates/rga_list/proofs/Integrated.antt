@@ -1,5 +1,7 @@
 -- What holds of the list after an insertion.
-use Rattle.std.proofs.Common.{◌≡◌, ◌≢◌, ℕ, ◌+◌, ◌<◌, ◌≤◌, ◌⊎◌, inl, inr, Bool, true, false, cond, eqb, eqb-true, eq-eqb, Option, Some, None, List, [], ◌∷◌, ◌++◌, map, length, get_or, set, refl, ap, ◌∙◌, sym, subst, arith, IfSome, length-append, length-set, get_or-set_other, get_or-set_same}
+use Rattle.std.proofs.Common.{◌≡◌, ◌≢◌, ℕ, ◌+◌, ◌<◌, ◌≤◌, ◌⊎◌, inl, inr, Bool, true, false, cond, eqb, eqb-true, eq-eqb, Option, Some, None}
+use Rattle.std.proofs.Common.{List, [], ◌∷◌, ◌++◌, map, length, get_or, set, refl, ap, ◌∙◌, sym, subst, arith, IfSome, length-append}
+use Rattle.std.proofs.Common.{length-set, get_or-set_other, get_or-set_same}
 use mathlib.Core.Path.{ap₂}
 use Rattle.std.specs.Prelude.{option_and_then}
 use Rattle.std.specs.List.{AllByRecursion as Each}
@@ -12,7 +14,8 @@ use Rattle.opid.proofs.Order.{is_same-refl}
 use Rattle.rga_list.specs.declared.links.Node.{Node}
 use Rattle.rga_list.specs.Entries.{Entry, has_stamp, elem_of, placed, elem_before, IsAboveItsSite, parent_refusal}
 use Rattle.rga_list.specs.Rows.{Row, find_id}
-use Rattle.rga_list.specs.Links.{blank, node_at, order_of, entry_at, entries_of, IsLinked, AreApart, row_at, named, AreNamed, IsList, following, Ends, Walked, last_of, put_in, first_then}
+use Rattle.rga_list.specs.Links.{blank, node_at, order_of, entry_at, entries_of, IsLinked, AreApart, row_at, named, AreNamed, IsList}
+use Rattle.rga_list.specs.Links.{following, Ends, Walked, last_of, put_in, first_then}
 use Rattle.rga_list.proofs.Identifiers.{find_id-kept, find_id-push}
 use Rattle.rga_list.proofs.Linked.{Leads-within}
 use Rattle.rga_list.proofs.Ordered.{row_same, length-entries, elem_of-found, elem_of-lacks, has_stamp-above, has_stamp-none, named-elem_of}
@@ -30,7 +33,8 @@ length-put_in nodes v None = length-append nodes (v ∷ [])
 length-put_in nodes v (Some p) = length-set (nodes ++ v ∷ []) p (linked_to (node_at nodes p) (length nodes)) ∙ length-append nodes (v ∷ [])
 
 -- the nodes that were there keep their stamps
-put_in-old : (nodes : List Node) (v : Node) (last : Option ℕ) (i : ℕ) → i < length nodes → (node_at (put_in nodes v last) i).stamp ≡ (node_at nodes i).stamp
+put_in-old : (nodes : List Node) (v : Node) (last : Option ℕ) (i : ℕ) → i < length nodes
+    → (node_at (put_in nodes v last) i).stamp ≡ (node_at nodes i).stamp
 put_in-old nodes v None i l = ap (λ (n : Node). n.stamp) (get_or_append_left nodes (v ∷ []) blank i l)
 put_in-old nodes v (Some p) i l = go (cases_eq i p)
   where
@@ -40,10 +44,12 @@ put_in-old nodes v (Some p) i l = go (cases_eq i p)
         ap (λ k. (node_at (put_in nodes v (Some p)) k).stamp) e
         ∙ ap (λ (n : Node). n.stamp) (get_or-set_same (nodes ++ v ∷ []) p (linked_to (node_at nodes p) (length nodes)) blank b)
         ∙ ap (λ k. (node_at nodes k).stamp) (sym e)
-    go (inr d) = ap (λ (n : Node). n.stamp) (get_or-set_other (nodes ++ v ∷ []) p i (linked_to (node_at nodes p) (length nodes)) blank d ∙ get_or_append_left nodes (v ∷ []) blank i l)
+    go (inr d) = ap (λ (n : Node). n.stamp) (get_or-set_other (nodes ++ v ∷ []) p i (linked_to (node_at nodes p) (length nodes)) blank d
+        ∙ get_or_append_left nodes (v ∷ []) blank i l)
 
 -- the new one is there
-put_in-new : (nodes : List Node) (v : Node) (last : Option ℕ) → IfSome last (λ k. k < length nodes) → node_at (put_in nodes v last) (length nodes) ≡ v
+put_in-new : (nodes : List Node) (v : Node) (last : Option ℕ) → IfSome last (λ k. k < length nodes)
+    → node_at (put_in nodes v last) (length nodes) ≡ v
 put_in-new nodes v None w = get_or-append_seam nodes v [] blank
 put_in-new nodes v (Some p) w =
     get_or-set_other (nodes ++ v ∷ []) p (length nodes) (linked_to (node_at nodes p) (length nodes)) blank (λ e. omega (arith, w, e))
@@ -70,9 +76,11 @@ AreApart-grown nodes new s g a i j l m e = go (cases_lt i (length nodes)) (cases
     go (inr p) (inr q) = omega (arith, g.size)
 
 -- the rows with the new stamp
-module _ (rows : List Row) (s : Stamp) (m : ℕ) (r : Row) (width : s.site < length rows) (ids : r.ids ≡ (row_at rows s.site).ids ++ (s.sum, m) ∷ []) (lacks : named rows s ≡ None) where
+module _ (rows : List Row) (s : Stamp) (m : ℕ) (r : Row) (width : s.site < length rows)
+    (ids : r.ids ≡ (row_at rows s.site).ids ++ (s.sum, m) ∷ []) (lacks : named rows s ≡ None) where
   row_here : (t : Stamp) → t.site ≡ s.site → (row_at (set rows s.site r) t.site).ids ≡ (row_at rows s.site).ids ++ (s.sum, m) ∷ []
-  row_here t e = ap (λ k. (row_at (set rows s.site r) k).ids) e ∙ ap (λ (v : Row). v.ids) (get_or-set_same rows s.site r (record { ids = []; room = 0 }) width) ∙ ids
+  row_here t e = ap (λ k. (row_at (set rows s.site r) k).ids) e
+      ∙ ap (λ (v : Row). v.ids) (get_or-set_same rows s.site r (record { ids = []; room = 0 }) width) ∙ ids
 
   row_other : (t : Stamp) → (t.site ≡ s.site → ⊥) → row_at (set rows s.site r) t.site ≡ row_at rows t.site
   row_other t d = get_or-set_other rows s.site t.site r (record { ids = []; room = 0 }) d
@@ -81,11 +89,13 @@ module _ (rows : List Row) (s : Stamp) (m : ℕ) (r : Row) (width : s.site < len
   named-kept t k h = go (cases_eq t.site s.site)
     where
       go : (t.site ≡ s.site) ⊎ (t.site ≡ s.site → ⊥) → named (set rows s.site r) t ≡ Some k
-      go (inl e) = ap (find_id t.sum) (row_here t e) ∙ find_id-kept (row_at rows s.site).ids t.sum k (s.sum, m) (ap (λ v. find_id t.sum (row_at rows v).ids) (sym e) ∙ h)
+      go (inl e) = ap (find_id t.sum) (row_here t e) ∙ find_id-kept (row_at rows s.site).ids t.sum k (s.sum, m)
+          (ap (λ v. find_id t.sum (row_at rows v).ids) (sym e) ∙ h)
       go (inr d) = ap (λ (v : Row). find_id t.sum v.ids) (row_other t d) ∙ h
 
   named-new : named (set rows s.site r) s ≡ Some m
-  named-new = ap (find_id s.sum) (row_here s refl) ∙ find_id-push (row_at rows s.site).ids s.sum (s.sum, m) lacks ∙ cond-true _ _ _ (eq-eqb s.sum s.sum refl)
+  named-new = ap (find_id s.sum) (row_here s refl) ∙ find_id-push (row_at rows s.site).ids s.sum (s.sum, m) lacks
+      ∙ cond-true _ _ _ (eq-eqb s.sum s.sum refl)
 
   named-only : (t : Stamp) (k : ℕ) → named (set rows s.site r) t ≡ Some k → (named rows t ≡ Some k) ⊎ ((t ≡ s) × (k ≡ m))
   named-only t k h = go (cases_eq t.site s.site)
@@ -96,11 +106,13 @@ module _ (rows : List Row) (s : Stamp) (m : ℕ) (r : Row) (width : s.site < len
 
       among : t.site ≡ s.site → (o : Option ℕ) → find_id t.sum (row_at rows s.site).ids ≡ o → (named rows t ≡ Some k) ⊎ ((t ≡ s) × (k ≡ m))
       among e (Some j) q =
-          let kept : find_id t.sum ((row_at rows s.site).ids ++ (s.sum, m) ∷ []) ≡ Some j = find_id-kept (row_at rows s.site).ids t.sum j (s.sum, m) q in
+          let kept : find_id t.sum ((row_at rows s.site).ids ++ (s.sum, m) ∷ []) ≡ Some j =
+          find_id-kept (row_at rows s.site).ids t.sum j (s.sum, m) q in
           let same : Some j ≡ Some k = sym kept ∙ sym (ap (find_id t.sum) (row_here t e)) ∙ h in
           inl (ap (λ v. find_id t.sum (row_at rows v).ids) e ∙ q ∙ same)
       among e None q =
-          let pushed : find_id t.sum ((row_at rows s.site).ids ++ (s.sum, m) ∷ []) ≡ cond (eqb s.sum t.sum) (Some m) None = find_id-push (row_at rows s.site).ids t.sum (s.sum, m) q in
+          let pushed : find_id t.sum ((row_at rows s.site).ids ++ (s.sum, m) ∷ []) ≡ cond (eqb s.sum t.sum) (Some m) None =
+          find_id-push (row_at rows s.site).ids t.sum (s.sum, m) q in
           inr (at_sum e (eqb s.sum t.sum) refl (sym pushed ∙ sym (ap (find_id t.sum) (row_here t e)) ∙ h))
 
       go : (t.site ≡ s.site) ⊎ (t.site ≡ s.site → ⊥) → (named rows t ≡ Some k) ⊎ ((t ≡ s) × (k ≡ m))
@@ -108,7 +120,8 @@ module _ (rows : List Row) (s : Stamp) (m : ℕ) (r : Row) (width : s.site < len
       go (inr d) = inl (ap (λ (v : Row). find_id t.sum v.ids) (sym (row_other t d)) ∙ h)
 
 AreNamed-grown : (nodes new : List Node) (rows : List Row) (s : Stamp) (r : Row) → Grows nodes new s → s.site < 32 → length rows ≡ 32
-    → r.ids ≡ (row_at rows s.site).ids ++ (s.sum, length nodes) ∷ [] → named rows s ≡ None → AreNamed nodes rows → AreNamed new (set rows s.site r)
+    → r.ids ≡ (row_at rows s.site).ids ++ (s.sum, length nodes) ∷ [] → named rows s ≡ None → AreNamed nodes rows
+    → AreNamed new (set rows s.site r)
 AreNamed-grown nodes new rows s r g b w ids lacks n =
     let width : s.site < length rows = omega (arith, b, w) in
     record {
@@ -124,8 +137,10 @@ AreNamed-grown nodes new rows s r g b w ids lacks n =
     site i l (inl q) = subst (λ (v : Stamp). v.site < 32) (sym (g.old i q)) (n.sites i q)
     site i l (inr q) = subst (λ (v : Stamp). v.site < 32) (sym (ap (λ k. (node_at new k).stamp) (at_end i l q) ∙ g.here)) b
 
-    each : (i : ℕ) → i < length new → (i < length nodes) ⊎ (length nodes ≤ i) → s.site < length rows → named (set rows s.site r) (node_at new i).stamp ≡ Some i
-    each i l (inl q) width = ap (named (set rows s.site r)) (g.old i q) ∙ named-kept rows s (length nodes) r width ids lacks (node_at nodes i).stamp i (n.each i q)
+    each : (i : ℕ) → i < length new → (i < length nodes) ⊎ (length nodes ≤ i) → s.site < length rows
+        → named (set rows s.site r) (node_at new i).stamp ≡ Some i
+    each i l (inl q) width = ap (named (set rows s.site r)) (g.old i q)
+        ∙ named-kept rows s (length nodes) r width ids lacks (node_at nodes i).stamp i (n.each i q)
     each i l (inr q) width =
         ap (named (set rows s.site r)) (ap (λ k. (node_at new k).stamp) (at_end i l q) ∙ g.here)
         ∙ named-new rows s (length nodes) r width ids lacks
@@ -136,7 +151,8 @@ AreNamed-grown nodes new rows s r g b w ids lacks n =
     only t i (inr (e, q)) = (omega (arith, q, g.size), ap (λ k. (node_at new k).stamp) q ∙ g.here ∙ sym e)
 
 -- the element before the new one
-before-front : (nodes : List Node) (front : List ℕ) (m : ℕ) (x : Entry) (rest : List Entry) (b : Option ℕ) → Each (λ i. i < m) front → x.elem ≡ m
+before-front : (nodes : List Node) (front : List ℕ) (m : ℕ) (x : Entry) (rest : List Entry) (b : Option ℕ) → Each (λ i. i < m) front
+    → x.elem ≡ m
     → last_of b front ≡ elem_before m b (map (entry_at nodes) front ++ x ∷ rest)
 before-front nodes [] m x rest b w e = sym (cond-true _ _ _ (eq-eqb x.elem m e))
 before-front nodes (i ∷ is) m x rest b w e =
@@ -147,28 +163,37 @@ Each-left : (P : ℕ → Type 0) (xs ys : List ℕ) → Each P (xs ++ ys) → Ea
 Each-left P [] ys h = tt
 Each-left P (x ∷ xs) ys h = (h.0, Each-left P xs ys h.1)
 
-pub front-within : (nodes : List Node) (first : Option ℕ) (s : Stamp) (o : Option Stamp) (last next : Option ℕ) → IsLinked nodes first → (d : Found nodes first s o last next) → Each (λ i. i < length nodes) d.front
+pub front-within : (nodes : List Node) (first : Option ℕ) (s : Stamp) (o : Option Stamp) (last next : Option ℕ) → IsLinked nodes first
+    → (d : Found nodes first s o last next) → Each (λ i. i < length nodes) d.front
 front-within nodes first s o last next l d =
-    Each-left (λ i. i < length nodes) d.front d.back (subst (Each (λ i. i < length nodes)) d.is (Leads-within nodes first None (order_of nodes first) l.leads))
+    Each-left (λ i. i < length nodes) d.front d.back (subst (Each (λ i. i < length nodes)) d.is
+    (Leads-within nodes first None (order_of nodes first) l.leads))
 
-pub last-within : (nodes : List Node) (first : Option ℕ) (s : Stamp) (o : Option Stamp) (last next : Option ℕ) → IsLinked nodes first → Found nodes first s o last next → IfSome last (λ k. k < length nodes)
+pub last-within : (nodes : List Node) (first : Option ℕ) (s : Stamp) (o : Option Stamp) (last next : Option ℕ) → IsLinked nodes first
+    → Found nodes first s o last next → IfSome last (λ k. k < length nodes)
 last-within nodes first s o None next l d = tt
 last-within nodes first s o (Some p) next l d = last_within nodes first s o p next l d
 
 -- the links after the insertion
-put : (nodes : List Node) (first : Option ℕ) (s : Stamp) (o : Option Stamp) (last next : Option ℕ) (v : Node) → IsLinked nodes first → v.next ≡ next → (d : Found nodes first s o last next)
+put : (nodes : List Node) (first : Option ℕ) (s : Stamp) (o : Option Stamp) (last next : Option ℕ) (v : Node) → IsLinked nodes first
+    → v.next ≡ next → (d : Found nodes first s o last next)
     → IsLinked (put_in nodes v last) (first_then nodes first last)
-    × (entries_of (put_in nodes v last) (first_then nodes first last) ≡ map (entry_at nodes) d.front ++ entry_at (put_in nodes v last) (length nodes) ∷ map (entry_at nodes) d.back)
+    × (entries_of (put_in nodes v last) (first_then nodes first last)
+    ≡ map (entry_at nodes) d.front ++ entry_at (put_in nodes v last) (length nodes) ∷ map (entry_at nodes) d.back)
 put nodes first s o None next v l e d = put_at_head nodes first s o next v l e d
-put nodes first s o (Some p) next v l e d = put_behind nodes first s o p next v (linked_to (node_at nodes p) (length nodes)) l e d refl (refl, refl, refl)
+put nodes first s o (Some p) next v l e d =
+    put_behind nodes first s o p next v (linked_to (node_at nodes p) (length nodes)) l e d refl (refl, refl, refl)
 
 -- where the walk starts
-pub starts_at : (nodes : List Node) (first : Option ℕ) (rows : List Row) (s : Stamp) (o : Option Stamp) (before at : Option ℕ) → IsList nodes first rows
-    → parent_refusal (entries_of nodes first) o s ≡ None → before ≡ option_and_then (λ p. elem_of p (entries_of nodes first)) o → at ≡ following nodes first before → Starts nodes first s o before at
+pub starts_at : (nodes : List Node) (first : Option ℕ) (rows : List Row) (s : Stamp) (o : Option Stamp) (before at : Option ℕ)
+    → IsList nodes first rows
+    → parent_refusal (entries_of nodes first) o s ≡ None → before ≡ option_and_then (λ p. elem_of p (entries_of nodes first)) o
+    → at ≡ following nodes first before → Starts nodes first s o before at
 starts_at nodes first rows s None before at h a e f = (e, f ∙ ap (following nodes first) e)
 starts_at nodes first rows s (Some p) before at h a e f = go (elem_of p (entries_of nodes first)) refl a
   where
-    go : (k : Option ℕ) → elem_of p (entries_of nodes first) ≡ k → parent_refusal (entries_of nodes first) (Some p) s ≡ None → Starts nodes first s (Some p) before at
+    go : (k : Option ℕ) → elem_of p (entries_of nodes first) ≡ k → parent_refusal (entries_of nodes first) (Some p) s ≡ None
+        → Starts nodes first s (Some p) before at
     go (Some k) q r =
         let there = elem_of-found nodes first rows p k h q in
         (k, there.0, subst (λ t. is_same p t ≡ true) (sym there.1) (is_same-refl p), e ∙ q, f ∙ ap (following nodes first) (e ∙ q))
@@ -178,23 +203,29 @@ starts_at nodes first rows s (Some p) before at h a e f = go (elem_of p (entries
         absurd (both_ways (has_stamp (entries_of nodes first) p) unknown known)
 
 -- the parent's element is there
-pub parent-within : (nodes : List Node) (first : Option ℕ) (rows : List Row) (o : Option Stamp) (before : Option ℕ) → IsList nodes first rows
+pub parent-within : (nodes : List Node) (first : Option ℕ) (rows : List Row) (o : Option Stamp) (before : Option ℕ)
+    → IsList nodes first rows
     → before ≡ option_and_then (λ p. elem_of p (entries_of nodes first)) o → IfSome before (λ k. k < length nodes)
 parent-within nodes first rows o None h e = tt
 parent-within nodes first rows None (Some k) h e = cc
 parent-within nodes first rows (Some p) (Some k) h e = (elem_of-found nodes first rows p k h (sym e)).0
 
 -- no element has a stamp that is above every stamp of its site
-named-above : (nodes : List Node) (first : Option ℕ) (rows : List Row) (s : Stamp) → IsList nodes first rows → IsAboveItsSite (entries_of nodes first) s → named rows s ≡ None
-named-above nodes first rows s h above = named-elem_of nodes first rows s h ∙ elem_of-lacks s (entries_of nodes first) (has_stamp-above (entries_of nodes first) s above)
+named-above : (nodes : List Node) (first : Option ℕ) (rows : List Row) (s : Stamp) → IsList nodes first rows
+    → IsAboveItsSite (entries_of nodes first) s → named rows s ≡ None
+named-above nodes first rows s h above =
+    named-elem_of nodes first rows s h ∙ elem_of-lacks s (entries_of nodes first) (has_stamp-above (entries_of nodes first) s above)
 
 -- The insertion keeps what holds of the list, and its entries are those of the walk.
-pub record After (nodes : List Node) (first : Option ℕ) (rows : List Row) (s : Stamp) (o : Option Stamp) (c : ℕ) (last next : Option ℕ) (r : Row) : Type 0 where
+pub record After (nodes : List Node) (first : Option ℕ) (rows : List Row) (s : Stamp) (o : Option Stamp) (c : ℕ) (last next : Option ℕ)
+    (r : Row) : Type 0 where
   pub list : IsList (put_in nodes (made s c next) last) (first_then nodes first last) (set rows s.site r)
-  pub entries : entries_of (put_in nodes (made s c next) last) (first_then nodes first last) ≡ placed o (record { elem = length nodes; stamp = s; ch = c; shown = true }) (entries_of nodes first)
+  pub entries : entries_of (put_in nodes (made s c next) last) (first_then nodes first last)
+      ≡ placed o (record { elem = length nodes; stamp = s; ch = c; shown = true }) (entries_of nodes first)
   pub before : last ≡ elem_before (length nodes) None (entries_of (put_in nodes (made s c next) last) (first_then nodes first last))
 
-pub integrated : (nodes : List Node) (first : Option ℕ) (rows : List Row) (s : Stamp) (o : Option Stamp) (c : ℕ) (before at last next : Option ℕ) (r : Row)
+pub integrated : (nodes : List Node) (first : Option ℕ) (rows : List Row) (s : Stamp) (o : Option Stamp) (c : ℕ)
+    (before at last next : Option ℕ) (r : Row)
     → IsList nodes first rows → length nodes < 131072 → s.site < 32 → IsAboveItsSite (entries_of nodes first) s
     → Starts nodes first s o before at → Walked nodes s before at last next
     → r.ids ≡ (row_at rows s.site).ids ++ (s.sum, length nodes) ∷ []
@@ -223,30 +254,39 @@ integrated nodes first rows s o c before at last next r h few site above starts 
         few = omega (arith, grows.size);
         width = length-set rows s.site r ∙ h.width;
       };
-      entries = p.1 ∙ ap (λ (e : Entry). map (entry_at nodes) d.front ++ e ∷ map (entry_at nodes) d.back) entry ∙ sym (d.places (record { elem = length nodes; stamp = s; ch = c; shown = true }) refl);
+      entries = p.1 ∙ ap (λ (e : Entry). map (entry_at nodes) d.front ++ e ∷ map (entry_at nodes) d.back) entry
+          ∙ sym (d.places (record { elem = length nodes; stamp = s; ch = c; shown = true }) refl);
       before = d.last_is
-          ∙ before-front nodes d.front (length nodes) (entry_at new (length nodes)) (map (entry_at nodes) d.back) None (front-within nodes first s o last next h.linked d) refl
+          ∙ before-front nodes d.front (length nodes) (entry_at new (length nodes)) (map (entry_at nodes) d.back) None
+          (front-within nodes first s o last next h.linked d) refl
           ∙ ap (elem_before (length nodes) None) (sym p.1);
     }
 
 -- The same, for what the code has read and written.
-pub inserted : (nodes new : List Node) (first f : Option ℕ) (rows : List Row) (site : ℕ) (d row r : Row) (s : Stamp) (o : Option Stamp) (c : ℕ) (before at last next : Option ℕ) (m : ℕ) (xs : List Entry)
+pub inserted : (nodes new : List Node) (first f : Option ℕ) (rows : List Row) (site : ℕ) (d row r : Row) (s : Stamp) (o : Option Stamp)
+    (c : ℕ) (before at last next : Option ℕ) (m : ℕ) (xs : List Entry)
     → IsList nodes first rows → entries_of nodes first ≡ xs → length nodes < 131072 → IsAboveItsSite xs s
-    → parent_refusal xs o s ≡ None → before ≡ option_and_then (λ p. elem_of p xs) o → at ≡ following nodes first before → Walked nodes s before at last next
+    → parent_refusal xs o s ≡ None → before ≡ option_and_then (λ p. elem_of p xs) o → at ≡ following nodes first before
+    → Walked nodes s before at last next
     → site ≡ s.site → site < 32 → row ≡ get_or rows site d → m ≡ length nodes → r.ids ≡ row.ids ++ (s.sum, m) ∷ []
     → new ≡ put_in nodes (made s c next) last → f ≡ first_then nodes first last
-    → IsList new f (set rows site r) × (entries_of new f ≡ placed o (record { elem = length xs; stamp = s; ch = c; shown = true }) xs) × (last ≡ elem_before m None (entries_of new f))
-inserted nodes new first f rows site d row r s o c before at last next m xs list shows few above refusal parent follows walked here bound read size ids put_new put_first =
+    → IsList new f (set rows site r) × (entries_of new f ≡ placed o (record { elem = length xs; stamp = s; ch = c; shown = true }) xs)
+    × (last ≡ elem_before m None (entries_of new f))
+inserted nodes new first f rows site d row r s o c before at last next m xs list shows few above refusal parent follows walked here bound
+    read size ids put_new put_first =
     let width : site < length rows = omega (arith, list.width) in
     let at_site : row.ids ≡ (row_at rows s.site).ids = ap (λ (v : Row). v.ids) (read ∙ row_same rows site s.site d here width) in
     let starts : Starts nodes first s o before at = starts_at nodes first rows s o before at list
     (subst (λ v. parent_refusal v o s ≡ None) (sym shows) refusal)
     (subst (λ v. before ≡ option_and_then (λ p. elem_of p v) o) (sym shows) parent) follows in
-    let a : After nodes first rows s o c last next r = integrated nodes first rows s o c before at last next r list few (subst (λ v. v < 32) here bound)
+    let a : After nodes first rows s o c last next r =
+    integrated nodes first rows s o c before at last next r list few (subst (λ v. v < 32) here bound)
     (subst (λ v. IsAboveItsSite v s) (sym shows) above) starts walked
     (ids ∙ ap₂ (λ (u : List (ℕ × ℕ)) (v : ℕ). u ++ (s.sum, v) ∷ []) at_site size) in
     let count : length nodes ≡ length xs = sym (length-entries nodes first list.linked) ∙ ap length shows in
-    let P : List Node → Option ℕ → Type 0 = λ n g. IsList n g (set rows site r) × (entries_of n g ≡ placed o (record { elem = length xs; stamp = s; ch = c; shown = true }) xs) × (last ≡ elem_before m None (entries_of n g)) in
+    let P : List Node → Option ℕ → Type 0 = λ n g. IsList n g (set rows site r)
+    × (entries_of n g ≡ placed o (record { elem = length xs; stamp = s; ch = c; shown = true }) xs)
+    × (last ≡ elem_before m None (entries_of n g)) in
     subst (λ n. P n f) (sym put_new) (subst (λ g. P (put_in nodes (made s c next) last) g) (sym put_first) (
       subst (λ k. IsList (put_in nodes (made s c next) last) (first_then nodes first last) (set rows k r)) (sym here) a.list,
       a.entries ∙ ap₂ (λ (k : ℕ) (v : List Entry). placed o (record { elem = k; stamp = s; ch = c; shown = true }) v) count shows,
@@ -254,16 +294,20 @@ inserted nodes new first f rows site d row r s o c before at last next m xs list
     ))
 
 -- what the walk needs of where it starts
-pub walk-ends : (nodes : List Node) (first : Option ℕ) (rows : List Row) (s : Stamp) (o : Option Stamp) (before at : Option ℕ) (xs : List Entry)
-    → IsList nodes first rows → entries_of nodes first ≡ xs → parent_refusal xs o s ≡ None → before ≡ option_and_then (λ p. elem_of p xs) o → at ≡ following nodes first before → Ends nodes at
+pub walk-ends : (nodes : List Node) (first : Option ℕ) (rows : List Row) (s : Stamp) (o : Option Stamp) (before at : Option ℕ)
+    (xs : List Entry)
+    → IsList nodes first rows → entries_of nodes first ≡ xs → parent_refusal xs o s ≡ None → before ≡ option_and_then (λ p. elem_of p xs) o
+    → at ≡ following nodes first before → Ends nodes at
 walk-ends nodes first rows s o before at xs list shows refusal parent follows =
     ends nodes first s o before at list.linked (starts_at nodes first rows s o before at list
     (subst (λ v. parent_refusal v o s ≡ None) (sym shows) refusal)
     (subst (λ v. before ≡ option_and_then (λ p. elem_of p v) o) (sym shows) parent) follows)
 
 -- and where it stops
-pub walk-last : (nodes : List Node) (first : Option ℕ) (rows : List Row) (s : Stamp) (o : Option Stamp) (before at last next : Option ℕ) (xs : List Entry)
-    → IsList nodes first rows → entries_of nodes first ≡ xs → parent_refusal xs o s ≡ None → before ≡ option_and_then (λ p. elem_of p xs) o → at ≡ following nodes first before
+pub walk-last : (nodes : List Node) (first : Option ℕ) (rows : List Row) (s : Stamp) (o : Option Stamp) (before at last next : Option ℕ)
+    (xs : List Entry)
+    → IsList nodes first rows → entries_of nodes first ≡ xs → parent_refusal xs o s ≡ None → before ≡ option_and_then (λ p. elem_of p xs) o
+    → at ≡ following nodes first before
     → Walked nodes s before at last next → IfSome last (λ k. k < length nodes)
 walk-last nodes first rows s o before at last next xs list shows refusal parent follows walked =
     last-within nodes first s o last next list.linked (found nodes first s o before at last next list.linked list.apart

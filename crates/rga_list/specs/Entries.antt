@@ -1,5 +1,6 @@
 -- The list as contracts see it, and what each call makes of it (Roh, Jeon, Kim and Lee 2011).
-use Rattle.std.specs.Prelude.{◌≡◌, ◌≢◌, ℕ, ◌<◌, ◌≤◌, Bool, true, false, ◌&&◌, not, ◌==◌, nat_le, if◌then◌else◌, Option, Some, None, List, [], ◌∷◌, map, length}
+use Rattle.std.specs.Prelude.{◌≡◌, ◌≢◌, ℕ, ◌<◌, ◌≤◌, Bool, true, false, ◌&&◌, not, ◌==◌, nat_le, if◌then◌else◌, Option, Some, None, List}
+use Rattle.std.specs.Prelude.{[], ◌∷◌, map, length}
 use Rattle.std.specs.List.{AllByRecursion, list_any}
 use Rattle.opid.specs.declared.stamp.Stamp.{Stamp}
 use Rattle.opid.specs.declared.refusal.Refusal.{Refusal}
@@ -76,12 +77,14 @@ IsAboveItsSite entries s = AllByRecursion (λ e. e.stamp.site ≡ s.site → e.s
 
 -- it is the greatest stamp of the site
 abbrev pub IsGreatestOf : List Entry → ℕ → Stamp → Type 0
-IsGreatestOf entries site s = (s.site ≡ site) × (has_stamp entries s ≡ true) × AllByRecursion (λ e. e.stamp.site ≡ site → e.stamp.sum ≤ s.sum) entries
+IsGreatestOf entries site s = (s.site ≡ site) × (has_stamp entries s ≡ true)
+    × AllByRecursion (λ e. e.stamp.site ≡ site → e.stamp.sum ≤ s.sum) entries
 
 -- why an insertion with the stamp s after this parent is refused, memory apart
 abbrev pub parent_refusal : List Entry → Option Stamp → Stamp → Option Refusal
 parent_refusal entries None s = None
-parent_refusal entries (Some p) s = if not (has_stamp entries p) then Some UnknownElement else if not (is_before p s) then Some NotOlder else None
+parent_refusal entries (Some p) s =
+    if not (has_stamp entries p) then Some UnknownElement else if not (is_before p s) then Some NotOlder else None
 
 abbrev pub refusal_of : List Entry → Option Stamp → Stamp → Option Refusal
 refusal_of entries parent s = if nat_le 131072 (length entries) then Some Full else parent_refusal entries parent s

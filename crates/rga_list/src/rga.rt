@@ -1,12 +1,14 @@
 //! The replicated list: the walk, deletion, and what can be read (Roh, Jeon, Kim and Lee 2011).
-ghost use Rattle.std.specs.Prelude.{◌≡◌, ◌≢◌, ◌<◌, ◌≤◌, ◌+◌, ◌-◌, ◌⊎◌, ℕ, List, [], ◌∷◌, ◌++◌, Option, Some, None, true, length, max, false, option_and_then, IfSome, IfNone, IfOk, IfErr, OnOk, OnErr};
+ghost use Rattle.std.specs.Prelude.{◌≡◌, ◌≢◌, ◌<◌, ◌≤◌, ◌+◌, ◌-◌, ◌⊎◌, ℕ, List, [], ◌∷◌, ◌++◌, Option, Some, None, true, length, max};
+ghost use Rattle.std.specs.Prelude.{false, option_and_then, IfSome, IfNone, IfOk, IfErr, OnOk, OnErr};
 ghost use Rattle.std.specs.List.{AllByRecursion};
 ghost use Rattle.opid.specs.declared.kind.OpKind.TheVariants as kinds;
 ghost use Rattle.opid.specs.declared.refusal.Refusal.TheVariants.{UnknownElement, Memory};
 ghost use Rattle.opid.specs.declared.stamp.Stamp.{Stamp};
 ghost use Rattle.opid.specs.Operations.{Operation, stamp_of};
 ghost use Rattle.opid.specs.Lawful.{IsSound};
-ghost use Rattle.rga_list.specs.Entries.{Entry, LinkedElements, placed, elem_of, entry_of, next_of, elem_before, has_stamp, IsAboveItsSite, IsGreatestOf, parent_refusal, refusal_of, hidden, is_shown, AreOfOwn};
+ghost use Rattle.rga_list.specs.Entries.{Entry, LinkedElements, placed, elem_of, entry_of, next_of, elem_before, has_stamp, IsAboveItsSite};
+ghost use Rattle.rga_list.specs.Entries.{IsGreatestOf, parent_refusal, refusal_of, hidden, is_shown, AreOfOwn};
 ghost use Rattle.rga_list.specs.Links.{row_at};
 ghost use Rattle.rga_list.specs.Listed.{listed};
 
@@ -157,7 +159,8 @@ impl Rga {
         ensures before { IfOk result (λ place. place.before ≡ elem_before place.elem None self.new.entries) }
 
         // Where the list shows operations, it then shows them with the insertion, which may follow them.
-        ensures shows { OnOk result ((ops : List Operation) (x : Operation) → IsSound ops → stamp_of x ≡ stamp → x.kind ≡ kinds.Ins parent ch
+        ensures shows { OnOk result ((ops : List Operation) (x : Operation) → IsSound ops → stamp_of x ≡ stamp
+            → x.kind ≡ kinds.Ins parent ch
             → self.old.entries ≡ listed ops → IsSound (ops ++ x ∷ []) × (self.new.entries ≡ listed (ops ++ x ∷ []))) }
 
         // Each cause, and only then; on a refusal the list is as before.

@@ -1,5 +1,6 @@
 -- The answer to a line of a script is that to its event, or its refusal.
-use Rattle.std.proofs.Common.{◌≡◌, ℕ, ◌+◌, ◌<◌, ◌≤◌, zero, suc, List, ◌++◌, length, Result, Ok, Err, inl, inr, refl, sym, ap, subst, ◌∙◌, arith, append_assoc, append-nil}
+use Rattle.std.proofs.Common.{◌≡◌, ℕ, ◌+◌, ◌<◌, ◌≤◌, zero, suc, List, ◌++◌, length, Result, Ok, Err, inl, inr, refl, sym, ap, subst, ◌∙◌}
+use Rattle.std.proofs.Common.{arith, append_assoc, append-nil}
 use Rattle.std.specs.Prelude.{◌⊎◌}
 use Rattle.std.specs.List.{flat_map, range_with_len}
 use Rattle.std.proofs.Math.Logic.{⊎_elim}
@@ -20,7 +21,8 @@ answers_event old new line answer event asked h is told =
     inl (asked, h, subst (λ (r : Result Event Refusal). AnswersAsked old r answer new) (sym is) told)
 
 -- the refusal of memory is not that of a line that is too long
-within_limit : (line : List ℕ) (why : Refusal) (r : Result Event Refusal) → r ≡ Err why → (65600 < length line → r ≡ Err TooLong) → why ≡ Memory → length line ≤ 65600
+within_limit : (line : List ℕ) (why : Refusal) (r : Result Event Refusal) → r ≡ Err why → (65600 < length line → r ≡ Err TooLong)
+    → why ≡ Memory → length line ≤ 65600
 within_limit line why r same long is =
     ⊎_elim (λ (h : 65600 < length line). let e = long h in cc) (λ (h : length line ≤ 65600). h) (cases_lt 65600 (length line))
 

@@ -1,5 +1,6 @@
 -- How the parts of a run over lines make the whole.
-use Rattle.std.proofs.Common.{◌≡◌, ℕ, List, [], ◌∷◌, ◌++◌, Bool, true, false, Option, Result, Ok, Err, refl, sym, ap, subst, ◌∙◌, append_assoc, append-nil}
+use Rattle.std.proofs.Common.{◌≡◌, ℕ, List, [], ◌∷◌, ◌++◌, Bool, true, false, Option, Result, Ok, Err, refl, sym, ap, subst, ◌∙◌}
+use Rattle.std.proofs.Common.{append_assoc, append-nil}
 use Rattle.std.specs.Io.KnownBytes.{IsAtEnd}
 use Rattle.opid.specs.Operations.{Operation}
 use Rattle.room.specs.declared.owned.RoomDesk.{RoomDesk}
@@ -20,7 +21,8 @@ serves_nothing desk held none =
     ([], subst (λ (t : List (List ℕ)). AreAnswered (Answers room_step room_fault) desk t [] desk) (sym e) refl, refl)
 
 -- all lines were served, and the room was closed
-pub closed : (room : Account) (snapshot : Bool) (desk after : RoomDesk) (got answers last : List ℕ) (left : Option (List ℕ)) (log : List Operation) (r : Result (Unit {0}) Stop)
+pub closed : (room : Account) (snapshot : Bool) (desk after : RoomDesk) (got answers last : List ℕ) (left : Option (List ℕ))
+    (log : List Operation) (r : Result (Unit {0}) Stop)
     → desk.room ≡ room → Serves {T = Unit {0}} (Answers room_step room_fault) desk got left answers (Ok tt) after
     → log ≡ after.room.state.log → Closes {T = Unit {0}} snapshot log last (Ok tt) r
     → ServesRoom room snapshot got left (answers ++ last) r
@@ -53,7 +55,8 @@ broken room snapshot desk after got answers left why opens serves = record {
 }
 
 -- more is read behind what a room was opened over
-pub opens_more : (resume : Bool) (site : ℕ) (left left' : Option (List ℕ)) (got more : List ℕ) (over : Bool) (log : List Operation) (rest : List ℕ)
+pub opens_more : (resume : Bool) (site : ℕ) (left left' : Option (List ℕ)) (got more : List ℕ) (over : Bool) (log : List Operation)
+    (rest : List ℕ)
     → (over ≡ true → more ≡ []) → (over ≡ true → left' ≡ left)
     → Opens resume site left got over log rest → Opens resume site left' (got ++ more) over log (rest ++ more)
 opens_more false site left left' got more over log rest none same (goes, empty, is) = (goes, empty, ap (λ t. t ++ more) is)

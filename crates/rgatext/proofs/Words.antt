@@ -1,5 +1,6 @@
 -- Words with one space between are cut in one way, and a number is written in one way.
-use Rattle.std.proofs.Common.{◌≡◌, ℕ, ◌^◌, ◌<◌, ◌≤◌, zero, suc, List, [], ◌∷◌, length, drop, get_or, Option, Some, None, Result, Ok, Err, refl, sym, ap, subst, ◌∙◌, arith, decimal, IsUtf8}
+use Rattle.std.proofs.Common.{◌≡◌, ℕ, ◌^◌, ◌<◌, ◌≤◌, zero, suc, List, [], ◌∷◌, length, drop, get_or, Option, Some, None, Result, Ok, Err}
+use Rattle.std.proofs.Common.{refl, sym, ap, subst, ◌∙◌, arith, decimal, IsUtf8}
 use Rattle.std.specs.Prelude.{IfOk, IfErr, IfNone}
 use Rattle.std.specs.Str.Parse.{AllDigits, IsNumeral, digits_value, without_leading_plus, ParsesUnsigned}
 use Rattle.std.proofs.lemmas.Bool.{ne_eqb}
@@ -69,11 +70,13 @@ no_plus w h = rw (ne_eqb (get_or w 0 0) 43 h.0) refl
 pub number_read : {E : Type 0} (w : List ℕ) (r : Result ℕ E) → IsPlain w → ParsesUnsigned 32 10 w r → IfOk r (λ n. w ≡ decimal n)
 number_read w (Ok n) plain p =
     let whole = no_plus w plain in
-    let at : IsNumeral 10 w × (digits_value 10 w < 2 ^ 32) = subst (λ (l : List ℕ). IsNumeral 10 l × (digits_value 10 l < 2 ^ 32)) whole p.0 in
+    let at : IsNumeral 10 w × (digits_value 10 w < 2 ^ 32) =
+    subst (λ (l : List ℕ). IsNumeral 10 l × (digits_value 10 l < 2 ^ 32)) whole p.0 in
     let value : n ≡ digits_value 10 w = p.1 ∙ ap (digits_value 10) whole in
     sym (ap decimal value ∙ decimal-digits_value (numerals_by_value _ tells_digits) w at.0.1 at.0.0 plain.1 (omega (arith, at.1)))
 number_read w (Err e) plain p = tt
 
-pub number_not_read : {E : Type 0} (w : List ℕ) (r : Result ℕ E) → ParsesUnsigned 32 10 w r → IfErr r (λ e. (n : ℕ) → n < 2 ^ 32 → w ≡ decimal n → ⊥)
+pub number_not_read : {E : Type 0} (w : List ℕ) (r : Result ℕ E) → ParsesUnsigned 32 10 w r
+    → IfErr r (λ e. (n : ℕ) → n < 2 ^ 32 → w ≡ decimal n → ⊥)
 number_not_read w (Ok n) p = tt
 number_not_read w (Err e) p = λ n fits is. let both = parse-decimal 32 n w (Err e) fits (omega arith) is p in cc

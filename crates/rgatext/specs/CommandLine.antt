@@ -1,6 +1,7 @@
 -- The command line, as `clap` reads it: `rgatext lines [--site N] [--resume] [--snapshot]`, `rgatext text [--version V]`,
 -- `rgatext world [--sites N]` and `rgatext serve --port P [--site N] [--conns C] NAME...`.
-use Rattle.std.specs.Prelude.{◌≡◌, ◌≤◌, ◌⊎◌, ℕ, Bool, false, List, [], ◌∷◌, Option, Some, None, bytes_eq, codes, true, pos, map, string_bytes}
+use Rattle.std.specs.Prelude.{◌≡◌, ◌≤◌, ◌⊎◌, ℕ, Bool, false, List, [], ◌∷◌, Option, Some, None, bytes_eq, codes, true, pos, map}
+use Rattle.std.specs.Prelude.{string_bytes}
 use Rattle.std.specs.Str.Parse.{IsNumeral, digits_value, without_leading_plus}
 use Rattle.clap.specs.Words.{App, IsAmong, Kinds, Row, Rule, Text, all_of, first_of, new_app, new_rule, with_rule, with_subcommand}
 use Rattle.clap.specs.declared.builder.action.ArgAction.TheVariants.{Append, SetTrue}
@@ -31,15 +32,33 @@ version_option = record (new_rule (codes "version")) {
 
 -- `--sites N`, a whole number from 1 to 32, or 2
 abbrev pub sites_option : Rule
-sites_option = record (new_rule (codes "sites")) { long = Some (codes "sites"); parser = Some (vp.Signed (pos 1) (pos 32)); value_names = 1; defaults = codes "2" ∷ [] }
+sites_option = record (new_rule (codes "sites")) {
+  long = Some (codes "sites");
+  parser = Some (vp.Signed (pos 1) (pos 32));
+  value_names =
+      1;
+  defaults = codes "2" ∷ [];
+}
 
 -- `--port P`, a whole number from 1 to 65535, which has to be there
 abbrev pub port_option : Rule
-port_option = record (new_rule (codes "port")) { long = Some (codes "port"); required = true; parser = Some (vp.Signed (pos 1) (pos 65535)); value_names = 1 }
+port_option = record (new_rule (codes "port")) {
+  long = Some (codes "port");
+  required = true;
+  parser =
+      Some (vp.Signed (pos 1) (pos 65535));
+  value_names = 1;
+}
 
 -- `--conns C`, a whole number from 1 to 65,536, or 65,536
 abbrev pub conns_option : Rule
-conns_option = record (new_rule (codes "conns")) { long = Some (codes "conns"); parser = Some (vp.Signed (pos 1) (pos 65536)); value_names = 1; defaults = codes "65536" ∷ [] }
+conns_option = record (new_rule (codes "conns")) {
+  long = Some (codes "conns");
+  parser = Some (vp.Signed (pos 1) (pos 65536));
+  value_names =
+      1;
+  defaults = codes "65536" ∷ [];
+}
 
 -- the names, of which there is at least one
 abbrev pub name_words : Rule
@@ -69,7 +88,8 @@ serve = with_rule (with_rule (with_rule (with_rule (new_app (codes "serve")) por
 -- the program, which asks for a subcommand
 abbrev pub rgatext : App
 rgatext =
-    let a = with_subcommand (with_subcommand (with_subcommand (with_subcommand (new_app (codes "rgatext")) lines.top) text.top) world.top) serve.top in
+    let a = with_subcommand (with_subcommand (with_subcommand (with_subcommand (new_app (codes "rgatext")) lines.top) text.top) world.top)
+    serve.top in
     record a { top = record a.top { subcommand_required = true } }
 
 -- the number that a text of decimal digits is
@@ -96,7 +116,8 @@ AsksIn name rows (TextOf version) = (name ≡ codes "text") × ReadsTo 429496729
 AsksIn name rows (World sites) = (name ≡ codes "world") × (1 ≤ sites) × ReadsTo 32 (first_of (codes "sites") rows) (Some sites)
 AsksIn name rows (Serve port site conns names) = (name ≡ codes "serve")
     × (1 ≤ port) × ReadsTo 65535 (first_of (codes "port") rows) (Some port) × ReadsTo 31 (first_of (codes "site") rows) (Some site)
-    × (1 ≤ conns) × ReadsTo 65536 (first_of (codes "conns") rows) (Some conns) × (all_of (codes "name") rows ≡ Some (map string_bytes names.items))
+    × (1 ≤ conns) × ReadsTo 65536 (first_of (codes "conns") rows) (Some conns)
+    × (all_of (codes "name") rows ≡ Some (map string_bytes names.items))
 
 -- the subcommand that was met asks for the plan
 abbrev pub Asks : Option (Text × List Row) → Plan → Type 0

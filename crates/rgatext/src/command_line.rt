@@ -3,7 +3,8 @@ ghost use Rattle.std.specs.Prelude.{◌≡◌, [], Some, None, Option, ℕ, ◌�
 ghost use Rattle.clap.specs.Words.{app_of, fault_of, found_of, kind_of, rows_of, rule_of, first_of, subcommand_of, subcommand_rows_of};
 ghost use Rattle.clap.specs.declared.builder.command.Command.TheViews.{out-Command};
 ghost use Rattle.rgatext.specs.declared.plan.Plan.{Plan};
-ghost use Rattle.rgatext.specs.CommandLine.{rgatext, lines, text, world, site_option, flag_option, version_option, sites_option, Asks, AsksNothing, ReadsTo, Refuses, ToldBy, is_set};
+ghost use Rattle.rgatext.specs.CommandLine.{rgatext, lines, text, world, site_option, flag_option, version_option, sites_option, Asks};
+ghost use Rattle.rgatext.specs.CommandLine.{AsksNothing, ReadsTo, Refuses, ToldBy, is_set};
 
 use crate::plan::{Plan, PlanFault, Sites};
 use crate::serve_words::{serve_command, serve_plan};

@@ -1,5 +1,6 @@
 //! The words of `serve`.
-ghost use Rattle.std.specs.Prelude.{◌≡◌, ◌≤◌, Some, Option, ℕ, false, IfOk, IfSome, IfNone, MatchOption, map, option_map, string_bytes, codes};
+ghost use Rattle.std.specs.Prelude.{◌≡◌, ◌≤◌, Some, Option, ℕ, false, IfOk, IfSome, IfNone, MatchOption, map, option_map, string_bytes};
+ghost use Rattle.std.specs.Prelude.{codes};
 ghost use Rattle.clap.specs.Words.{app_of, found_of, rows_of, rule_of, all_of};
 ghost use Rattle.clap.specs.declared.builder.command.Command.TheViews.{out-Command};
 ghost use Rattle.rgatext.specs.declared.plan.Plan.{Plan};

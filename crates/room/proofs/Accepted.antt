@@ -30,7 +30,8 @@ pub at_most : (m k : ℕ) → nat_lt m k ≡ false → k ≤ m
 at_most m k h = grind (arith, nat_tests)
 
 -- what is not refused is within the version that it names
-within : (a b c d : Bool) → (if a then Some BadVersion else if b then Some BadText else if c then Some BadPlace else if d then Some Full else None) ≡ None → c ≡ false
+within : (a b c d : Bool) → (if a then Some BadVersion else if b then Some BadText else if c then Some BadPlace else if d then Some Full
+    else None) ≡ None → c ≡ false
 within true b c d h = cc
 within false true c d h = cc
 within false false true d h = cc
@@ -39,13 +40,16 @@ within false false false d h = refl
 insertion_within : (log : List Operation) (v k : ℕ) (x : List ℕ) → insertion_refusal log v k x ≡ None → k ≤ length (visible_at log v)
 insertion_within log v k x h =
     at_most (length (visible_at log v)) k
-    (within (nat_lt (length log) v) (is_bad_count (length x)) (nat_lt (length (visible_at log v)) k) (nat_lt 131072 (length log + length x)) h)
+    (within (nat_lt (length log) v) (is_bad_count (length x)) (nat_lt (length (visible_at log v)) k)
+    (nat_lt 131072 (length log + length x)) h)
 
 pub accepted_is_placed : (S : State) → IsLawful S.log → S.site < 32 → (c : Call) → PlacesInsertion S c
 accepted_is_placed S l b c s n v k x e a =
-    let here : first_of (submission_of (session_with s S.outbox.sessions) n v) (insertion_refusal S.log v k x) ≡ Ok New = subst (λ (d : Call). check S d ≡ Ok New) e a in
+    let here : first_of (submission_of (session_with s S.outbox.sessions) n v) (insertion_refusal S.log v k x) ≡ Ok New =
+    subst (λ (d : Call). check S d ≡ Ok New) e a in
     asked_insertions-placed S.log S.site v k x l b
-    (insertion_within S.log v k x (first_accepted (submission_of (session_with s S.outbox.sessions) n v) (insertion_refusal S.log v k x) here))
+    (insertion_within S.log v k x (first_accepted (submission_of (session_with s S.outbox.sessions) n v)
+    (insertion_refusal S.log v k x) here))
 
 pub consistent_places : (room : Account) (c : Call) → IsConsistent room → PlacesInsertion room.state c
 consistent_places room c r = accepted_is_placed room.state r.lawful r.site c

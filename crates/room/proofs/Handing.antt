@@ -1,5 +1,6 @@
 -- Operations that are handed over one after another.
-use Rattle.std.proofs.Common.{◌≡◌, ℕ, zero, suc, ◌+◌, ◌-◌, ◌<◌, ◌≤◌, ◌⊎◌, inl, inr, Bool, true, false, Option, Some, None, Result, Ok, Err, List, [], ◌∷◌, ◌++◌, length, drop, get_or, refl, ap, ◌∙◌, sym, arith, append_assoc, add-one, drop-cons}
+use Rattle.std.proofs.Common.{◌≡◌, ℕ, zero, suc, ◌+◌, ◌-◌, ◌<◌, ◌≤◌, ◌⊎◌, inl, inr, Bool, true, false, Option, Some, None, Result, Ok, Err}
+use Rattle.std.proofs.Common.{List, [], ◌∷◌, ◌++◌, length, drop, get_or, refl, ap, ◌∙◌, sym, arith, append_assoc, add-one, drop-cons}
 use mathlib.Core.Path.{ap₂}
 use Rattle.std.specs.Prelude.{nat_le, nat_lt, if◌then◌else◌, IfOk, IfErr, OnErr}
 use Rattle.std.proofs.lemmas.List.{append-nil, length-append, drop_all}
@@ -13,7 +14,8 @@ use Rattle.replica.specs.declared.delivery.Delivery.{Delivery}
 use Rattle.replica.specs.declared.delivery.Delivery.TheVariants.{Took, Kept, Again}
 use Rattle.replica.specs.Refused.{refusal_of}
 use Rattle.replica.specs.Settle.{Settling, appended_or_dropped, taken_out, round_with, round, rounds, settle}
-use Rattle.replica.specs.Deliver.{ReplicaState, Delivered, unchanged, hold, integrate, deliver_new, deliver_found, claims_site, deliver, taken_by}
+use Rattle.replica.specs.Deliver.{ReplicaState, Delivered, unchanged, hold, integrate, deliver_new, deliver_found, claims_site, deliver}
+use Rattle.replica.specs.Deliver.{taken_by}
 use Rattle.replica.proofs.Lawfully.{fewer}
 use Rattle.room.specs.declared.outcome.Outcome.{Outcome}
 use Rattle.room.specs.Deliveries.{Handed, outcome_of, hand_over}
@@ -48,14 +50,16 @@ rounds-extend (suc n) s = Extends-trans s.log (round s).log (rounds n (round s))
 hold-extends : (log held : List Operation) (x : Operation) → Extends log (hold log held x).log
 hold-extends log held x = by (nat_lt (length held) 1024)
   where
-    by : (b : Bool) → Extends log (if b then record { outcome = Ok Kept; log = log; held = held ++ x ∷ [] } else unchanged (Err HoldFull) log held).log
+    by : (b : Bool) → Extends log (if b then record { outcome = Ok Kept; log = log; held = held ++ x ∷ [] }
+        else unchanged (Err HoldFull) log held).log
     by true = Extends-refl log
     by false = Extends-refl log
 
 integrate-extends : (o : Option Refusal) (log held : List Operation) (x : Operation) → Extends log (integrate o log held x).log
 integrate-extends (Some e) log held x = Extends-refl log
 integrate-extends None log held x =
-    Extends-trans log (log ++ x ∷ []) (integrate None log held x).log (x ∷ [], refl) (rounds-extend (length held) (record { log = log ++ x ∷ []; held = held; taken = 1; dropped = 0 }))
+    Extends-trans log (log ++ x ∷ []) (integrate None log held x).log (x ∷ [], refl)
+    (rounds-extend (length held) (record { log = log ++ x ∷ []; held = held; taken = 1; dropped = 0 }))
 
 deliver_new-extends : (log held : List Operation) (x : Operation) → Extends log (deliver_new log held x).log
 deliver_new-extends log held x = by (is_ready log x)
@@ -79,35 +83,44 @@ deliver-extends site log held x = by (claims_site site log x)
 pub hand_over-extends : (site : ℕ) (log held ops : List Operation) → Extends log (hand_over site log held ops).log
 hand_over-extends site log held [] = Extends-refl log
 hand_over-extends site log held (x ∷ ops) =
-    Extends-trans log (deliver site log held x).log (hand_over site log held (x ∷ ops)).log (deliver-extends site log held x) (hand_over-extends site (deliver site log held x).log (deliver site log held x).held ops)
+    Extends-trans log (deliver site log held x).log (hand_over site log held (x ∷ ops)).log (deliver-extends site log held x)
+    (hand_over-extends site (deliver site log held x).log (deliver site log held x).held ops)
 
 -- ---- what is refused changes nothing
 
-hold-refused : (log held : List Operation) (x : Operation) (e : Refusal) → (hold log held x).outcome ≡ Err e → hold log held x ≡ unchanged (Err e) log held
+hold-refused : (log held : List Operation) (x : Operation) (e : Refusal) → (hold log held x).outcome ≡ Err e
+    → hold log held x ≡ unchanged (Err e) log held
 hold-refused log held x e = by (nat_lt (length held) 1024)
   where
-    by : (b : Bool) → (if b then record { outcome = Ok Kept; log = log; held = held ++ x ∷ [] } else unchanged (Err HoldFull) log held).outcome ≡ Err e
-        → (if b then record { outcome = Ok Kept; log = log; held = held ++ x ∷ [] } else unchanged (Err HoldFull) log held) ≡ unchanged (Err e) log held
+    by : (b : Bool) → (if b then record { outcome = Ok Kept; log = log; held = held ++ x ∷ [] }
+        else unchanged (Err HoldFull) log held).outcome ≡ Err e
+        → (if b then record { outcome = Ok Kept; log = log; held = held ++ x ∷ [] } else unchanged (Err HoldFull) log held)
+        ≡ unchanged (Err e) log held
     by true h = cc
     by false h = ap (λ o. unchanged o log held) h
 
-integrate-refused : (o : Option Refusal) (log held : List Operation) (x : Operation) (e : Refusal) → (integrate o log held x).outcome ≡ Err e → integrate o log held x ≡ unchanged (Err e) log held
+integrate-refused : (o : Option Refusal) (log held : List Operation) (x : Operation) (e : Refusal)
+    → (integrate o log held x).outcome ≡ Err e → integrate o log held x ≡ unchanged (Err e) log held
 integrate-refused (Some r) log held x e h = ap (λ o. unchanged o log held) h
 integrate-refused None log held x e h = cc
 
-deliver_new-refused : (log held : List Operation) (x : Operation) (e : Refusal) → (deliver_new log held x).outcome ≡ Err e → deliver_new log held x ≡ unchanged (Err e) log held
+deliver_new-refused : (log held : List Operation) (x : Operation) (e : Refusal) → (deliver_new log held x).outcome ≡ Err e
+    → deliver_new log held x ≡ unchanged (Err e) log held
 deliver_new-refused log held x e = by (is_ready log x)
   where
-    by : (b : Bool) → (if b then integrate (refusal_of log x) log held x else hold log held x).outcome ≡ Err e → (if b then integrate (refusal_of log x) log held x else hold log held x) ≡ unchanged (Err e) log held
+    by : (b : Bool) → (if b then integrate (refusal_of log x) log held x else hold log held x).outcome ≡ Err e
+        → (if b then integrate (refusal_of log x) log held x else hold log held x) ≡ unchanged (Err e) log held
     by true = integrate-refused (refusal_of log x) log held x e
     by false = hold-refused log held x e
 
-deliver_found-refused : (r : Result Bool Refusal) (log held : List Operation) (x : Operation) (e : Refusal) → (deliver_found r log held x).outcome ≡ Err e → deliver_found r log held x ≡ unchanged (Err e) log held
+deliver_found-refused : (r : Result Bool Refusal) (log held : List Operation) (x : Operation) (e : Refusal)
+    → (deliver_found r log held x).outcome ≡ Err e → deliver_found r log held x ≡ unchanged (Err e) log held
 deliver_found-refused (Err r) log held x e h = ap (λ o. unchanged o log held) h
 deliver_found-refused (Ok true) log held x e h = cc
 deliver_found-refused (Ok false) log held x e h = deliver_new-refused log held x e h
 
-deliver-refused : (site : ℕ) (log held : List Operation) (x : Operation) (e : Refusal) → (deliver site log held x).outcome ≡ Err e → deliver site log held x ≡ unchanged (Err e) log held
+deliver-refused : (site : ℕ) (log held : List Operation) (x : Operation) (e : Refusal) → (deliver site log held x).outcome ≡ Err e
+    → deliver site log held x ≡ unchanged (Err e) log held
 deliver-refused site log held x e = by (claims_site site log x)
   where
     by : (b : Bool) → (if b then unchanged (Err OwnSite) log held else deliver_found (look_for x (log ++ held)) log held x).outcome ≡ Err e
@@ -125,7 +138,8 @@ round-held s = by (nat_le 131072 (length s.log)) (first_ready (clock_of s.log) s
     appended None x e = omega (arith, e)
     appended (Some r) x e = omega (arith, e)
 
-    by : (b : Bool) (o : Option Operation) → first_ready (clock_of s.log) s.held ≡ o → length (if b then s else round_with o s).held + (if b then s else round_with o s).taken ≤ length s.held + s.taken
+    by : (b : Bool) (o : Option Operation) → first_ready (clock_of s.log) s.held ≡ o
+        → length (if b then s else round_with o s).held + (if b then s else round_with o s).taken ≤ length s.held + s.taken
     by true o e = omega arith
     by false None e = omega arith
     by false (Some x) e = appended (refusal_of s.log x) x (fewer (clock_of s.log) s.held x e)
@@ -141,7 +155,8 @@ Keeps held d = (k : Delivery) → d.outcome ≡ Ok k → length d.held + taken_b
 hold-held : (log held : List Operation) (x : Operation) → Keeps held (hold log held x)
 hold-held log held x = by (nat_lt (length held) 1024)
   where
-    by : (b : Bool) → Keeps held (if b then record { outcome = Ok Kept; log = log; held = held ++ x ∷ [] } else unchanged (Err HoldFull) log held)
+    by : (b : Bool) → Keeps held (if b then record { outcome = Ok Kept; log = log; held = held ++ x ∷ [] }
+        else unchanged (Err HoldFull) log held)
     by true k e = let same : k ≡ Kept = cc in omega (arith, ap taken_by same, length-append held (x ∷ []))
     by false k e = cc
 
@@ -181,15 +196,28 @@ pub record Delivers (R T : ReplicaState) (x : Operation) (result : Result Delive
   pub held : T.held ≡ (deliver R.site R.log R.held x).held
   pub room : (k : ℕ) → length R.held + suc k ≤ R.room → length T.held + k ≤ T.room
 
-pub delivers : (R T : ReplicaState) (x : Operation) (result : Result Delivery Refusal) → IfOk result (λ d. (deliver R.site R.log R.held x).outcome ≡ Ok d)
-    → IfOk result (λ d. T ≡ record R { log = (deliver R.site R.log R.held x).log; held = (deliver R.site R.log R.held x).held; room = R.room - taken_by d })
-    → IfErr result (λ e. ((deliver R.site R.log R.held x).outcome ≡ Err e) ⊎ ((e ≡ Memory) × (R.room ≤ length R.held))) → OnErr result (T ≡ R) → length R.held < R.room → Delivers R T x result
+pub delivers : (R T : ReplicaState) (x : Operation) (result : Result Delivery Refusal)
+    → IfOk result (λ d. (deliver R.site R.log R.held x).outcome ≡ Ok d)
+    → IfOk result (λ d. T ≡ record R {
+      log = (deliver R.site R.log R.held x).log;
+      held = (deliver R.site R.log R.held x).held;
+      room =
+          R.room - taken_by d;
+    })
+    → IfErr result (λ e. ((deliver R.site R.log R.held x).outcome ≡ Err e) ⊎ ((e ≡ Memory) × (R.room ≤ length R.held)))
+    → OnErr result (T ≡ R) → length R.held < R.room → Delivers R T x result
 delivers R T x (Ok d) o n c e b = record {
   outcome = o;
   site = ap (λ (q : ReplicaState). q.site) n;
   log = ap (λ (q : ReplicaState). q.log) n;
   held = ap (λ (q : ReplicaState). q.held) n;
-  room = λ k h. omega (arith, h, ap (λ (q : ReplicaState). length q.held) n, ap (λ (q : ReplicaState). q.room) n, deliver-held R.site R.log R.held x d o);
+  room = λ k h. omega (
+    arith,
+    h,
+    ap (λ (q : ReplicaState). length q.held) n,
+    ap (λ (q : ReplicaState). q.room) n,
+    deliver-held R.site R.log R.held x d o,
+  );
 }
 delivers R T x (Err w) o n (inl c) e b = record {
   outcome = c;
@@ -204,12 +232,16 @@ delivers R T x (Err w) o n (inr c) e b = absurd (omega (arith, c.1, b))
 abbrev pub with_before : List Outcome → Handed → Handed
 with_before before rest = record rest { outcomes = before ++ rest.outcomes }
 
-pub handed_on : (R T : ReplicaState) (ops : List Operation) (n : ℕ) (d : Operation) (result : Result Delivery Refusal) (before after : List Outcome) (o : Outcome) (whole : Handed) → n < length ops
+pub handed_on : (R T : ReplicaState) (ops : List Operation) (n : ℕ) (d : Operation) (result : Result Delivery Refusal)
+    (before after : List Outcome) (o : Outcome) (whole : Handed) → n < length ops
     → Delivers R T (get_or ops n d) result → o ≡ outcome_of result → after ≡ before ++ o ∷ []
-    → with_before before (hand_over R.site R.log R.held (drop n ops)) ≡ whole → with_before after (hand_over T.site T.log T.held (drop (n + 1) ops)) ≡ whole
+    → with_before before (hand_over R.site R.log R.held (drop n ops)) ≡ whole
+    → with_before after (hand_over T.site T.log T.held (drop (n + 1) ops)) ≡ whole
 handed_on R T ops n d result before after o whole b s is pushed so_far =
-    ap₂ (λ (os : List Outcome) (h : Handed). with_before os h) (pushed ∙ ap (λ (r : Outcome). before ++ r ∷ []) (is ∙ ap outcome_of (sym s.outcome))) state
-    ∙ ap (λ (os : List Outcome). let h : Handed = record { outcomes = os; log = rest.log; held = rest.held } in h) (append_assoc before (outcome_of (deliver R.site R.log R.held x).outcome ∷ []) rest.outcomes)
+    ap₂ (λ (os : List Outcome) (h : Handed). with_before os h)
+    (pushed ∙ ap (λ (r : Outcome). before ++ r ∷ []) (is ∙ ap outcome_of (sym s.outcome))) state
+    ∙ ap (λ (os : List Outcome). let h : Handed = record { outcomes = os; log = rest.log; held = rest.held } in h)
+    (append_assoc before (outcome_of (deliver R.site R.log R.held x).outcome ∷ []) rest.outcomes)
     ∙ ap (λ (xs : List Operation). with_before before (hand_over R.site R.log R.held xs)) (sym (drop-cons ops n d b))
     ∙ so_far
   where
@@ -225,7 +257,8 @@ handed_on R T ops n d result before after o whole b s is pushed so_far =
         ∙ ap (λ i. hand_over i T.log T.held (drop (suc n) ops)) s.site
         ∙ ap₂ (λ (l h : List Operation). hand_over R.site l h (drop (suc n) ops)) s.log s.held
 
-pub handed_all : (R : ReplicaState) (ops : List Operation) (n : ℕ) (before : List Outcome) (whole : Handed) → length ops ≤ n → with_before before (hand_over R.site R.log R.held (drop n ops)) ≡ whole
+pub handed_all : (R : ReplicaState) (ops : List Operation) (n : ℕ) (before : List Outcome) (whole : Handed) → length ops ≤ n
+    → with_before before (hand_over R.site R.log R.held (drop n ops)) ≡ whole
     → record { outcomes = before; log = R.log; held = R.held } ≡ whole
 handed_all R ops n before whole h so_far =
     ap (λ (os : List Outcome). let q : Handed = record { outcomes = os; log = R.log; held = R.held } in q) (sym (append-nil before))

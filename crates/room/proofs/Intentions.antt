@@ -1,5 +1,6 @@
 -- What an accepted submission asked for stays in the log where it was put, and stands at its place.
-use Rattle.std.proofs.Common.{◌≡◌, ℕ, zero, suc, ◌+◌, ◌-◌, ◌<◌, ◌≤◌, Bool, true, false, Option, Some, None, Ok, Err, List, [], ◌∷◌, ◌++◌, length, take, drop, refl, ap, ◌∙◌, sym, subst, arith, append_assoc}
+use Rattle.std.proofs.Common.{◌≡◌, ℕ, zero, suc, ◌+◌, ◌-◌, ◌<◌, ◌≤◌, Bool, true, false, Option, Some, None, Ok, Err, List, [], ◌∷◌, ◌++◌}
+use Rattle.std.proofs.Common.{length, take, drop, refl, ap, ◌∙◌, sym, subst, arith, append_assoc}
 use Rattle.std.specs.Prelude.{nat_lt, slice_get, if◌then◌else◌}
 use Rattle.std.proofs.lemmas.List.{take_at, drop_at, take-append-le, length-append}
 use Rattle.opid.specs.declared.refusal.Refusal.{Refusal}
@@ -20,7 +21,8 @@ use Rattle.room.specs.declared.call.Call.{Call}
 use Rattle.room.specs.declared.call.Call.TheVariants.{Join, Ins, Del, Pull, Leave, Ops, Put, Read}
 use Rattle.room.specs.declared.reply.Reply.{Reply}
 use Rattle.room.specs.declared.reply.Reply.TheVariants as replies
-use Rattle.room.specs.Machine.{State, Finding, check, first_of, found_answer, found_next, accepted_answer, accepted_next, counted, recorded_answer, recorded_next, may_record, answer, next}
+use Rattle.room.specs.Machine.{State, Finding, check, first_of, found_answer, found_next, accepted_answer, accepted_next, counted}
+use Rattle.room.specs.Machine.{recorded_answer, recorded_next, may_record, answer, next}
 use Rattle.room.specs.History.{Account, state_of, IsConsistent}
 use Rattle.room.specs.Intention.{asked_by, StandsAsked, IsAccepted, IsKept, state_before, KeepsIntentions, OnlyGrows}
 use Rattle.room.proofs.Accepted.{first_accepted, at_most}
@@ -35,7 +37,8 @@ next-grows : (S : State) (h : List (ℕ × Call)) (i : ℕ) (e : ℕ × Call) �
     → Extends (next (state_of S (take i h)) e.1).log (state_of S h).log
 next-grows S [] i e q = absurd cc
 next-grows S (x ∷ h) zero e q =
-    let same : x ≡ e = cc in subst (λ (y : ℕ × Call). Extends (next S y.1).log (state_of (next S x.1) h).log) same (state_of-extends (next S x.1) h)
+    let same : x ≡ e = cc in subst (λ (y : ℕ × Call). Extends (next S y.1).log (state_of (next S x.1) h).log) same
+    (state_of-extends (next S x.1) h)
 next-grows S (x ∷ h) (suc i) e q = next-grows (next S x.1) h i e q
 
 -- and so is the log before it
@@ -67,11 +70,13 @@ lawful_begins log longer (more, e) l =
 -- ---- one submission
 
 -- what is not refused has none of the causes
-none-version : (e f : Refusal) (a b c d : Bool) → (if a then Some e else if b then Some f else if c then Some BadPlace else if d then Some Full else None) ≡ None → a ≡ false
+none-version : (e f : Refusal) (a b c d : Bool) → (if a then Some e else if b then Some f else if c then Some BadPlace else if d
+    then Some Full else None) ≡ None → a ≡ false
 none-version e f true b c d h = cc
 none-version e f false b c d h = refl
 
-none-place : (e f : Refusal) (a b c d : Bool) → (if a then Some e else if b then Some f else if c then Some BadPlace else if d then Some Full else None) ≡ None → c ≡ false
+none-place : (e f : Refusal) (a b c d : Bool) → (if a then Some e else if b then Some f else if c then Some BadPlace else if d
+    then Some Full else None) ≡ None → c ≡ false
 none-place e f true b c d h = cc
 none-place e f false true c d h = cc
 none-place e f false false true d h = cc
@@ -87,27 +92,36 @@ record Goes (S : State) (c : Call) (start end : ℕ) : Type 0 where
 -- a place in a version that is there is its place in any longer log
 placed-longer : (log more xs : List Operation) (v k : ℕ) → v ≤ length log → IsPlaced log v k xs → IsPlaced (log ++ more) v k xs
 placed-longer log more xs v k b p =
-    subst (λ (l : List Operation). visible (l ++ xs) ≡ take k (visible l) ++ insertions xs ++ drop k (visible l)) (sym (take-append-le v log more b)) p
+    subst (λ (l : List Operation). visible (l ++ xs) ≡ take k (visible l) ++ insertions xs ++ drop k (visible l))
+    (sym (take-append-le v log more b)) p
 
-accepted-goes : (S : State) (c : Call) (start end : ℕ) → IsLawful S.log → S.site < 32 → check S c ≡ Ok New → accepted_answer S c ≡ replies.Ok start end → Goes S c start end
+accepted-goes : (S : State) (c : Call) (start end : ℕ) → IsLawful S.log → S.site < 32 → check S c ≡ Ok New
+    → accepted_answer S c ≡ replies.Ok start end → Goes S c start end
 accepted-goes S Join start end l b a e = absurd cc
 accepted-goes S (Ins s n v k x) start end l b a e =
-    let none : insertion_refusal S.log v k x ≡ None = first_accepted (submission_of (session_with s S.outbox.sessions) n v) (insertion_refusal S.log v k x) a in
+    let none : insertion_refusal S.log v k x ≡ None =
+    first_accepted (submission_of (session_with s S.outbox.sessions) n v) (insertion_refusal S.log v k x) a in
     let version : v ≤ length S.log = at_most (length S.log) v (none-version _ _ _ _ _ _ none) in
-    let place : k ≤ length (visible_at S.log v) = at_most (length (visible_at S.log v)) k (none-place _ _ _ (is_bad_count (length x)) _ _ none) in
-    let size : length (asked_insertions S.log S.site v k x) ≡ length x = length-asked_insertions S.log (asked_insertions S.log S.site v k x) S.site v k x refl in
+    let place : k ≤ length (visible_at S.log v) =
+    at_most (length (visible_at S.log v)) k (none-place _ _ _ (is_bad_count (length x)) _ _ none) in
+    let size : length (asked_insertions S.log S.site v k x) ≡ length x =
+    length-asked_insertions S.log (asked_insertions S.log S.site v k x) S.site v k x refl in
     let start_is : length S.log ≡ start = cc e in
     let end_is : length S.log + length x ≡ end = cc e in
     record {
       from = sym start_is;
       to = omega (arith, end_is, size);
       grown = refl;
-      placed = λ more. placed-longer S.log more (asked_insertions S.log S.site v k x) v k version (asked_insertions-placed S.log S.site v k x l b place);
+      placed = λ more. placed-longer S.log more (asked_insertions S.log S.site v k x) v k version
+          (asked_insertions-placed S.log S.site v k x l b place);
     }
 accepted-goes S (Del s n v k c) start end l b a e =
-    let none : deletion_refusal S.log v k c ≡ None = first_accepted (submission_of (session_with s S.outbox.sessions) n v) (deletion_refusal S.log v k c) a in
-    let place : k + c ≤ length (visible_at S.log v) = at_most (length (visible_at S.log v)) (k + c) (none-place _ _ _ (is_bad_count c) _ _ none) in
-    let size : length (asked_deletions S.log S.site v k c) ≡ c = length-asked_deletions S.log (asked_deletions S.log S.site v k c) S.site v k c place refl in
+    let none : deletion_refusal S.log v k c ≡ None =
+    first_accepted (submission_of (session_with s S.outbox.sessions) n v) (deletion_refusal S.log v k c) a in
+    let place : k + c ≤ length (visible_at S.log v) =
+    at_most (length (visible_at S.log v)) (k + c) (none-place _ _ _ (is_bad_count c) _ _ none) in
+    let size : length (asked_deletions S.log S.site v k c) ≡ c =
+    length-asked_deletions S.log (asked_deletions S.log S.site v k c) S.site v k c place refl in
     let start_is : length S.log ≡ start = cc e in
     let end_is : length S.log + c ≡ end = cc e in
     record { from = sym start_is; to = omega (arith, end_is, size); grown = refl; placed = λ more. tt }
@@ -118,7 +132,8 @@ accepted-goes S (Put ops) start end l b a e = absurd cc
 accepted-goes S Read start end l b a e = absurd cc
 
 -- the same of a call that may not be recorded
-goes : (S : State) (c : Call) (start end : ℕ) → IsLawful S.log → S.site < 32 → IsAccepted S c start end → Goes S c start end × ((next S c).log ≡ (accepted_next S c).log)
+goes : (S : State) (c : Call) (start end : ℕ) → IsLawful S.log → S.site < 32 → IsAccepted S c start end
+    → Goes S c start end × ((next S c).log ≡ (accepted_next S c).log)
 goes S c start end l b a = by (may_record S) refl a.answered
   where
     found : (f : Finding) → f ≡ Ok New → found_answer S c f ≡ accepted_answer S c
@@ -127,7 +142,8 @@ goes S c start end l b a = by (may_record S) refl a.answered
     done : (f : Finding) → f ≡ Ok New → found_next S c f ≡ accepted_next S c
     done f e = ap (found_next S c) e
 
-    by : (t : Bool) → may_record S ≡ t → (if t then recorded_answer S c else replies.No HistoryFull) ≡ replies.Ok start end → Goes S c start end × ((next S c).log ≡ (accepted_next S c).log)
+    by : (t : Bool) → may_record S ≡ t → (if t then recorded_answer S c else replies.No HistoryFull) ≡ replies.Ok start end
+        → Goes S c start end × ((next S c).log ≡ (accepted_next S c).log)
     by true e q = (
       accepted-goes S c start end l b a.is_new (sym (found (check S c) a.is_new) ∙ q),
       ap (λ (t : Bool). (if t then counted (recorded_next S c) else S).log) e ∙ ap (λ (T : State). T.log) (done (check S c) a.is_new),
@@ -135,7 +151,8 @@ goes S c start end l b a = by (may_record S) refl a.answered
     by false e q = absurd cc
 
 -- what was asked for stands in any longer log between the versions that were answered
-kept : (S : State) (c : Call) (start end : ℕ) (log : List Operation) → Goes S c start end → Extends (S.log ++ asked_by S.site S.log c) log → IsKept S.site log c start end
+kept : (S : State) (c : Call) (start end : ℕ) (log : List Operation) → Goes S c start end → Extends (S.log ++ asked_by S.site S.log c) log
+    → IsKept S.site log c start end
 kept S c start end log g (more, e) =
     let asked : List Operation = asked_by S.site S.log c in
     let whole : log ≡ S.log ++ (asked ++ more) = e ∙ append_assoc S.log asked more in
@@ -151,18 +168,22 @@ kept S c start end log g (more, e) =
 
 -- ---- the room
 
-from_opening : (S : State) (h : List (ℕ × Call)) → IsLawful (state_of S h).log → (state_of S h).site < 32 → KeepsIntentions (record { opening = S; history = h; state = state_of S h })
+from_opening : (S : State) (h : List (ℕ × Call)) → IsLawful (state_of S h).log → (state_of S h).site < 32
+    → KeepsIntentions (record { opening = S; history = h; state = state_of S h })
 from_opening S h l b i e start end at a =
     let before : State = state_of S (take i h) in
     let site : before.site ≡ (state_of S h).site = before-site S h i in
     let went : Goes before e.1 start end × ((next before e.1).log ≡ (accepted_next before e.1).log) =
     goes before e.1 start end (lawful_begins before.log (state_of S h).log (before-grows S h i) l) (omega (arith, b, site)) a in
     subst (λ (n : ℕ). IsKept n (state_of S h).log e.1 start end) site
-    (kept before e.1 start end (state_of S h).log went.0 (subst (λ (l : List Operation). Extends l (state_of S h).log) (went.1 ∙ went.0.grown) (next-grows S h i e at)))
+    (kept before e.1 start end (state_of S h).log went.0 (subst (λ (l : List Operation). Extends l (state_of S h).log)
+    (went.1 ∙ went.0.grown) (next-grows S h i e at)))
 
 pub keeps_intentions : (room : Account) → IsConsistent room → KeepsIntentions room
-keeps_intentions room r = subst (λ (T : State). KeepsIntentions (record { opening = room.opening; history = room.history; state = T })) r.replays
-    (from_opening room.opening room.history (subst (λ (T : State). IsLawful T.log) (sym r.replays) r.lawful) (subst (λ (T : State). T.site < 32) (sym r.replays) r.site))
+keeps_intentions room r = subst (λ (T : State). KeepsIntentions
+    (record { opening = room.opening; history = room.history; state = T })) r.replays
+    (from_opening room.opening room.history (subst (λ (T : State). IsLawful T.log) (sym r.replays) r.lawful)
+    (subst (λ (T : State). T.site < 32) (sym r.replays) r.site))
 
 pub only_grows : (room : Account) → IsConsistent room → OnlyGrows room
 only_grows room r i b =

@@ -86,7 +86,8 @@ fn play_each(text: &mut Text, version: &mut u64, es: &[Edit]) -> Result<(), Refu
     requires { version.old < 2 ^ 32 }
     ensures ok { OnOk result ((play text.old es.now ≡ Some text.new) × (version.new ≡ version.old + length es.now)) }
     ensures cause { IfErr result (λ e. ((e ≡ BadPlace) × (play text.old es.now ≡ None)) ⊎ (e ≡ Memory)) }
-    ensures err { OnErr result ((n : ℕ) × (n ≤ length es.now) × (play text.old (take n es.now) ≡ Some text.new) × (version.new ≡ version.old + n)) }
+    ensures err { OnErr result ((n : ℕ) × (n ≤ length es.now) × (play text.old (take n es.now) ≡ Some text.new)
+        × (version.new ≡ version.old + n)) }
 {
     for edit in es {
         match text.apply(edit) {

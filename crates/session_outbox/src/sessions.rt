@@ -1,9 +1,11 @@
 //! The sessions of a server's document, each by the number that it got when it joined.
-ghost use Rattle.std.specs.Prelude.{◌≡◌, ◌≤◌, ◌<◌, ◌↔◌, false, not, nat_lt, is_some, length, None, Some, Ok, IsOk, IsSome, IfOk, IfErr, OnOk, OnErr};
+ghost use Rattle.std.specs.Prelude.{◌≡◌, ◌≤◌, ◌<◌, ◌↔◌, false, not, nat_lt, is_some, length, None, Some, Ok, IsOk, IsSome, IfOk, IfErr};
+ghost use Rattle.std.specs.Prelude.{OnOk, OnErr};
 ghost use Rattle.std.specs.Option.{option_map};
 ghost use Rattle.opid.specs.declared.refusal.Refusal.TheVariants.{NoSession};
 ghost use Rattle.session_outbox.specs.declared.submission.Submission.TheVariants.{New};
-ghost use Rattle.session_outbox.specs.Sessions.{session_with, change_session, without_session, MayAccept, AreNumbered, empty_outbox, after_join, after_leave, after_accept, after_pull};
+ghost use Rattle.session_outbox.specs.Sessions.{session_with, change_session, without_session, MayAccept, AreNumbered, empty_outbox};
+ghost use Rattle.session_outbox.specs.Sessions.{after_join, after_leave, after_accept, after_pull};
 ghost use Rattle.session_outbox.specs.Answers.{submission_of, pull_of, join_refusal};
 ghost use Rattle.session_outbox.specs.Kept.{sessions_of, session_of};
 

@@ -62,7 +62,8 @@ mark_more false h t c le = omega arith
 
 pub marked_called : (R R' : Account) (t : ℕ) (c : Call) (r : Result Reply AllocError) → mark R.history ≤ t
     → OnOk r (R' ≡ called R t c) → OnErr r (R' ≡ R) → mark R'.history ≤ t + 1
-marked_called R R' t c (Ok reply) le p q = subst (λ (X : Account). mark X.history ≤ t + 1) (sym p) (mark_more (may_record R.state) R.history t c le)
+marked_called R R' t c (Ok reply) le p q =
+    subst (λ (X : Account). mark X.history ≤ t + 1) (sym p) (mark_more (may_record R.state) R.history t c le)
 marked_called R R' t c (Err e) le p q = subst (λ (X : Account). mark X.history ≤ t + 1) (sym q) (omega arith)
 
 -- ---- what the pass knows after the turn
@@ -76,7 +77,8 @@ mine_after s R R' more found grown =
     calls_append s.mine (drop (length s.found) (trail_of R'))
     ∙ ap (λ (l : List (ℕ × Call)). calls_of s.mine ++ l)
     (ap (λ (l : List Item). calls_of (drop (length l) (trail_of R'))) found
-    ∙ (ap (λ (l : List Item). calls_of (drop (length (trail_of R)) l)) grown ∙ (ap calls_of (drop-append_seam (trail_of R) (map made more)) ∙ calls_made more)))
+    ∙ (ap (λ (l : List Item). calls_of (drop (length (trail_of R)) l)) grown
+    ∙ (ap calls_of (drop-append_seam (trail_of R) (map made more)) ∙ calls_made more)))
 
 seen_after : (s : Sight Item) (R R' : Account) (more : List (ℕ × Call)) → s.found ≡ trail_of R → trail_of R' ≡ trail_of R ++ map made more
     → calls_of (finished s (trail_of R')).seen ≡ calls_of (finished s (trail_of R')).found ++ more
@@ -108,7 +110,8 @@ pub replies_after : (o : State) (s : Sight Item) (R R' : Account) (c : Call) (re
     → ((reply ≡ replies.No HistoryFull) ↔ (length R.history ≡ 1048576)) → R' ≡ called R s.drawn c → length R.history ≤ 1048576
     → Replies o (view_of s) (view_of (finished s (trail_of R'))) c reply
 replies_after o s R R' c reply opening replays counted found is full after within =
-    let rest = replies_by (may_record R.state) s R R' c (ap (λ n. nat_lt n 1048576) (sym counted)) found (ap trail_of after ∙ trail_called R s.drawn c) in
+    let rest = replies_by (may_record R.state) s R R' c (ap (λ n. nat_lt n 1048576) (sym counted)) found
+    (ap trail_of after ∙ trail_called R s.drawn c) in
     let history : calls_of s.found ≡ R.history = ap calls_of found ∙ calls_trail R in
     record {
       answered = is ∙ ap (λ (S : State). answer S c)
@@ -125,8 +128,10 @@ pub is_pass : (room : SharedRoom) (p : Pass) → locks.IsPassOf room.lock p.pass
 is_pass room p h idle = record {
   pass = h;
   idle = idle;
-  legal = legal_calls (locks.sight p.pass).seen h.whole.0.room.value h.whole.1 (record { rising = h.whole.0.rising; limit = h.whole.0.limit });
-  short = short_calls (locks.sight p.pass) room.lock.table.shared.key.value.room.value h.whole.0.room.value h.opening h.whole.1 h.whole.0.short;
+  legal = legal_calls (locks.sight p.pass).seen h.whole.0.room.value h.whole.1
+      (record { rising = h.whole.0.rising; limit = h.whole.0.limit });
+  short = short_calls (locks.sight p.pass) room.lock.table.shared.key.value.room.value h.whole.0.room.value h.opening h.whole.1
+      h.whole.0.short;
   owns = owns_calls (locks.sight p.pass).mine (locks.sight p.pass).seen h.whole.0.room.value h.mine h.whole.1 h.whole.0.rising;
   distinct = distinct_calls (locks.sight p.pass).mine h.made.0.room.value h.made.1 h.made.0.rising;
 }
@@ -159,7 +164,11 @@ answered_after o s s' w c (Ok reply) b k e = (
     within = e.within;
     answered = e.answered;
     full = e.full;
-    recorded = λ below. let r = e.recorded below in record { seen = r.seen; mine = r.mine ∙ ap (λ (l : List (ℕ × Call)). l ++ (w.drawn, c) ∷ []) (mine_same s s' b) };
+    recorded = λ below. let r = e.recorded below in record {
+      seen = r.seen;
+      mine = r.mine
+          ∙ ap (λ (l : List (ℕ × Call)). l ++ (w.drawn, c) ∷ []) (mine_same s s' b);
+    };
     refused = λ at. let r = e.refused at in record { seen = r.seen; mine = r.mine ∙ mine_same s s' b };
   },
 )
@@ -178,7 +187,8 @@ some_left (suc n) h = omega arith
 pub begins_drawn : (s s' s'' : Sight Item) (n : ℕ) (ends : List ℕ) (trail : List Item) → (s.left ≢ 0) → s' ≡ drew s n
     → s'' ≡ took s' ends trail → IsPrefix s'.seen trail → Begins s s''
 begins_drawn s s' s'' n ends trail some is turn begin = record {
-  found = subst (λ (l : List Item). IsPrefix s.seen l) (sym (ap (λ (u : Sight Item). u.found) turn)) (subst (λ (u : Sight Item). IsPrefix u.seen trail) is begin);
+  found = subst (λ (l : List Item). IsPrefix s.seen l) (sym (ap (λ (u : Sight Item). u.found) turn))
+      (subst (λ (u : Sight Item). IsPrefix u.seen trail) is begin);
   left = ap (λ (u : Sight Item). u.left + 1) turn ∙ (ap (λ (u : Sight Item). u.left + 1) is ∙ some_left s.left some);
   lost = ap (λ (u : Sight Item). u.lost) turn ∙ ap (λ (u : Sight Item). u.lost) is;
   mine = ap (λ (u : Sight Item). u.mine) turn ∙ ap (λ (u : Sight Item). u.mine) is;
@@ -206,8 +216,10 @@ joins_after s o n is first second = record {
   second = calls_prefix o.seen n.seen second;
   either =
       let seen : n.seen ≡ longer s.seen o.seen = ap (λ (u : Sight Item). u.seen) is in
-      ⊎_elim (λ (e : longer s.seen o.seen ≡ s.seen). let r : (calls_of n.seen ≡ calls_of s.seen) ⊎ (calls_of n.seen ≡ calls_of o.seen) = inl (ap calls_of (seen ∙ e)) in r)
-      (λ (e : longer s.seen o.seen ≡ o.seen). let r : (calls_of n.seen ≡ calls_of s.seen) ⊎ (calls_of n.seen ≡ calls_of o.seen) = inr (ap calls_of (seen ∙ e)) in r)
+      ⊎_elim (λ (e : longer s.seen o.seen ≡ s.seen). let r : (calls_of n.seen ≡ calls_of s.seen) ⊎ (calls_of n.seen ≡ calls_of o.seen) =
+      inl (ap calls_of (seen ∙ e)) in r)
+      (λ (e : longer s.seen o.seen ≡ o.seen). let r : (calls_of n.seen ≡ calls_of s.seen) ⊎ (calls_of n.seen ≡ calls_of o.seen) =
+      inr (ap calls_of (seen ∙ e)) in r)
       (longer_is s.seen o.seen);
   mine = ap (λ (u : Sight Item). calls_of u.mine) is ∙ calls_append s.mine o.mine;
   left = ap (λ (u : Sight Item). u.left) is;
@@ -244,6 +256,7 @@ meets_after (Ok done) a b a' b' m =
 pub closed_after : (K R room : Account) (s : Sight Item) → LeftFor s 0 (trail_of K) → IsPrefix s.seen (trail_of R) → room ≡ R
     → IsPrefix (calls_of s.seen) room.history × (room.opening ≡ K.opening)
 closed_after K R room s left begins is = (
-  subst (λ (l : List (ℕ × Call)). IsPrefix (calls_of s.seen) l) (calls_trail R ∙ ap (λ (a : Account). a.history) (sym is)) (calls_prefix s.seen (trail_of R) begins),
+  subst (λ (l : List (ℕ × Call)). IsPrefix (calls_of s.seen) l) (calls_trail R ∙ ap (λ (a : Account). a.history) (sym is))
+      (calls_prefix s.seen (trail_of R) begins),
   ap (λ (a : Account). a.opening) is ∙ ap opening_in (sym (ap (λ (l : List Item). l ++ begins.0) left.begins.1 ∙ begins.1)),
 )

@@ -26,8 +26,16 @@ next_follows front vs i v x log h at is so_far lawful few =
   where
     follows : (ys : List Operation) → (front ++ x ∷ []) ++ ys ≡ log → MayFollow front x × (length front < 131072)
     follows ys e =
-        let all : GoesOn [] (front ++ x ∷ ys) = subst IsLawful (sym (sym (append_assoc front (x ∷ []) ys) ∙ e)) lawful in
-        ((goes_on_after [] front (x ∷ ys) all).0, omega (arith, few, ap length e, length-append (front ++ x ∷ []) ys, length-append front (x ∷ [])))
+        let all : GoesOn [] (front ++ x ∷ ys) = subst IsLawful (sym (sym (append_assoc front (x ∷ []) ys) ∙ e)) lawful in (
+          (goes_on_after [] front (x ∷ ys) all).0,
+          omega (
+            arith,
+            few,
+            ap length e,
+            length-append (front ++ x ∷ []) ys,
+            length-append front (x ∷ []),
+          ),
+        )
 
     go : (r : Result (List Operation) Refusal) → with_front (front ++ x ∷ []) r ≡ Ok log → MayFollow front x × (length front < 131072)
     go (Ok ys) e = follows ys (let same = e in cc)

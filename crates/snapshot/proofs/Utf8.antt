@@ -11,7 +11,8 @@ use Rattle.opid.specs.declared.kind.OpKind.{OpKind}
 use Rattle.opid.specs.declared.kind.OpKind.TheVariants.{Ins, Del}
 use Rattle.opid.specs.Operations.{Operation}
 use Rattle.causal_clock.specs.Kinds.{IsClock}
-use Rattle.wire_json.specs.Text.{IsStampInRange, IsKindInRange, quote, more, listed, pairs_of, pair_text, clock_text, stamp_text, parent_text}
+use Rattle.wire_json.specs.Text.{IsStampInRange, IsKindInRange, quote, more, listed, pairs_of, pair_text, clock_text, stamp_text}
+use Rattle.wire_json.specs.Text.{parent_text}
 use Rattle.wire_json.specs.Text.{op_text_of, op_text}
 use Rattle.wire_json.proofs.Pairs.{pairs_small}
 use Rattle.snapshot.specs.Snapshot.{AreInRange, log_text}
@@ -59,7 +60,8 @@ insertion_text : (s : ℕ) (clock : List ℕ) (parent : Option Stamp) (c : ℕ) 
     → IsTrue (all_scalars (c ∷ [])) → IsUtf8 (op_text_of s clock (Ins parent c))
 insertion_text s clock parent c l k p h =
     all_texts (codes "{\"c\":")
-    (clock_text clock ∷ codes ",\"k\":\"i\",\"p\":" ∷ parent_text parent ∷ codes ",\"s\":" ∷ decimal s ∷ codes ",\"x\":" ∷ quote (c ∷ []) ∷ codes "}" ∷ [])
+    (clock_text clock ∷ codes ",\"k\":\"i\",\"p\":" ∷ parent_text parent ∷ codes ",\"s\":" ∷ decimal s ∷ codes ",\"x\":" ∷ quote (c ∷ [])
+    ∷ codes "}" ∷ [])
     (IsUtf8-are_ascii _ refl) (
       clock_texts clock k,
       (

@@ -66,7 +66,8 @@ whole o = option_and_then of_json (option_and_then (λ p. json.if_last p.0 p.1) 
 text_read : (log : List Operation) → AreInRange log → read (log_text log) ≡ Some (log_data log)
 text_read log h =
     let same : tokens (log_text log) ≡ json_tokens (outline (log_data log)) =
-    ap tokens (sym (print-outline (log_data log) ∙ compact log)) ∙ tokens-print (json_tokens (outline (log_data log))) (ArePrintable-json_tokens (outline (log_data log)) (numbers log h)) in
+    ap tokens (sym (print-outline (log_data log) ∙ compact log))
+    ∙ tokens-print (json_tokens (outline (log_data log))) (ArePrintable-json_tokens (outline (log_data log)) (numbers log h)) in
     ap whole (ap (json.value max_depth) (same ∙ sym (append-nil _)) ∙ value-json_tokens (outline (log_data log)) max_depth [] (shallow log))
     ∙ value_read log h
 

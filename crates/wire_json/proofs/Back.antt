@@ -14,7 +14,8 @@ use Rattle.opid.specs.Clocks.{entry}
 use Rattle.opid.specs.Operations.{Operation}
 use Rattle.causal_clock.specs.Kinds.{IsClock, IsOperation}
 use Rattle.wire_json.specs.Members.{◌>>=◌, number_of}
-use Rattle.wire_json.specs.Operations.{Offer, each, items_in, pair_of, stamp_told, parent_of, only_char, offer_of, site_of, sited_pair, sited_kind, sited, counted, operation, op_of}
+use Rattle.wire_json.specs.Operations.{Offer, each, items_in, pair_of, stamp_told, parent_of, only_char, offer_of, site_of, sited_pair}
+use Rattle.wire_json.specs.Operations.{sited_kind, sited, counted, operation, op_of}
 use Rattle.wire_json.specs.Text.{IsStampInRange, IsKindInRange, pairs_of}
 use Rattle.wire_json.specs.Written.{each_data, two_data, pair_data, stamp_data, op_data_of, op_data}
 use Rattle.causal_clock.specs.Listing.{clock_told}
@@ -48,11 +49,13 @@ char_back c h = rw (chars-encodes (c ∷ []) h) refl
 abbrev offer_with : ℕ → List ℕ → OpKind → Offer
 offer_with s clock kind = record { site = s; pairs = pairs_of clock; kind = kind }
 
-offer_back : (s : ℕ) (clock : List ℕ) (kind : OpKind) → s < 32 → IsClock clock → IsKindInRange kind → offer_of (op_data_of s clock kind) ≡ Ok (offer_with s clock kind)
+offer_back : (s : ℕ) (clock : List ℕ) (kind : OpKind) → s < 32 → IsClock clock → IsKindInRange kind
+    → offer_of (op_data_of s clock kind) ≡ Ok (offer_with s clock kind)
 offer_back s clock (Ins None c) h k r =
     rw (pairs_back (pairs_of clock) (pairs_small clock k)) (rw (lt-ltb s (2 ^ 32) (omega arith)) (rw (chars-encodes (c ∷ []) r) refl))
 offer_back s clock (Ins (Some p) c) h k r =
-    rw (pairs_back (pairs_of clock) (pairs_small clock k)) (rw (parent_back p r.0) (rw (lt-ltb s (2 ^ 32) (omega arith)) (rw (chars-encodes (c ∷ []) r.1) refl)))
+    rw (pairs_back (pairs_of clock) (pairs_small clock k)) (rw (parent_back p r.0)
+    (rw (lt-ltb s (2 ^ 32) (omega arith)) (rw (chars-encodes (c ∷ []) r.1) refl)))
 offer_back s clock (Del t) h k r =
     rw (pairs_back (pairs_of clock) (pairs_small clock k)) (rw (lt-ltb s (2 ^ 32) (omega arith)) (rw (stamp_back t r) refl))
 
@@ -72,13 +75,15 @@ sited_pairs_back (p ∷ ps) h = step (sited_pairs_back ps h.1)
 
 sited_kind_back : (kind : OpKind) → IsKindInRange kind → sited_kind kind ≡ Ok kind
 sited_kind_back (Ins None c) r = refl
-sited_kind_back (Ins (Some p) c) r = ap (λ m. (m >>= λ n. Ok (record { sum = p.sum; site = n })) >>= λ s. Ok (Ins (Some s) c)) (site_back p.site r.0.1)
+sited_kind_back (Ins (Some p) c) r =
+    ap (λ m. (m >>= λ n. Ok (record { sum = p.sum; site = n })) >>= λ s. Ok (Ins (Some s) c)) (site_back p.site r.0.1)
 sited_kind_back (Del t) r = ap (λ m. (m >>= λ n. Ok (record { sum = t.sum; site = n })) >>= λ s. Ok (Del s)) (site_back t.site r.1)
 
 abbrev sited_with : ℕ → List (ℕ × ℕ) → OpKind → Result Offer Refusal
 sited_with s ps kind = Ok (record { site = s; pairs = ps; kind = kind })
 
-sited_back : (s : ℕ) (clock : List ℕ) (kind : OpKind) → s < 32 → IsKindInRange kind → sited (offer_with s clock kind) ≡ Ok (offer_with s clock kind)
+sited_back : (s : ℕ) (clock : List ℕ) (kind : OpKind) → s < 32 → IsKindInRange kind
+    → sited (offer_with s clock kind) ≡ Ok (offer_with s clock kind)
 sited_back s clock kind h r =
     ap (λ m. m >>= λ n. each sited_pair (pairs_of clock) >>= λ ps. sited_kind kind >>= λ k. sited_with n ps k) (site_back s h)
     ∙ ap (λ m. m >>= λ ps. sited_kind kind >>= λ k. sited_with s ps k) (sited_pairs_back (pairs_of clock) (pairs_sited clock))
@@ -89,10 +94,12 @@ sited_back s clock kind h r =
 clock_back : (clock : List ℕ) → IsClock clock → clock_told (pairs_of clock) ≡ Ok clock
 clock_back clock h = rw (tells (pairs_of clock) (listing_of clock h)) (ap Ok (clock_with_pairs clock h))
 
-counted_back : (s : ℕ) (clock : List ℕ) (kind : OpKind) → 0 < entry clock s → counted s clock kind ≡ Ok (record { site = s; clock = clock; kind = kind })
+counted_back : (s : ℕ) (clock : List ℕ) (kind : OpKind) → 0 < entry clock s
+    → counted s clock kind ≡ Ok (record { site = s; clock = clock; kind = kind })
 counted_back s clock kind h = rw (lt-ltb 0 (entry clock s) h) refl
 
-operation_back : (s : ℕ) (clock : List ℕ) (kind : OpKind) → IsClock clock → 0 < entry clock s → operation (offer_with s clock kind) ≡ Ok (record { site = s; clock = clock; kind = kind })
+operation_back : (s : ℕ) (clock : List ℕ) (kind : OpKind) → IsClock clock → 0 < entry clock s
+    → operation (offer_with s clock kind) ≡ Ok (record { site = s; clock = clock; kind = kind })
 operation_back s clock kind h own = ap (λ m. m >>= λ c. counted s c kind) (clock_back clock h) ∙ counted_back s clock kind own
 
 pub op_back : (x : Operation) → IsOperation x → IsKindInRange x.kind → op_of (op_data x) ≡ Ok x

@@ -1,5 +1,6 @@
 -- Checking the items of a list one after another, which stay as they are.
-use Rattle.std.proofs.Common.{◌≡◌, ℕ, zero, suc, ◌+◌, ◌<◌, List, [], ◌∷◌, ◌++◌, length, take, drop, get_or, Bool, true, false, Result, Ok, Err, refl, sym, ap, ap₂, ◌∙◌, arith, subst, set}
+use Rattle.std.proofs.Common.{◌≡◌, ℕ, zero, suc, ◌+◌, ◌<◌, List, [], ◌∷◌, ◌++◌, length, take, drop, get_or, Bool, true, false, Result, Ok}
+use Rattle.std.proofs.Common.{Err, refl, sym, ap, ap₂, ◌∙◌, arith, subst, set}
 use Rattle.std.specs.Prelude.{nat_lt}
 use Rattle.std.specs.List.{AllByRecursion as Each}
 use Rattle.std.proofs.lemmas.List.{map_more, take_more_set}
@@ -12,14 +13,18 @@ use Rattle.wire_json.specs.Operations.{each, items_in, pair_of, site_of, sited_p
 use Rattle.wire_json.specs.Offers.{pair_in, pairs_in}
 use Rattle.wire_json.proofs.Loops.{with_front, each-map, item_goes_on, goes_on}
 
-pairs_more : (vs : List Value) (i : ℕ) (v : Value) (p : ℕ × ℕ) → i < length vs → v ≡ get_or vs i v → pair_in (view v) ≡ p → pairs_in (take (i + 1) vs) ≡ pairs_in (take i vs) ++ p ∷ []
-pairs_more vs i v p h e is = map_more (λ (w : Value). pair_in (view w)) vs i v h ∙ ap (λ q. pairs_in (take i vs) ++ q ∷ []) (ap (λ (w : Value). pair_in (view w)) (sym e) ∙ is)
+pairs_more : (vs : List Value) (i : ℕ) (v : Value) (p : ℕ × ℕ) → i < length vs → v ≡ get_or vs i v → pair_in (view v) ≡ p
+    → pairs_in (take (i + 1) vs) ≡ pairs_in (take i vs) ++ p ∷ []
+pairs_more vs i v p h e is = map_more (λ (w : Value). pair_in (view w)) vs i v h
+    ∙ ap (λ q. pairs_in (take i vs) ++ q ∷ []) (ap (λ (w : Value). pair_in (view w)) (sym e) ∙ is)
 
 is_in : (v : Value) (p : ℕ × ℕ) → pair_of (view v) ≡ Ok p → pair_in (view v) ≡ p
 is_in v p e = rw e refl
 
-pub pair_goes_on : (vs : List Value) (i : ℕ) (v : Value) (p : ℕ × ℕ) (total : Result (List (ℕ × ℕ)) Refusal) → i < length vs → v ≡ get_or vs i v → pair_of (view v) ≡ Ok p
-    → with_front (pairs_in (take i vs)) (each pair_of (items_in (items_view (drop i vs)))) ≡ total → with_front (pairs_in (take (i + 1) vs)) (each pair_of (items_in (items_view (drop (i + 1) vs)))) ≡ total
+pub pair_goes_on : (vs : List Value) (i : ℕ) (v : Value) (p : ℕ × ℕ) (total : Result (List (ℕ × ℕ)) Refusal) → i < length vs
+    → v ≡ get_or vs i v → pair_of (view v) ≡ Ok p
+    → with_front (pairs_in (take i vs)) (each pair_of (items_in (items_view (drop i vs)))) ≡ total
+    → with_front (pairs_in (take (i + 1) vs)) (each pair_of (items_in (items_view (drop (i + 1) vs)))) ≡ total
 pair_goes_on vs i v p total h e is so_far =
     ap (λ front. with_front front (each pair_of (items_in (items_view (drop (i + 1) vs))))) (pairs_more vs i v p h e (is_in v p is))
     ∙ item_goes_on pair_of (pairs_in (take i vs)) vs i v p total h e is so_far
@@ -41,13 +46,16 @@ same_pair p q e = go (site_of p.0) refl e
     go (Ok s) is e = let here = is_site p.0 s is in let made : (s, p.1) ≡ q = cc in (here.0, sym made ∙ ap (λ n. (n, p.1)) here.1)
     go (Err r) is e = cc
 
-pub site_goes_on : (vs : List Value) (i : ℕ) (v : Value) (q : ℕ × ℕ) (total : Result (List (ℕ × ℕ)) Refusal) → i < length vs → v ≡ get_or vs i v → sited_pair (pair_in (view v)) ≡ Ok q
-    → with_front (pairs_in (take i vs)) (each sited_pair (pairs_in (drop i vs))) ≡ total → with_front (pairs_in (take (i + 1) vs)) (each sited_pair (pairs_in (drop (i + 1) vs))) ≡ total
+pub site_goes_on : (vs : List Value) (i : ℕ) (v : Value) (q : ℕ × ℕ) (total : Result (List (ℕ × ℕ)) Refusal) → i < length vs
+    → v ≡ get_or vs i v → sited_pair (pair_in (view v)) ≡ Ok q
+    → with_front (pairs_in (take i vs)) (each sited_pair (pairs_in (drop i vs))) ≡ total
+    → with_front (pairs_in (take (i + 1) vs)) (each sited_pair (pairs_in (drop (i + 1) vs))) ≡ total
 site_goes_on vs i v q total h e is so_far =
     let pair : Value → ℕ × ℕ = λ w. pair_in (view w) in
     let same = (same_pair (pair v) q is).1 in
     ap₂ with_front (pairs_more vs i v (pair v) h e refl) (each-map sited_pair pair (drop (i + 1) vs))
-    ∙ goes_on (λ w. sited_pair (pair w)) (pairs_in (take i vs)) vs i v (pair v) total h e (is ∙ ap Ok same) (sym (ap (with_front (pairs_in (take i vs))) (each-map sited_pair pair (drop i vs))) ∙ so_far)
+    ∙ goes_on (λ w. sited_pair (pair w)) (pairs_in (take i vs)) vs i v (pair v) total h e (is ∙ ap Ok same)
+    (sym (ap (with_front (pairs_in (take i vs))) (each-map sited_pair pair (drop i vs))) ∙ so_far)
 
 -- ---- the pairs of sites, put into a list of fixed length
 
@@ -55,21 +63,25 @@ pub all_sited : (ps qs : List (ℕ × ℕ)) → each sited_pair ps ≡ Ok qs →
 all_sited [] qs h = tt
 all_sited (p ∷ ps) qs h = go (λ rs is. all_sited ps rs is) (sited_pair p) (each sited_pair ps) refl refl h
   where
-    go : ((rs : List (ℕ × ℕ)) → each sited_pair ps ≡ Ok rs → Each (λ q. q.0 < 32) ps) → (r : Result (ℕ × ℕ) Refusal) (rest : Result (List (ℕ × ℕ)) Refusal) → sited_pair p ≡ r → each sited_pair ps ≡ rest
+    go : ((rs : List (ℕ × ℕ)) → each sited_pair ps ≡ Ok rs → Each (λ q. q.0 < 32) ps)
+        → (r : Result (ℕ × ℕ) Refusal) (rest : Result (List (ℕ × ℕ)) Refusal) → sited_pair p ≡ r → each sited_pair ps ≡ rest
         → (r >>= λ y. rest >>= λ ys. Ok (y ∷ ys)) ≡ Ok qs → Each (λ q. q.0 < 32) (p ∷ ps)
     go more (Ok q) (Ok rs) is are e = ((same_pair p q is).0, more rs are)
     go more (Ok q) (Err f) is are e = cc
     go more (Err f) rest is are e = cc
 
-sited_at : (vs : List Value) (i : ℕ) (v : Value) → Each (λ p. p.0 < 32) (pairs_in vs) → i < length vs → v ≡ get_or vs i v → (pair_in (view v)).0 < 32
+sited_at : (vs : List Value) (i : ℕ) (v : Value) → Each (λ p. p.0 < 32) (pairs_in vs) → i < length vs → v ≡ get_or vs i v
+    → (pair_in (view v)).0 < 32
 sited_at [] i v s h e = absurd (omega arith)
 sited_at (w ∷ vs) zero v s h e = subst (λ (u : Value). (pair_in (view u)).0 < 32) (sym e) s.0
 sited_at (w ∷ vs) (suc i) v s h e = sited_at vs i v s.1 (omega arith) e
 
-pub same_at : (vs : List Value) (i : ℕ) (v : Value) → each sited_pair (pairs_in vs) ≡ Ok (pairs_in vs) → i < length vs → v ≡ get_or vs i v → sited_pair (pair_in (view v)) ≡ Ok (pair_in (view v))
+pub same_at : (vs : List Value) (i : ℕ) (v : Value) → each sited_pair (pairs_in vs) ≡ Ok (pairs_in vs) → i < length vs → v ≡ get_or vs i v
+    → sited_pair (pair_in (view v)) ≡ Ok (pair_in (view v))
 same_at vs i v s h e = rw (lt-ltb (pair_in (view v)).0 32 (sited_at vs i v (all_sited (pairs_in vs) (pairs_in vs) s) h e)) refl
 
-pub put_more : (vs : List Value) (i : ℕ) (v : Value) (q : ℕ × ℕ) (list : List (ℕ × ℕ)) → each sited_pair (pairs_in vs) ≡ Ok (pairs_in vs) → i < length vs → v ≡ get_or vs i v → Ok q ≡ sited_pair (pair_in (view v))
+pub put_more : (vs : List Value) (i : ℕ) (v : Value) (q : ℕ × ℕ) (list : List (ℕ × ℕ)) → each sited_pair (pairs_in vs) ≡ Ok (pairs_in vs)
+    → i < length vs → v ≡ get_or vs i v → Ok q ≡ sited_pair (pair_in (view v))
     → i < length list → take i list ≡ pairs_in (take i vs) → take (i + 1) (set list i q) ≡ pairs_in (take (i + 1) vs)
 put_more vs i v q list s h e is room so_far =
     let same : pair_in (view v) ≡ q = (let kept = same_at vs i v s h e in cc) in

@@ -21,7 +21,8 @@ pairs_from clock a n = filter (λ p. nat_lt 0 p.1) (map (pair_at clock) (range_w
 
 -- ---- writing them one after another
 
-pairs_from-more : (clock : List ℕ) (n : ℕ) → pairs_from clock 0 (n + 1) ≡ pairs_from clock 0 n ++ cond (nat_lt 0 (entry clock n)) (pair_at clock n ∷ []) []
+pairs_from-more : (clock : List ℕ) (n : ℕ) → pairs_from clock 0 (n + 1)
+    ≡ pairs_from clock 0 n ++ cond (nat_lt 0 (entry clock n)) (pair_at clock n ∷ []) []
 pairs_from-more clock n = filter_of_map_range_with_len_more (λ (p : ℕ × ℕ). nat_lt 0 p.1) (pair_at clock) 0 n n (omega arith)
 
 each_data-push : {A : Type 0} (f : A → Data) (xs : List A) (x : A) → each_data f (xs ++ x ∷ []) ≡ behind (each_data f xs) (f x)
@@ -29,21 +30,28 @@ each_data-push f [] x = refl
 each_data-push f (y ∷ xs) x = ap (item (f y)) (each_data-push f xs x)
 
 -- the pair of one more site whose entry isn't 0 goes behind those before it
-pub pair_pushed : (clock : List ℕ) (n count : ℕ) (vs : List Value) (v : Value) → count ≡ entry clock n → 0 < count → items_view vs ≡ each_data pair_data (pairs_from clock 0 n) → view v ≡ pair_data (n, count)
+pub pair_pushed : (clock : List ℕ) (n count : ℕ) (vs : List Value) (v : Value) → count ≡ entry clock n → 0 < count
+    → items_view vs ≡ each_data pair_data (pairs_from clock 0 n) → view v ≡ pair_data (n, count)
     → items_view (vs ++ v ∷ []) ≡ each_data pair_data (pairs_from clock 0 (n + 1))
 pair_pushed clock n count vs v is more so_far seen =
     let here : pairs_from clock 0 (n + 1) ≡ pairs_from clock 0 n ++ pair_at clock n ∷ [] =
-    pairs_from-more clock n ∙ ap (λ b. pairs_from clock 0 n ++ cond b (pair_at clock n ∷ []) []) (lt-ltb 0 (entry clock n) (omega (arith, is, more))) in
+    pairs_from-more clock n ∙ ap (λ b. pairs_from clock 0 n ++ cond b (pair_at clock n ∷ []) [])
+    (lt-ltb 0 (entry clock n) (omega (arith, is, more))) in
     items_view-push vs v ∙ ap₂ behind so_far (seen ∙ ap (λ m. pair_data (n, m)) is)
     ∙ sym (each_data-push pair_data (pairs_from clock 0 n) (pair_at clock n)) ∙ ap (each_data pair_data) (sym here)
 
 -- a site whose entry is 0 has no pair
-pub pair_skipped : (clock : List ℕ) (n count : ℕ) (vs : List Value) → count ≡ entry clock n → count ≤ 0 → items_view vs ≡ each_data pair_data (pairs_from clock 0 n)
+pub pair_skipped : (clock : List ℕ) (n count : ℕ) (vs : List Value) → count ≡ entry clock n → count ≤ 0
+    → items_view vs ≡ each_data pair_data (pairs_from clock 0 n)
     → items_view vs ≡ each_data pair_data (pairs_from clock 0 (n + 1))
 pair_skipped clock n count vs is none so_far =
-    let test : nat_lt 0 (entry clock n) ≡ false = false_from_ne_true (nat_lt 0 (entry clock n)) (λ t. let more = ltb-true 0 (entry clock n) t in omega (arith, is, none, more)) in
-    so_far ∙ ap (each_data pair_data) (sym (pairs_from-more clock n ∙ ap (λ b. pairs_from clock 0 n ++ cond b (pair_at clock n ∷ []) []) test ∙ append-nil (pairs_from clock 0 n)))
+    let test : nat_lt 0 (entry clock n) ≡ false =
+    false_from_ne_true (nat_lt 0 (entry clock n)) (λ t. let more = ltb-true 0 (entry clock n) t in omega (arith, is, none, more)) in
+    so_far ∙ ap (each_data pair_data) (sym (pairs_from-more clock n
+    ∙ ap (λ b. pairs_from clock 0 n ++ cond b (pair_at clock n ∷ []) []) test ∙ append-nil (pairs_from clock 0 n)))
 
-pub pairs_written : (clock : List ℕ) (n : ℕ) (vs : List Value) → n ≤ 32 → 32 ≤ n → items_view vs ≡ each_data pair_data (pairs_from clock 0 n) → items_view vs ≡ pairs_data clock
+pub pairs_written : (clock : List ℕ) (n : ℕ) (vs : List Value) → n ≤ 32 → 32 ≤ n
+    → items_view vs ≡ each_data pair_data (pairs_from clock 0 n) → items_view vs ≡ pairs_data clock
 unfolding sites
-pairs_written clock n vs most least so_far = let all : n ≡ 32 = omega arith in so_far ∙ ap (λ m. each_data pair_data (pairs_from clock 0 m)) all
+pairs_written clock n vs most least so_far =
+    let all : n ≡ 32 = omega arith in so_far ∙ ap (λ m. each_data pair_data (pairs_from clock 0 m)) all

@@ -19,11 +19,13 @@ regroup_7 a b c d e f g = simp append_assoc
 regroup_item : (c x m : List ℕ) → c ++ (x ++ (m ++ 93 ∷ [])) ≡ (c ++ x ++ m) ++ 93 ∷ []
 regroup_item c x m = simp append_assoc
 
-more_compact : {A : Type 0} (f : A → Data) (t : A → List ℕ) → ((x : A) → compact_text (f x) ≡ t x) → (xs : List A) → items_text true (each_data f xs) ≡ more (map t xs) ++ 93 ∷ []
+more_compact : {A : Type 0} (f : A → Data) (t : A → List ℕ) → ((x : A) → compact_text (f x) ≡ t x) → (xs : List A)
+    → items_text true (each_data f xs) ≡ more (map t xs) ++ 93 ∷ []
 more_compact f t e [] = refl
 more_compact f t e (x ∷ xs) = ap₂ (λ y m. 44 ∷ (y ++ m)) (e x) (more_compact f t e xs) ∙ regroup_item (44 ∷ []) (t x) (more (map t xs))
 
-pub list_compact : {A : Type 0} (f : A → Data) (t : A → List ℕ) → ((x : A) → compact_text (f x) ≡ t x) → (xs : List A) → compact_text (array (each_data f xs)) ≡ listed (map t xs)
+pub list_compact : {A : Type 0} (f : A → Data) (t : A → List ℕ) → ((x : A) → compact_text (f x) ≡ t x) → (xs : List A)
+    → compact_text (array (each_data f xs)) ≡ listed (map t xs)
 list_compact f t e [] = refl
 list_compact f t e (x ∷ xs) = ap₂ (λ y m. 91 ∷ (y ++ m)) (e x) (more_compact f t e xs) ∙ regroup_first (t x) (more (map t xs))
   where

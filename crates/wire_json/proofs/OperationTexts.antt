@@ -24,17 +24,23 @@ parent_compact (Some s) = stamp_compact s
 clock_compact : (clock : List ℕ) → compact_text (array (pairs_data clock)) ≡ clock_text clock
 clock_compact clock = list_compact pair_data pair_text pair_compact (pairs_of clock)
 
-regroup_9 : (a b c d e f g h i : List ℕ) → a ++ (b ++ (c ++ (d ++ (e ++ (f ++ (g ++ (h ++ i))))))) ≡ a ++ b ++ c ++ d ++ e ++ f ++ g ++ h ++ i
+regroup_9 : (a b c d e f g h i : List ℕ) → a ++ (b ++ (c ++ (d ++ (e ++ (f ++ (g ++ (h ++ i)))))))
+    ≡ a ++ b ++ c ++ d ++ e ++ f ++ g ++ h ++ i
 regroup_9 a b c d e f g h i = simp append_assoc
 
 compact_of : (s : ℕ) (clock : List ℕ) (kind : OpKind) → compact_text (op_data_of s clock kind) ≡ op_text_of s clock kind
 unfolding escape_byte
 compact_of s clock (Ins parent c) =
-    ap₂ (λ l p. codes "{\"c\":" ++ (l ++ (codes ",\"k\":\"i\",\"p\":" ++ (p ++ (codes ",\"s\":" ++ (decimal s ++ (codes ",\"x\":" ++ (quote (c ∷ []) ++ codes "}")))))))) (clock_compact clock) (parent_compact parent)
-    ∙ regroup_9 (codes "{\"c\":") (clock_text clock) (codes ",\"k\":\"i\",\"p\":") (parent_text parent) (codes ",\"s\":") (decimal s) (codes ",\"x\":") (quote (c ∷ [])) (codes "}")
+    ap₂ (λ l p. codes "{\"c\":" ++ (l ++ (codes ",\"k\":\"i\",\"p\":"
+    ++ (p ++ (codes ",\"s\":" ++ (decimal s ++ (codes ",\"x\":" ++ (quote (c ∷ []) ++ codes "}")))))))) (clock_compact clock)
+    (parent_compact parent)
+    ∙ regroup_9 (codes "{\"c\":") (clock_text clock) (codes ",\"k\":\"i\",\"p\":") (parent_text parent) (codes ",\"s\":") (decimal s)
+    (codes ",\"x\":") (quote (c ∷ [])) (codes "}")
 compact_of s clock (Del target) =
-    ap₂ (λ l t. codes "{\"c\":" ++ (l ++ (codes ",\"k\":\"d\",\"s\":" ++ (decimal s ++ (codes ",\"t\":" ++ (t ++ codes "}")))))) (clock_compact clock) (stamp_compact target)
-    ∙ regroup_7 (codes "{\"c\":") (clock_text clock) (codes ",\"k\":\"d\",\"s\":") (decimal s) (codes ",\"t\":") (stamp_text target) (codes "}")
+    ap₂ (λ l t. codes "{\"c\":" ++ (l ++ (codes ",\"k\":\"d\",\"s\":" ++ (decimal s ++ (codes ",\"t\":" ++ (t ++ codes "}"))))))
+    (clock_compact clock) (stamp_compact target)
+    ∙ regroup_7 (codes "{\"c\":") (clock_text clock) (codes ",\"k\":\"d\",\"s\":") (decimal s) (codes ",\"t\":")
+    (stamp_text target) (codes "}")
 
 -- what serde_json writes for the value of an operation is the operation's text
 pub op_compact : (x : Operation) → compact_text (op_data x) ≡ op_text x

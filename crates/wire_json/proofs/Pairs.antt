@@ -1,5 +1,6 @@
 -- The pairs of a clock's entries that aren't 0 are a listing, and tell that clock.
-use Rattle.std.proofs.Common.{◌≡◌, ℕ, zero, suc, ◌+◌, ◌<◌, ◌≤◌, ◌⊎◌, inl, inr, ◌^◌, List, [], ◌∷◌, length, sum, map, Bool, true, false, cond, refl, sym, ap, ◌∙◌, arith, eqb, eqb-true, eq-eqb}
+use Rattle.std.proofs.Common.{◌≡◌, ℕ, zero, suc, ◌+◌, ◌<◌, ◌≤◌, ◌⊎◌, inl, inr, ◌^◌, List, [], ◌∷◌, length, sum, map, Bool, true, false}
+use Rattle.std.proofs.Common.{cond, refl, sym, ap, ◌∙◌, arith, eqb, eqb-true, eq-eqb}
 use Rattle.std.specs.Prelude.{nat_lt}
 use Rattle.std.specs.List.{AllByRecursion as Each, range_with_len, sum_by}
 use Rattle.std.proofs.lemmas.Bool.{cases_eq, cond-true, cond-false, false_from_ne_true, ltb-true, lt-ltb}
@@ -12,12 +13,14 @@ use Rattle.causal_clock.proofs.Listings.{AreRising, IsListing}
 use Rattle.wire_json.specs.Text.{pairs_of}
 use Rattle.wire_json.proofs.Clocks.{pair_at, pairs_from}
 
-by_case : {A : Type 0} (P : List A → Type 0) (b : Bool) (x : A) (xs : List A) → (b ≡ true → P (x ∷ xs)) → (b ≡ false → P xs) → P (cond b (x ∷ xs) xs)
+by_case : {A : Type 0} (P : List A → Type 0) (b : Bool) (x : A) (xs : List A) → (b ≡ true → P (x ∷ xs)) → (b ≡ false → P xs)
+    → P (cond b (x ∷ xs) xs)
 by_case P true x xs kept dropped = kept refl
 by_case P false x xs kept dropped = dropped refl
 
 -- a fact of each site's pair where its entry isn't 0, for the sites from a on
-all_pairs : (clock : List ℕ) (P : ℕ × ℕ → Type 0) (n a : ℕ) → ((s : ℕ) → a ≤ s → s < a + n → 0 < entry clock s → P (pair_at clock s)) → Each P (pairs_from clock a n)
+all_pairs : (clock : List ℕ) (P : ℕ × ℕ → Type 0) (n a : ℕ) → ((s : ℕ) → a ≤ s → s < a + n → 0 < entry clock s → P (pair_at clock s))
+    → Each P (pairs_from clock a n)
 all_pairs clock P zero a h = tt
 all_pairs clock P (suc n) a h =
     step (all_pairs clock P n (a + 1) (λ s l u m. h s (omega arith) (omega arith) m))
@@ -49,15 +52,18 @@ total clock (suc n) a = step (total clock n (a + 1))
     more : sum_by (entry clock) (range_with_len a (suc n)) ≡ entry clock a + sum_by (entry clock) (range_with_len (a + 1) n)
     more = sum_by-cons (entry clock) a (range_with_len (a + 1) n)
 
-    step : sum_by (λ p. p.1) (pairs_from clock (a + 1) n) ≡ sum_by (entry clock) (range_with_len (a + 1) n) → sum_by (λ p. p.1) (pairs_from clock a (suc n)) ≡ sum_by (entry clock) (range_with_len a (suc n))
+    step : sum_by (λ p. p.1) (pairs_from clock (a + 1) n) ≡ sum_by (entry clock) (range_with_len (a + 1) n)
+        → sum_by (λ p. p.1) (pairs_from clock a (suc n)) ≡ sum_by (entry clock) (range_with_len a (suc n))
     step rest =
-        by_case (λ ps. sum_by (λ p. p.1) ps ≡ sum_by (entry clock) (range_with_len a (suc n))) (nat_lt 0 (entry clock a)) (pair_at clock a) (pairs_from clock (a + 1) n)
+        by_case (λ ps. sum_by (λ p. p.1) ps ≡ sum_by (entry clock) (range_with_len a (suc n))) (nat_lt 0 (entry clock a)) (pair_at clock a)
+        (pairs_from clock (a + 1) n)
         (λ t. sum_by-cons (λ (p : ℕ × ℕ). p.1) (pair_at clock a) (pairs_from clock (a + 1) n) ∙ ap (λ m. entry clock a + m) rest ∙ sym more)
         (λ t. let none : entry clock a ≡ 0 = zero_from (entry clock a) t in rest ∙ omega (arith, none, more))
 
 count_in_none : (ps : List (ℕ × ℕ)) (s : ℕ) → Each (λ p. s < p.0) ps → count_in ps s ≡ 0
 count_in_none [] s h = refl
-count_in_none (p ∷ ps) s h = cond-false _ _ _ (false_from_ne_true (eqb p.0 s) (λ t. let same = eqb-true p.0 s t in omega (arith, same, h.0))) ∙ count_in_none ps s h.1
+count_in_none (p ∷ ps) s h = cond-false _ _ _ (false_from_ne_true (eqb p.0 s)
+    (λ t. let same = eqb-true p.0 s t in omega (arith, same, h.0))) ∙ count_in_none ps s h.1
 
 count_in_pairs : (clock : List ℕ) (n a s : ℕ) → a ≤ s → s < a + n → count_in (pairs_from clock a n) s ≡ entry clock s
 count_in_pairs clock zero a s l u = absurd (omega arith)
@@ -71,7 +77,8 @@ count_in_pairs clock (suc n) a s l u = go (cases_eq a s) (λ m. count_in_pairs c
     reach : (a ≡ s → ⊥) → a + 1 ≤ s
     reach d = omega (arith, d)
 
-    go : (a ≡ s) ⊎ (a ≡ s → ⊥) → (a + 1 ≤ s → count_in (pairs_from clock (a + 1) n) s ≡ entry clock s) → count_in (pairs_from clock a (suc n)) s ≡ entry clock s
+    go : (a ≡ s) ⊎ (a ≡ s → ⊥) → (a + 1 ≤ s → count_in (pairs_from clock (a + 1) n) s ≡ entry clock s)
+        → count_in (pairs_from clock a (suc n)) s ≡ entry clock s
     go (inl e) later =
         by_case (λ ps. count_in ps s ≡ entry clock s) (nat_lt 0 (entry clock a)) (pair_at clock a) (pairs_from clock (a + 1) n)
         (λ t. cond-true _ _ _ (eq-eqb a s e) ∙ ap (entry clock) e)
@@ -88,7 +95,8 @@ entries clock w = fill_by_all (entry clock) clock 32 0 w (λ k l. refl)
 pub listing_of : (clock : List ℕ) → IsClock clock → IsListing (pairs_of clock)
 unfolding sites
 listing_of clock h =
-    let whole : sum_by (λ p. p.1) (pairs_from clock 0 32) ≡ sum clock = total clock 32 0 ∙ sym (sum-map (entry clock) (range_with_len 0 32)) ∙ ap sum (sym (entries clock h.width)) in
+    let whole : sum_by (λ p. p.1) (pairs_from clock 0 32) ≡ sum clock =
+    total clock 32 0 ∙ sym (sum-map (entry clock) (range_with_len 0 32)) ∙ ap sum (sym (entries clock h.width)) in
     record {
       rising = rising clock 32 0;
       counted = all_pairs clock (λ p. 0 < p.1) 32 0 (λ s l u m. m);
@@ -97,7 +105,8 @@ listing_of clock h =
 
 pub clock_with_pairs : (clock : List ℕ) → IsClock clock → clock_with (pairs_of clock) ≡ clock
 unfolding sites
-clock_with_pairs clock h = sym (fill_by_all (count_in (pairs_from clock 0 32)) clock 32 0 h.width (λ k l. sym (count_in_pairs clock 32 0 k (omega arith) (omega arith))))
+clock_with_pairs clock h = sym (fill_by_all (count_in (pairs_from clock 0 32)) clock 32 0 h.width
+    (λ k l. sym (count_in_pairs clock 32 0 k (omega arith) (omega arith))))
 
 pub pairs_sited : (clock : List ℕ) → Each (λ p. p.0 < 32) (pairs_of clock)
 unfolding sites

@@ -22,10 +22,12 @@ json_refused bytes none =
       | false ↦ λ e. refl
     ] refl
 
-pub of_two : (ds : Items) (d : Data) → Some ds ≡ as_array d → items_len ds ≡ 2 → Ok tt ≡ or_refuse BadField (option_and_then two (as_array d))
+pub of_two : (ds : Items) (d : Data) → Some ds ≡ as_array d → items_len ds ≡ 2
+    → Ok tt ≡ or_refuse BadField (option_and_then two (as_array d))
 of_two ds d e same = rw (← e) (rw (eq-eqb (items_len ds) 2 same) refl)
 
-pub of_other_than_two : (ds : Items) (d : Data) → Some ds ≡ as_array d → items_len ds ≢ 2 → Err BadField ≡ or_refuse BadField (option_and_then two (as_array d))
+pub of_other_than_two : (ds : Items) (d : Data) → Some ds ≡ as_array d → items_len ds ≢ 2
+    → Err BadField ≡ or_refuse BadField (option_and_then two (as_array d))
 of_other_than_two ds d e other =
     let test : (items_len ds == 2) ≡ false = grind (arith, common_steps) in
     rw (← e) (rw test refl)

@@ -1,5 +1,6 @@
 -- The texts of replies, by serde_json's words.
-use Rattle.std.proofs.Common.{◌≡◌, ◌<◌, ◌≤◌, ◌^◌, ℕ, List, [], ◌∷◌, ◌++◌, map, codes, false, Some, decimal, refl, sym, ap, ap₂, ◌∙◌, arith, lit<, lit≤}
+use Rattle.std.proofs.Common.{◌≡◌, ◌<◌, ◌≤◌, ◌^◌, ℕ, List, [], ◌∷◌, ◌++◌, map, codes, false, Some, decimal, refl, sym, ap, ap₂, ◌∙◌, arith}
+use Rattle.std.proofs.Common.{lit<, lit≤}
 use Rattle.std.specs.Prelude.{IsTrue, encode_utf8_all}
 use Rattle.std.specs.Str.{all_scalars, chars}
 use Rattle.std.specs.List.{AllByRecursion}
@@ -14,7 +15,10 @@ use Rattle.serde_json.specs.Data.{Data}
 use Rattle.serde_json.specs.Written.{compact_text, outline, items_outline, has_float, items_have_float}
 use Rattle.serde_json.proofs.Texts.{print-outline}
 use Rattle.opid.specs.declared.refusal.Refusal.{Refusal}
-use Rattle.opid.specs.declared.refusal.Refusal.TheVariants.{BadJson, BadField, UnknownKind, NoRoom, NoSession, TooManySessions, BadNumber, BadVersion, BadPlace, BadText, BadCount, Full, HistoryFull, BadSite, BadClock, OwnSite, Conflict, HoldFull, NotRising, UnknownElement, NotOlder, BadHave, BadRange, Busy, Worn, Memory, SiteUsed, BadSnapshot, TooLong}
+use Rattle.opid.specs.declared.refusal.Refusal.TheVariants.{BadJson, BadField, UnknownKind, NoRoom, NoSession, TooManySessions, BadNumber}
+use Rattle.opid.specs.declared.refusal.Refusal.TheVariants.{BadVersion, BadPlace, BadText, BadCount, Full, HistoryFull, BadSite, BadClock}
+use Rattle.opid.specs.declared.refusal.Refusal.TheVariants.{OwnSite, Conflict, HoldFull, NotRising, UnknownElement, NotOlder, BadHave}
+use Rattle.opid.specs.declared.refusal.Refusal.TheVariants.{BadRange, Busy, Worn, Memory, SiteUsed, BadSnapshot, TooLong}
 use Rattle.opid.specs.Refusals.{number_of}
 use Rattle.opid.specs.declared.edit.Edit as edit
 use Rattle.opid.specs.declared.edit.Edit.TheVariants.{Ins, Del, Nop}
@@ -26,7 +30,8 @@ use Rattle.room.specs.declared.outcome.Outcome.TheVariants as outcomes
 use Rattle.opid.proofs.Told.{number_of-injective}
 use Rattle.wire_json.proofs.OperationTexts.{op_compact, op_no_float}
 use Rattle.wire_json.proofs.Read.{different as one_text, small, op_numbers, op_depth}
-use Rattle.wire_json.specs.Text.{IsInRange, IsEditInRange, IsOperationInRange, IsOutcomeInRange, op_text, outcome_text, quote, text, listed, edit_text}
+use Rattle.wire_json.specs.Text.{IsInRange, IsEditInRange, IsOperationInRange, IsOutcomeInRange, op_text, outcome_text, quote, text, listed}
+use Rattle.wire_json.specs.Text.{edit_text}
 use Rattle.wire_json.proofs.ListTexts.{regroup_3, regroup_5, regroup_7, list_compact}
 use Rattle.wire_json.specs.Written.{data_of, op_data, outcome_data, edit_data, each_data}
 
@@ -46,14 +51,17 @@ outcome_compact (outcomes.No why) = regroup_3 (codes "[\"no\",") (decimal (numbe
 -- what serde_json writes for the value of a reply is the reply's text
 pub compact : (r : reply.Reply) → compact_text (data_of r) ≡ text r
 unfolding escape_byte
-compact (Joined s v x) = regroup_7 (codes "{\"r\":\"joined\",\"s\":") (decimal s) (codes ",\"v\":") (decimal v) (codes ",\"x\":") (quote x) (codes "}")
+compact (Joined s v x) = regroup_7 (codes "{\"r\":\"joined\",\"s\":") (decimal s) (codes ",\"v\":") (decimal v) (codes ",\"x\":")
+    (quote x) (codes "}")
 compact (Ok «from» to) = regroup_5 (codes "{\"from\":") (decimal «from») (codes ",\"r\":\"ok\",\"to\":") (decimal to) (codes "}")
 compact (Edits «from» es) =
-    ap (λ l. codes "{\"es\":" ++ (l ++ (codes ",\"from\":" ++ (decimal «from» ++ codes ",\"r\":\"edits\"}")))) (list_compact edit_data edit_text edit_compact es)
+    ap (λ l. codes "{\"es\":" ++ (l ++ (codes ",\"from\":" ++ (decimal «from» ++ codes ",\"r\":\"edits\"}"))))
+    (list_compact edit_data edit_text edit_compact es)
     ∙ regroup_5 (codes "{\"es\":") (listed (map edit_text es)) (codes ",\"from\":") (decimal «from») (codes ",\"r\":\"edits\"}")
 compact Left = refl
 compact (Ops «from» ops) =
-    ap (λ l. codes "{\"from\":" ++ (decimal «from» ++ (codes ",\"ops\":" ++ (l ++ codes ",\"r\":\"ops\"}")))) (list_compact op_data op_text op_compact ops)
+    ap (λ l. codes "{\"from\":" ++ (decimal «from» ++ (codes ",\"ops\":" ++ (l ++ codes ",\"r\":\"ops\"}"))))
+    (list_compact op_data op_text op_compact ops)
     ∙ regroup_5 (codes "{\"from\":") (decimal «from») (codes ",\"ops\":") (listed (map op_text ops)) (codes ",\"r\":\"ops\"}")
 compact (Put os) =
     ap (λ l. codes "{\"os\":" ++ (l ++ codes ",\"r\":\"put\"}")) (list_compact outcome_data outcome_text outcome_compact os)
@@ -129,9 +137,11 @@ ops_numbers : (xs : List Operation) → AllByRecursion IsOperationInRange xs →
 ops_numbers [] h = tt
 ops_numbers (x ∷ xs) h = (op_numbers x h.0.0 h.0.1, ops_numbers xs h.1)
 
-outcome_numbers : (os : List outcome.Outcome) → AllByRecursion IsOutcomeInRange os → ItemsHaveNumbers (items_outline (each_data outcome_data os))
+outcome_numbers : (os : List outcome.Outcome) → AllByRecursion IsOutcomeInRange os
+    → ItemsHaveNumbers (items_outline (each_data outcome_data os))
 outcome_numbers [] h = tt
-outcome_numbers (outcomes.Took taken dropped ∷ os) h = ((tt, (IsNumber-decimal taken (small taken h.0.0), (IsNumber-decimal dropped (small dropped h.0.1), tt))), outcome_numbers os h.1)
+outcome_numbers (outcomes.Took taken dropped ∷ os) h =
+    ((tt, (IsNumber-decimal taken (small taken h.0.0), (IsNumber-decimal dropped (small dropped h.0.1), tt))), outcome_numbers os h.1)
 outcome_numbers (outcomes.Kept ∷ os) h = ((tt, tt), outcome_numbers os h.1)
 outcome_numbers (outcomes.Again ∷ os) h = ((tt, tt), outcome_numbers os h.1)
 outcome_numbers (outcomes.No why ∷ os) h = ((tt, (IsNumber-decimal (number_of why) (number_small why), tt)), outcome_numbers os h.1)
@@ -199,21 +209,25 @@ one_edit Nop (Ins l d) h g e = cc
 one_edit Nop (Del l) h g e = cc
 
 one_list : {A : Type 0} (P : A → Type 0) (f : A → Data) → ((a b : A) → P a → P b → outline (f a) ≡ outline (f b) → a ≡ b)
-    → (xs ys : List A) → AllByRecursion P xs → AllByRecursion P ys → items_outline (each_data f xs) ≡ items_outline (each_data f ys) → xs ≡ ys
+    → (xs ys : List A) → AllByRecursion P xs → AllByRecursion P ys
+    → items_outline (each_data f xs) ≡ items_outline (each_data f ys) → xs ≡ ys
 one_list P f one [] [] h k e = refl
 one_list P f one [] (y ∷ ys) h k e = cc
 one_list P f one (x ∷ xs) [] h k e = cc
 one_list P f one (x ∷ xs) (y ∷ ys) h k e = ap₂ (λ z zs. z ∷ zs) (one x y h.0 k.0 (cc)) (one_list P f one xs ys h.1 k.1 (cc))
 
 one_operation : (x y : Operation) → IsOperationInRange x → IsOperationInRange y → outline (op_data x) ≡ outline (op_data y) → x ≡ y
-one_operation x y h k e = one_text x y h.0 h.1 k.0 k.1 (sym (print-outline (op_data x) ∙ op_compact x) ∙ ap (λ t. print (json_tokens t)) e ∙ print-outline (op_data y) ∙ op_compact y)
+one_operation x y h k e = one_text x y h.0 h.1 k.0 k.1 (sym (print-outline (op_data x) ∙ op_compact x) ∙ ap (λ t. print (json_tokens t)) e
+    ∙ print-outline (op_data y) ∙ op_compact y)
 
-one_outcome : (a b : outcome.Outcome) → IsOutcomeInRange a → IsOutcomeInRange b → outline (outcome_data a) ≡ outline (outcome_data b) → a ≡ b
+one_outcome : (a b : outcome.Outcome) → IsOutcomeInRange a → IsOutcomeInRange b
+    → outline (outcome_data a) ≡ outline (outcome_data b) → a ≡ b
 one_outcome (outcomes.Took t d) (outcomes.Took u f) h k e =
     let same_taken = decimal_injective t u (small t h.0) (small u k.0) (cc) in
     let same_dropped = decimal_injective d f (small d h.1) (small f k.1) (cc) in
     cc
-one_outcome (outcomes.No x) (outcomes.No y) h k e = ap outcomes.No (number_of-injective x y (decimal_injective (number_of x) (number_of y) (number_small x) (number_small y) (cc)))
+one_outcome (outcomes.No x) (outcomes.No y) h k e =
+    ap outcomes.No (number_of-injective x y (decimal_injective (number_of x) (number_of y) (number_small x) (number_small y) (cc)))
 one_outcome outcomes.Kept outcomes.Kept h k e = refl
 one_outcome outcomes.Again outcomes.Again h k e = refl
 one_outcome (outcomes.Took t d) outcomes.Kept h k e = cc

@@ -13,4 +13,5 @@ short p (q ∷ ps) s h = omega (arith, h.0.0, short q ps s.1 h.1)
 
 pub too_many : (ps : List (ℕ × ℕ)) → AllByRecursion (λ q. q.0 < 32) ps → 32 < length ps → clock_told ps ≡ Err BadClock
 too_many [] s more = absurd (omega arith)
-too_many (p ∷ ps) s more = rw (false_from_ne_true (tells_clock (p ∷ ps)) (λ t. omega (arith, short p ps s (listing (p ∷ ps) t).rising))) refl
+too_many (p ∷ ps) s more = rw (false_from_ne_true (tells_clock (p ∷ ps))
+    (λ t. omega (arith, short p ps s (listing (p ∷ ps) t).rising))) refl

@@ -19,5 +19,6 @@ pub fn operations_read_back()
 
 /// Two different operations have different texts.
 pub fn different_operations()
-    ensures { (x y : Operation) → IsOperation x → IsKindInRange x.kind → IsOperation y → IsKindInRange y.kind → op_text x ≡ op_text y → x ≡ y }
+    ensures { (x y : Operation) → IsOperation x → IsKindInRange x.kind → IsOperation y → IsKindInRange y.kind
+        → op_text x ≡ op_text y → x ≡ y }
 {}

@@ -5,7 +5,8 @@ ghost use Rattle.opid.specs.declared.refusal.Refusal.TheVariants.{Memory};
 ghost use Rattle.serde_json.specs.View.{view, items_view};
 ghost use Rattle.opid.specs.Clocks.{entry};
 ghost use Rattle.wire_json.specs.Text.{IsOperationInRange, IsKindInRange, op_text};
-ghost use Rattle.wire_json.specs.Written.{each_data, two_data, pair_data, pairs_data, stamp_data, parent_data, insertion_data, deletion_data, op_data};
+ghost use Rattle.wire_json.specs.Written.{each_data, two_data, pair_data, pairs_data, stamp_data, parent_data, insertion_data};
+ghost use Rattle.wire_json.specs.Written.{deletion_data, op_data};
 
 use causal_clock::{Clock, Op};
 use opid::{OpKind, Refusal, SITES, Site, Stamp};

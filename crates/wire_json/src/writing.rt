@@ -4,7 +4,8 @@ ghost use Rattle.std.specs.List.{AllByRecursion};
 ghost use Rattle.serde_json.specs.View.{view, items_view};
 ghost use Rattle.opid.specs.declared.refusal.Refusal.TheVariants.{Memory};
 ghost use Rattle.wire_json.specs.Text.{IsInRange, IsEditInRange, IsOperationInRange, IsOutcomeInRange, text};
-ghost use Rattle.wire_json.specs.Written.{joined_data, ok_data, edit_data, each_data, edits_data, left_data, part_data, outcome_data, put_data, text_data, no_data, data_of};
+ghost use Rattle.wire_json.specs.Written.{joined_data, ok_data, edit_data, each_data, edits_data, left_data, part_data, outcome_data};
+ghost use Rattle.wire_json.specs.Written.{put_data, text_data, no_data, data_of};
 
 use crate::operation_values::op_values;
 use causal_clock::Op;

@@ -1,6 +1,7 @@
 -- The part of a buffer that is held.
 use lib.Dec.{eqb}
-use Rattle.std.proofs.Common.{true, suc, ◌≡◌, ◌≢◌, ℕ, ◌+◌, ◌-◌, ◌<◌, ◌≤◌, List, ◌∷◌, ◌++◌, length, take, drop, get_or, Option, min, sym, ap, ◌∙◌, arith, add-one, length-drop, drop-cons, zero-add}
+use Rattle.std.proofs.Common.{true, suc, ◌≡◌, ◌≢◌, ℕ, ◌+◌, ◌-◌, ◌<◌, ◌≤◌, List, ◌∷◌, ◌++◌, length, take, drop, get_or, Option, min, sym, ap}
+use Rattle.std.proofs.Common.{◌∙◌, arith, add-one, length-drop, drop-cons, zero-add}
 use Rattle.std.specs.List.{copy_within}
 use Rattle.std.proofs.Math.Seq.{take-add, paste}
 use Rattle.std.proofs.lemmas.List.{drop-drop, get_or-take, get_or-drop, length-take, take-append-drop, drop-take}
@@ -19,14 +20,16 @@ pub length-part : (start len : ℕ) (buf : List ℕ) → start + len ≤ length 
 length-part start len buf h = grind (arith, common_steps)
 
 -- its first bytes left out
-pub part_advanced : (start len n : ℕ) (buf : List ℕ) → n ≤ len → start + len ≤ length buf → part (start + n) (len - n) buf ≡ drop n (part start len buf)
+pub part_advanced : (start len n : ℕ) (buf : List ℕ) → n ≤ len → start + len ≤ length buf
+    → part (start + n) (len - n) buf ≡ drop n (part start len buf)
 part_advanced start len n buf h k =
     let e : len ≡ n + (len - n) = omega arith in
     let d : drop n (drop start buf) ≡ drop (start + n) buf = drop-drop n start buf in
     ap (λ t. take (len - n) t) (sym d) ∙ sym (drop-take n (len - n) (drop start buf)) ∙ ap (λ t. drop n (take t (drop start buf))) (sym e)
 
 -- moved to the front
-pub part_moved : (start len : ℕ) (buf : List ℕ) → start + len ≤ length buf → take len (copy_within buf start (start + len) 0) ≡ part start len buf
+pub part_moved : (start len : ℕ) (buf : List ℕ) → start + len ≤ length buf
+    → take len (copy_within buf start (start + len) 0) ≡ part start len buf
 part_moved start len buf h =
     let e : (start + len) - start ≡ len = omega arith in
     let fits : len ≤ length (drop start buf) = grind (arith, common_steps) in
@@ -61,12 +64,14 @@ find_some bytes rest from at within is before low none here =
     let front : IsLine (take at rest) = All-from_get_or (λ byte. byte ≢ 10) (take at rest) 0
     (λ i h e. let small : i < at = omega (arith, length-take at rest) in
     none i (omega arith) small (eq-eqb _ _ (sym (get_or-take at rest i 0 small) ∙ e))) in
-    let joined : take (from + at) bytes ≡ take from bytes ++ take at rest = take-add from at bytes ∙ ap (λ t. take from bytes ++ take at t) (sym is) in
+    let joined : take (from + at) bytes ≡ take from bytes ++ take at rest =
+    take-add from at bytes ∙ ap (λ t. take from bytes ++ take at t) (sym is) in
     let byte : get_or bytes (from + at) 0 ≡ 10 = sym (ap (λ t. get_or t at 0) is ∙ get_or-drop from bytes at 0) ∙ eqb-true _ _ here in (
       lt,
       All-same (λ byte. byte ≢ 10) _ _ joined (All-append (λ byte. byte ≢ 10) _ _ before front),
       sym (take-append-drop (from + at) bytes) ∙ ap (λ t. take (from + at) bytes ++ t)
-          (drop-cons bytes (from + at) 0 lt ∙ ap (λ t. t ∷ drop (suc (from + at)) bytes) byte ∙ ap (λ n. 10 ∷ drop n bytes) (sym (add-one (from + at)))),
+          (drop-cons bytes (from + at) 0 lt ∙ ap (λ t. t ∷ drop (suc (from + at)) bytes) byte
+          ∙ ap (λ n. 10 ∷ drop n bytes) (sym (add-one (from + at)))),
     )
 
 min_le : (n m : ℕ) → n ≤ m → min n m ≡ n

@@ -1,9 +1,11 @@
 -- Calls one after another, and the failures that they count.
-use Rattle.std.proofs.Common.{◌≡◌, ◌≤◌, ◌⊎◌, inl, inr, ℕ, zero, suc, ◌+◌, ◌-◌, ◌^◌, List, [], ◌∷◌, ◌++◌, Ok, Err, refl, ap, subst, ◌∙◌, arith}
+use Rattle.std.proofs.Common.{◌≡◌, ◌≤◌, ◌⊎◌, inl, inr, ℕ, zero, suc, ◌+◌, ◌-◌, ◌^◌, List, [], ◌∷◌, ◌++◌, Ok, Err, refl, ap, subst, ◌∙◌}
+use Rattle.std.proofs.Common.{arith}
 use Rattle.std.specs.Prelude.{Result}
 use Rattle.ws_server.specs.Calls.{Makes, for_a_block, failed_reads, failed_writes, CountsReads, CountsWrites}
 
-Makes-append : {S E : Type 0} (calls : S → Result ℕ E → S → Type 0) (a b c : S) (xs ys : List (Result ℕ E)) → Makes calls a xs b → Makes calls b ys c → Makes calls a (xs ++ ys) c
+Makes-append : {S E : Type 0} (calls : S → Result ℕ E → S → Type 0) (a b c : S) (xs ys : List (Result ℕ E)) → Makes calls a xs b
+    → Makes calls b ys c → Makes calls a (xs ++ ys) c
 Makes-append {S} calls a b c [] ys m n = subst (λ (s : S). Makes calls s ys c) m n
 Makes-append calls a b c (r ∷ xs) ys m n = (m.0, m.1, Makes-append calls m.0 b c xs ys m.2 n)
 
@@ -36,7 +38,8 @@ pub reads_once : {S E : Type 0} (reads : S → ℕ → Result ℕ E → S → Ty
     → CountsReads (for_a_block reads) a n b k' n'
 reads_once {S} {E} reads most l a b n k k' n' h = record { results = h.0; made = each_block reads most l a b h.0 h.1; counted = by h.2 }
   where
-    by : (n' ≡ n + failed_reads h.0) ⊎ ((k ≡ 2 ^ 64 - 1) × (k' ≡ k) × (h.0 ≡ []) × (n' ≡ n + 1)) → (n' ≡ n + failed_reads h.0) ⊎ ((k' ≡ 2 ^ 64 - 1) × (n' ≡ n + failed_reads h.0 + 1))
+    by : (n' ≡ n + failed_reads h.0) ⊎ ((k ≡ 2 ^ 64 - 1) × (k' ≡ k) × (h.0 ≡ []) × (n' ≡ n + 1))
+        → (n' ≡ n + failed_reads h.0) ⊎ ((k' ≡ 2 ^ 64 - 1) × (n' ≡ n + failed_reads h.0 + 1))
     by (inl e) = inl e
     by (inr e) = inr (e.1 ∙ e.0, omega (arith, e.3, ap (failed_reads {E = E}) e.2))
 

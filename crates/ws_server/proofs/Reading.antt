@@ -1,5 +1,6 @@
 -- What a read that goes on gives.
-use Rattle.std.proofs.Common.{◌≡◌, ◌≢◌, ℕ, ◌+◌, ◌<◌, List, [], ◌∷◌, ◌++◌, length, take, drop, Option, None, Some, sym, ap, ◌∙◌, append_assoc, arith, length-append}
+use Rattle.std.proofs.Common.{◌≡◌, ◌≢◌, ℕ, ◌+◌, ◌<◌, List, [], ◌∷◌, ◌++◌, length, take, drop, Option, None, Some, sym, ap, ◌∙◌}
+use Rattle.std.proofs.Common.{append_assoc, arith, length-append}
 use Rattle.std.specs.Io.KnownBytes.{Consumes}
 use Rattle.std.proofs.lemmas.List.{take_at}
 use Rattle.std.proofs.lemmas.List.Elements.{All-append, All-same}
@@ -28,7 +29,8 @@ skip_done a b d skipped held got filled bytes held' at c plain none c' f e front
       Consumes-then a b d skipped got c c',
       (
         skipped ++ take at bytes,
-        ap (λ t. skipped ++ t) (sym bg ∙ is ∙ ap (λ t. take at bytes ++ 10 ∷ t) hd) ∙ sym (append_assoc skipped (take at bytes) (10 ∷ held')),
+        ap (λ t. skipped ++ t) (sym bg ∙ is ∙ ap (λ t. take at bytes ++ 10 ∷ t) hd)
+            ∙ sym (append_assoc skipped (take at bytes) (10 ∷ held')),
         plain_append skipped (take at bytes) plain front,
       ),
     )
@@ -43,7 +45,8 @@ skip_more a b d skipped held got filled bytes c plain none c' f e front =
 
 -- more was read behind bytes that have no LF
 pub line_more : (a b d : Option (List ℕ)) (start got window more new bytes : List ℕ) (seen : ℕ)
-    → Consumes a b got → window ≡ start ++ got → Consumes b d more → new ≡ window ++ more → bytes ≡ window → IsLine bytes → seen ≡ length window
+    → Consumes a b got → window ≡ start ++ got → Consumes b d more → new ≡ window ++ more → bytes ≡ window → IsLine bytes
+    → seen ≡ length window
     → ((all : List ℕ) × Consumes a d all × (new ≡ start ++ all)) × IsLine (take seen new)
 line_more a b d start got window more new bytes seen c w c' e same plain s = (
   (got ++ more, Consumes-then a b d got more c c', e ∙ ap (λ t. t ++ more) w ∙ append_assoc start got more),
@@ -59,10 +62,12 @@ long_skipped limit a b d start got window bytes held None c w e plain long (more
     let front : IsLine (start ++ got) = plain_same (start ++ got) bytes (sym w ∙ sym e) plain in (
       got ++ more,
       Consumes-then a b d got more c c',
-      plain_same (start ++ (got ++ more)) ((start ++ got) ++ more) (sym (append_assoc start got more)) (plain_append (start ++ got) more front s),
+      plain_same (start ++ (got ++ more)) ((start ++ got) ++ more) (sym (append_assoc start got more))
+          (plain_append (start ++ got) more front s),
     )
 long_skipped limit a b d start got window bytes held (Some Long) c w e plain long (more, c', (line, is, p)) =
-    let size : length ((start ++ got) ++ line) ≡ length window + length line = length-append (start ++ got) line ∙ ap (λ t. length t + length line) (sym w) in (
+    let size : length ((start ++ got) ++ line) ≡ length window + length line =
+    length-append (start ++ got) line ∙ ap (λ t. length t + length line) (sym w) in (
       got ++ more,
       Consumes-then a b d got more c c',
       (
@@ -79,7 +84,8 @@ long_skipped limit a b d start got window bytes held (Some LastLong) c w e plain
       got ++ more,
       Consumes-then a b d got more c c',
       (
-        plain_same (start ++ (got ++ more)) ((start ++ got) ++ more) (sym (append_assoc start got more)) (plain_append (start ++ got) more front s),
+        plain_same (start ++ (got ++ more)) ((start ++ got) ++ more) (sym (append_assoc start got more))
+            (plain_append (start ++ got) more front s),
         omega arith,
       ),
     )
@@ -88,7 +94,8 @@ long_skipped limit a b d start got window bytes held (Some (Last n)) c w e plain
 
 -- the bytes held were kept, and more were read
 pub kept_more : (a b d : Option (List ℕ)) (start got kept window bytes kept' cleared new more : List ℕ)
-    → Consumes a b got → start ++ got ≡ kept ++ window → bytes ≡ window → kept' ≡ kept ++ bytes → cleared ≡ [] → Consumes b d more → new ≡ cleared ++ more
+    → Consumes a b got → start ++ got ≡ kept ++ window → bytes ≡ window → kept' ≡ kept ++ bytes → cleared ≡ [] → Consumes b d more
+    → new ≡ cleared ++ more
     → (x : List ℕ) × Consumes a d x × (start ++ x ≡ kept' ++ new)
 kept_more a b d start got kept window bytes kept' cleared new more c all same is none c' filled = (
   got ++ more,

@@ -60,9 +60,11 @@ impl<R: Source> Counted<R> {
         requires few_failed { self.old.failures < 2 ^ 63 }
         ensures gave { ReadGave (R.remaining self.old.inner) (R.remaining self.new.inner) result buf.new }
         ensures counted { MatchOption result (self.new.failures ≡ self.old.failures + 1) (λ _. self.new.failures ≡ self.old.failures) }
-        ensures made { (results : List (Result ℕ Error)) × Makes (λ s r t. R.reads s (length buf.old) r t) self.old.inner results self.new.inner
+        ensures made { (results : List (Result ℕ Error)) × Makes
+            (λ s r t. R.reads s (length buf.old) r t) self.old.inner results self.new.inner
             × ((self.new.failures ≡ self.old.failures + failed_reads results)
-            ⊎ ((self.old.calls ≡ 2 ^ 64 - 1) × (self.new.calls ≡ self.old.calls) × (results ≡ []) × (self.new.failures ≡ self.old.failures + 1))) }
+            ⊎ ((self.old.calls ≡ 2 ^ 64 - 1) × (self.new.calls ≡ self.old.calls) × (results ≡ [])
+            × (self.new.failures ≡ self.old.failures + 1))) }
         ensures calls { MatchOption result (self.old.calls ≤ self.new.calls) (λ _. self.new.calls ≡ self.old.calls + 1) }
     {
         if self.calls == u64::MAX {

@@ -152,7 +152,8 @@ pub(crate) fn answer_message<R: Wait, G: Gate>(
     ensures pass { IsHallPassOf hall.now pass.new }
     ensures conn { IsConnOf hall.now conn.new }
     ensures answered { (answer : List ℕ) × (made : Option ℕ)
-        × AnswersFrame G.told_before hall.now (record { conn = conn.old; passes = pass.old.passes.items; gate = gate.old }) bytes.now answer made
+        × AnswersFrame G.told_before hall.now (record { conn = conn.old; passes = pass.old.passes.items; gate = gate.old })
+        bytes.now answer made
         (record { conn = conn.new; passes = pass.new.passes.items; gate = gate.new })
         × IfOk result (λ answered. (string_bytes answered.text ≡ answer) × (answered.call ≡ made)) }
     ensures memory { IfErr result (λ why. why ≡ Memory) }
@@ -197,7 +198,8 @@ pub fn answer_frame<R: Wait, G: Gate>(
     ensures pass { IsHallPassOf hall.now pass.new }
     ensures conn { IsConnOf hall.now conn.new }
     ensures answered { (answer : List ℕ) × (made : Option ℕ)
-        × AnswersFrame G.told_before hall.now (record { conn = conn.old; passes = pass.old.passes.items; gate = gate.old }) bytes.now answer made
+        × AnswersFrame G.told_before hall.now (record { conn = conn.old; passes = pass.old.passes.items; gate = gate.old })
+        bytes.now answer made
         (record { conn = conn.new; passes = pass.new.passes.items; gate = gate.new })
         × IfOk result (λ text. string_bytes text ≡ answer) }
     ensures memory { IfErr result (λ why. why ≡ Memory) }

@@ -32,7 +32,8 @@ pub trait Protocol {
     fn answer(alloc: Global, state: &mut Self::State, line: &[u8]) -> Result<ReplyLine, AllocError>
         requires { ready state.old }
         ensures ready { ready state.new }
-        ensures answered { (text : List ℕ) × answers state.old line.now text state.new × IfOk result (λ made. line_bytes made ≡ ended text) };
+        ensures answered { (text : List ℕ) × answers state.old line.now text state.new
+            × IfOk result (λ made. line_bytes made ≡ ended text) };
 
     // The limit is within what the engine's buffer has room for.
     ghost fits: { LIMIT ≤ 65600 };

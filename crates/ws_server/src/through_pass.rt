@@ -35,9 +35,11 @@ pub fn serve_through_pass<H: Wait, R: Source, W: Sink>(
         × Consumes (R.remaining input.old.inner) (R.remaining input.new.inner) got
         × Appends (W.contents output.old.inner) (W.contents output.new.inner) written
         × (StartsNot (view pass.old) got written result (view pass.new)
-        ⊎ Serves (Answers (pass_step (opening room.now)) pass_fault) (view pass.old) got (R.remaining input.new.inner) written result (view pass.new)) }
+        ⊎ Serves (Answers (pass_step (opening room.now)) pass_fault) (view pass.old) got (R.remaining input.new.inner) written result
+        (view pass.new)) }
     ensures counted { Rises input.old.failures input.new.failures output.old.failures output.new.failures result }
-    ensures reads { CountsReads (for_a_block R.reads) input.old.inner input.old.failures input.new.inner input.new.calls input.new.failures }
+    ensures reads { CountsReads (for_a_block R.reads) input.old.inner input.old.failures input.new.inner input.new.calls
+        input.new.failures }
     ensures writes { CountsWrites W.writes output.old.inner output.old.failures output.new.inner output.new.failures }
 {
     let mut desk = PassDesk::new(rt, room, pass);
@@ -60,9 +62,11 @@ fn serve_lent<H: Wait, R: Source, W: Sink>(
         × Consumes (R.remaining input.old.inner) (R.remaining input.new.inner) got
         × Appends (W.contents output.old.inner) (W.contents output.new.inner) written
         × (StartsNot (view desk.old.pass.now) got written result (view desk.new.pass.now)
-        ⊎ Serves (Answers (pass_step (opening desk.old.room.now)) pass_fault) (view desk.old.pass.now) got (R.remaining input.new.inner) written result (view desk.new.pass.now)) }
+        ⊎ Serves (Answers (pass_step (opening desk.old.room.now)) pass_fault) (view desk.old.pass.now) got
+        (R.remaining input.new.inner) written result (view desk.new.pass.now)) }
     ensures counted { Rises input.old.failures input.new.failures output.old.failures output.new.failures result }
-    ensures reads { CountsReads (for_a_block R.reads) input.old.inner input.old.failures input.new.inner input.new.calls input.new.failures }
+    ensures reads { CountsReads (for_a_block R.reads) input.old.inner input.old.failures input.new.inner input.new.calls
+        input.new.failures }
     ensures writes { CountsWrites W.writes output.old.inner output.old.failures output.new.inner output.new.failures }
 {
     serve_lines(alloc, desk, input, output)

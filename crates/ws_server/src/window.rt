@@ -1,5 +1,6 @@
 //! The bytes that were read and not yet served, in one buffer that is kept, and the next line of them.
-ghost use Rattle.std.specs.Prelude.{◌≡◌, ℕ, ◌+◌, ◌-◌, ◌*◌, ◌^◌, ◌<◌, ◌≤◌, List, [], ◌∷◌, ◌++◌, length, take, drop, vec_len, OnOk, IfOk, IsNone, IsSome, OnSome, MatchOption, All, Some};
+ghost use Rattle.std.specs.Prelude.{◌≡◌, ℕ, ◌+◌, ◌-◌, ◌*◌, ◌^◌, ◌<◌, ◌≤◌, List, [], ◌∷◌, ◌++◌, length, take, drop, vec_len, OnOk, IfOk};
+ghost use Rattle.std.specs.Prelude.{IsNone, IsSome, OnSome, MatchOption, All, Some};
 ghost use Rattle.std.specs.Io.KnownBytes.{Keeps, Consumes, IsAtEnd};
 ghost use Rattle.ws_server.specs.Calls.{for_a_block, CountsReads};
 ghost use Rattle.ws_server.specs.Lines.{IsLine};
@@ -94,7 +95,8 @@ impl Window {
         requires few_failed { input.old.failures < 2 ^ 63 }
         ensures fills { Fills (R.remaining input.old.inner) (R.remaining input.new.inner) self.old result self.new }
         ensures counted { MatchOption result (input.new.failures ≡ input.old.failures + 1) (λ _. input.new.failures ≡ input.old.failures) }
-        ensures made { CountsReads (for_a_block R.reads) input.old.inner input.old.failures input.new.inner input.new.calls input.new.failures }
+        ensures made { CountsReads (for_a_block R.reads) input.old.inner input.old.failures input.new.inner input.new.calls
+            input.new.failures }
         ensures work { OnSome result (work input.new.calls self.new < work input.old.calls self.old) }
     {
         self.start = moved_start(&mut self.buf, self.start, self.len);
@@ -130,7 +132,9 @@ fn read_behind<R: Source>(buf: &mut [u8], at: usize, input: &mut Counted<R>) -> 
     requires room { at + 65536 ≤ length buf.old }
     requires few_failed { input.old.failures < 2 ^ 63 }
     ensures front { take at buf.new ≡ take at buf.old }
-    ensures bound { MatchOption result (Keeps (R.remaining input.old.inner) (R.remaining input.new.inner)) (λ n. (at + n ≤ length buf.new) × Consumes (R.remaining input.old.inner) (R.remaining input.new.inner) (take n (drop at buf.new)) × (n ≡ 0 → IsAtEnd (R.remaining input.new.inner))) }
+    ensures bound { MatchOption result (Keeps (R.remaining input.old.inner) (R.remaining input.new.inner))
+        (λ n. (at + n ≤ length buf.new) × Consumes (R.remaining input.old.inner) (R.remaining input.new.inner) (take n (drop at buf.new))
+        × (n ≡ 0 → IsAtEnd (R.remaining input.new.inner))) }
     ensures counted { MatchOption result (input.new.failures ≡ input.old.failures + 1) (λ _. input.new.failures ≡ input.old.failures) }
     ensures made { CountsReads (for_a_block R.reads) input.old.inner input.old.failures input.new.inner input.new.calls input.new.failures }
     ensures calls { MatchOption result (input.old.calls ≤ input.new.calls) (λ _. input.new.calls ≡ input.old.calls + 1) }
@@ -142,7 +146,8 @@ fn read_behind<R: Source>(buf: &mut [u8], at: usize, input: &mut Counted<R>) -> 
 pub(crate) fn find_end(bytes: &[u8], from: usize) -> Option<usize>
     requires within { from ≤ length bytes.now }
     requires before { IsLine (take from bytes.now) }
-    ensures { MatchOption result (IsLine bytes.now) (λ at. (at < length bytes.now) × IsLine (take at bytes.now) × (bytes.now ≡ take at bytes.now ++ 10 ∷ drop (at + 1) bytes.now)) }
+    ensures { MatchOption result (IsLine bytes.now) (λ at. (at < length bytes.now) × IsLine (take at bytes.now)
+        × (bytes.now ≡ take at bytes.now ++ 10 ∷ drop (at + 1) bytes.now)) }
 {
     match memchr(b'\n', &bytes[from..]) {
         None => None,
@@ -159,7 +164,8 @@ pub(crate) fn next_line<R: Source>(
 ) -> Option<Next>
     requires fits { limit ≤ 65600 }
     requires few_failed { input.old.failures < 2 ^ 63 }
-    ensures cuts { (got : List ℕ) × Consumes (R.remaining input.old.inner) (R.remaining input.new.inner) got × Cuts limit (window.old ++ got) result window.new }
+    ensures cuts { (got : List ℕ) × Consumes (R.remaining input.old.inner) (R.remaining input.new.inner) got
+        × Cuts limit (window.old ++ got) result window.new }
     ensures ends { EndsAtLast result (R.remaining input.new.inner) }
     ensures counted { MatchOption result (input.new.failures ≡ input.old.failures + 1) (λ _. input.new.failures ≡ input.old.failures) }
     ensures made { CountsReads (for_a_block R.reads) input.old.inner input.old.failures input.new.inner input.new.calls input.new.failures }
@@ -192,7 +198,8 @@ pub(crate) fn next_line<R: Source>(
 fn skip_line<R: Source>(window: &mut Window, input: &mut Counted<R>) -> Option<Next>
     requires empty { window.old ≡ [] }
     requires few_failed { input.old.failures < 2 ^ 63 }
-    ensures skips { (got : List ℕ) × Consumes (R.remaining input.old.inner) (R.remaining input.new.inner) got × Skips got result window.new }
+    ensures skips { (got : List ℕ) × Consumes (R.remaining input.old.inner) (R.remaining input.new.inner) got
+        × Skips got result window.new }
     ensures ends { EndsAtLast result (R.remaining input.new.inner) }
     ensures counted { MatchOption result (input.new.failures ≡ input.old.failures + 1) (λ _. input.new.failures ≡ input.old.failures) }
     ensures made { CountsReads (for_a_block R.reads) input.old.inner input.old.failures input.new.inner input.new.calls input.new.failures }

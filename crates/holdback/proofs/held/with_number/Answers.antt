@@ -9,4 +9,5 @@ pub returns : goal.returns
 returns c =
     let xs = c.args.ops.now in
     let wanted = number_of c.args.op.now in
-    c.copied.ensures ∙ find_from_yields_List (λ (y : Operation). is_same_number wanted (number_of y)) _ _ c.find.result c.find.ensures.ran (YieldsList-from_slice xs cc) (λ x b q k. search (rules, tests))
+    c.copied.ensures ∙ find_from_yields_List (λ (y : Operation). is_same_number wanted (number_of y)) _ _ c.find.result c.find.ensures.ran
+    (YieldsList-from_slice xs cc) (λ x b q k. search (rules, tests))

@@ -7,6 +7,7 @@ use Rattle.position_translate.proofs.deletions.run.Given as goal
 -- what was made, with the run of the rest, is the whole run
 abbrev pub invariant-loop-place : goal.invariant-loop-place
 invariant-loop-place l = record {
-  whole : l.ops.items ++ deletion_run l.site l.clock (stamps (visible_at l.doc.log l.version) l.place l.end) ≡ deletion_run l.site l.initial.clock (stamps (visible_at l.doc.log l.version) l.first l.end);
+  whole : l.ops.items ++ deletion_run l.site l.clock (stamps (visible_at l.doc.log l.version) l.place l.end)
+      ≡ deletion_run l.site l.initial.clock (stamps (visible_at l.doc.log l.version) l.first l.end);
   few : sum l.clock + l.end ≤ 131072 + l.place;
 }

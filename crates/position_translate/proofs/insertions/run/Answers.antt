@@ -15,24 +15,37 @@ loop-ch-init c = record {
 
 pub next_op-op-requires : goal.next_op-op-requires
 next_op-op-requires c =
-    let t = YieldsList-turn (YieldsList-from_chars c.args.text.now c.utf8.text cc) c.loop-ch.yielded _ c.loop-ch.yielded_by _ _ c.in-Some.ch c.in-Some.is c.next.ensures.steps in
+    let t = YieldsList-turn (YieldsList-from_chars c.args.text.now c.utf8.text cc) c.loop-ch.yielded _ c.loop-ch.yielded_by _ _ c.in-Some.ch
+    c.in-Some.is c.next.ensures.steps in
     omega (arith, t.0, c.loop-ch.invariant.few)
 
 pub loop-ch-preserved : goal.loop-ch-preserved
 loop-ch-preserved c =
-    let t = YieldsList-turn (YieldsList-from_chars c.args.text.now c.utf8.text cc) c.loop-ch.yielded _ c.loop-ch.yielded_by _ _ c.in-Some.ch c.in-Some.is c.next.ensures.steps in
+    let t = YieldsList-turn (YieldsList-from_chars c.args.text.now c.utf8.text cc) c.loop-ch.yielded _ c.loop-ch.yielded_by _ _ c.in-Some.ch
+    c.in-Some.is c.next.ensures.steps in
     record {
       whole =
-          ap (λ ops. ops ++ insertion_run c.args.site c.clock-clock.result (Some c.stamp.result) (drop (length (c.loop-ch.yielded ++ c.in-Some.ch ∷ [])) (chars c.args.text.now))) c.in_ok-push.ensures.items
-          ∙ ap (λ n. (c.loop-ch.ops.items ++ c.next_op-op.result ∷ []) ++ insertion_run c.args.site c.clock-clock.result (Some c.stamp.result) (drop n (chars c.args.text.now))) (length_push c.loop-ch.yielded c.in-Some.ch)
-          ∙ insertion_more c.args.site c.loop-ch.ops.items c.loop-ch.clock c.clock-clock.result c.loop-ch.parent (Some c.stamp.result) (chars c.args.text.now) (length c.loop-ch.yielded) c.in-Some.ch c.next_op-op.result
+          ap (λ ops. ops ++ insertion_run c.args.site c.clock-clock.result (Some c.stamp.result)
+          (drop (length (c.loop-ch.yielded ++ c.in-Some.ch ∷ [])) (chars c.args.text.now))) c.in_ok-push.ensures.items
+          ∙ ap (λ n. (c.loop-ch.ops.items ++ c.next_op-op.result ∷ [])
+          ++ insertion_run c.args.site c.clock-clock.result (Some c.stamp.result) (drop n (chars c.args.text.now)))
+          (length_push c.loop-ch.yielded c.in-Some.ch)
+          ∙ insertion_more c.args.site c.loop-ch.ops.items c.loop-ch.clock c.clock-clock.result c.loop-ch.parent (Some c.stamp.result)
+          (chars c.args.text.now) (length c.loop-ch.yielded) c.in-Some.ch c.next_op-op.result
           (insertion_run c.args.site c.args.clock c.args.parent (chars c.args.text.now))
           t.0 t.1 c.next_op-op.ensures.value c.clock-clock.ensures.value (ap Some c.stamp.ensures) c.loop-ch.invariant.whole;
-      few = omega (arith, c.loop-ch.invariant.few, c.next_op-op.ensures.total, ap sum c.clock-clock.ensures.value, length_push c.loop-ch.yielded c.in-Some.ch);
+      few = omega (
+        arith,
+        c.loop-ch.invariant.few,
+        c.next_op-op.ensures.total,
+        ap sum c.clock-clock.ensures.value,
+        length_push c.loop-ch.yielded c.in-Some.ch,
+      );
     }
 
 pub returns : goal.returns
 returns c =
-    let t = YieldsList-end (YieldsList-from_chars c.args.text.now c.utf8.text cc) c.loop-ch.yielded _ c.loop-ch.yielded_by _ _ c.in-None.is c.next.ensures.steps in
+    let t = YieldsList-end (YieldsList-from_chars c.args.text.now c.utf8.text cc) c.loop-ch.yielded _ c.loop-ch.yielded_by _ _ c.in-None.is
+    c.next.ensures.steps in
     insertion_all c.args.site c.loop-ch.ops.items c.loop-ch.clock c.loop-ch.parent (chars c.args.text.now) (length c.loop-ch.yielded)
     (insertion_run c.args.site c.args.clock c.args.parent (chars c.args.text.now)) (omega (arith, t.1)) c.loop-ch.invariant.whole

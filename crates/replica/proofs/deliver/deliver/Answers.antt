@@ -14,7 +14,8 @@ returns-in_err-look-clause-cause c =
     let p = err_from_is_err_and c.from_residual.result c.from_residual.ensures.1 in
     let own : claims_site c.args.site c.args.log.now.log c.args.op ≡ false = sym c.if-claims_site.ensures.value in
     let other : look_for c.args.op c.args.log.now.log ≡ Err c.in_err-look.field-0.0 = sym c.in_err-look.ensures in
-    rw (p.1, p.2) (inl (ap (λ (d : Delivered). d.outcome) (deliver-other_in_log c.args.site c.args.log.now.log c.args.held.now.ops c.args.op c.in_err-look.field-0.0 own other)))
+    rw (p.1, p.2) (inl (ap (λ (d : Delivered). d.outcome) (deliver-other_in_log c.args.site c.args.log.now.log c.args.held.now.ops c.args.op
+    c.in_err-look.field-0.0 own other)))
 
 pub returns-in_err-offer-clause-cause : goal.returns-in_err-offer-clause-cause
 returns-in_err-offer-clause-cause c =
@@ -38,7 +39,8 @@ returns-in_err-look-2-clause-cause c =
     let own : claims_site c.args.site log c.args.op ≡ false = sym c.if-claims_site.ensures.value in
     let new : look_for c.args.op log ≡ Ok false = sym c.in_ok-look.ensures ∙ ap Ok c.if-branch.false in
     let other : look_for c.args.op c.args.held.now.ops ≡ Err c.in_err-look-2.field-0.0 = sym c.in_err-look-2.ensures in
-    rw (p.1, p.2) (inl (ap (λ (d : Delivered). d.outcome) (deliver-other_held c.args.site log c.args.held.now.ops c.args.op c.in_err-look-2.field-0.0 own new other)))
+    rw (p.1, p.2) (inl (ap (λ (d : Delivered). d.outcome) (deliver-other_held c.args.site log c.args.held.now.ops c.args.op
+    c.in_err-look-2.field-0.0 own new other)))
 
 pub returns-in_err-tally-clause-cause : goal.returns-in_err-tally-clause-cause
 returns-in_err-tally-clause-cause c =

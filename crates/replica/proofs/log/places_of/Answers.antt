@@ -30,6 +30,7 @@ told-preserved c =
     record {
       numbered = subst (λ (ops : List Operation). AreNumbered ops c.push.new.self.rows) (sym next)
           (AreNumbered-push (take i log) c.reserve.new.self.rows c.push.new.self.rows x c.site.result i rows c.site.ensures.value
-          (omega (arith, c.site.ensures.value, c.site.ensures.kept.site)) (sym (length-take-le i log (omega (arith, within)))) c.push.ensures.rows);
+          (omega (arith, c.site.ensures.value, c.site.ensures.kept.site))
+          (sym (length-take-le i log (omega (arith, within)))) c.push.ensures.rows);
       walk = here.1;
     }

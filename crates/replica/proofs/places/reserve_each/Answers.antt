@@ -9,17 +9,22 @@ returns-in_err-reserve-clause-kept c room h =
     let within : c.loop-row.row-index < length c.loop-row.rows = omega arith in
     let same : c.reserve.new.self ≡ c.row-item.result = c.in_err-reserve.ensures.err ∙ sym c.row-item.is in
     let no_less : c.row-item.result.room ≤ c.reserve.new.self.room = omega (arith, ap (λ (r : PlacesOfOne). r.room) same) in
-    kept_room c.loop-row.rows c.loop-row.row-index room c.row-item.result c.reserve.new.self within c.row-item.is no_less (c.loop-row.invariant.kept room h)
+    kept_room c.loop-row.rows c.loop-row.row-index room c.row-item.result c.reserve.new.self within c.row-item.is no_less
+    (c.loop-row.invariant.kept room h)
 
 pub loop-row-preserved : goal.loop-row-preserved
 loop-row-preserved c =
     let within : c.loop-row.row-index < length c.loop-row.rows = omega arith in
-    let places : c.reserve.new.self.places ≡ c.row-item.result.places = ap (λ (r : PlacesOfOne). r.places) (c.in_ok-reserve.ensures.ok) ∙ ap (λ (r : PlacesOfOne). r.places) (sym c.row-item.is) in
-    let before : c.row-item.result.room ≤ c.reserve.new.self.room = omega (arith, ap (λ (r : PlacesOfOne). r.room) c.in_ok-reserve.ensures.ok, ap (λ (r : PlacesOfOne). r.room) c.row-item.is) in
+    let places : c.reserve.new.self.places ≡ c.row-item.result.places =
+    ap (λ (r : PlacesOfOne). r.places) (c.in_ok-reserve.ensures.ok) ∙ ap (λ (r : PlacesOfOne). r.places) (sym c.row-item.is) in
+    let before : c.row-item.result.room ≤ c.reserve.new.self.room =
+    omega (arith, ap (λ (r : PlacesOfOne). r.room) c.in_ok-reserve.ensures.ok, ap (λ (r : PlacesOfOne). r.room) c.row-item.is) in
     let asked : c.args.n ≤ c.reserve.new.self.room = omega (arith, ap (λ (r : PlacesOfOne). r.room) c.in_ok-reserve.ensures.ok) in
     record {
-      same = kept_places c.loop-row.rows c.loop-row.row-index c.row-item.result c.reserve.new.self within c.row-item.is places ∙ c.loop-row.invariant.same;
-      kept = λ room h. kept_room c.loop-row.rows c.loop-row.row-index room c.row-item.result c.reserve.new.self within c.row-item.is before (c.loop-row.invariant.kept room h);
+      same = kept_places c.loop-row.rows c.loop-row.row-index c.row-item.result c.reserve.new.self within c.row-item.is places
+          ∙ c.loop-row.invariant.same;
+      kept = λ room h. kept_room c.loop-row.rows c.loop-row.row-index room c.row-item.result c.reserve.new.self within c.row-item.is before
+          (c.loop-row.invariant.kept room h);
       enough = enough_more c.loop-row.rows c.loop-row.row-index c.args.n c.reserve.new.self within asked c.loop-row.invariant.enough;
     }
 

@@ -10,5 +10,6 @@ returns-in_err-reserve-clause-same c k =
     let ids : Row → List (ℕ × ℕ) = λ r. r.ids in
     let within : c.loop-table.table-index < length c.loop-table.tables = search rules in
     set-keeps ids c.loop-table.tables c.loop-table.table-index k c.reserve.new.self within
-    (ap ids (c.in_err-reserve.ensures.err ∙ row_same c.loop-table.tables c.loop-table.table-index c.loop-table.table-index c.table-item.result refl within))
+    (ap ids (c.in_err-reserve.ensures.err ∙ row_same c.loop-table.tables c.loop-table.table-index c.loop-table.table-index
+    c.table-item.result refl within))
     ∙ c.loop-table.invariant.same k

@@ -24,7 +24,8 @@ returns-in-Ok-open-clause-plays g c =
     let room = c.in-Ok-open.opening.room in (
       o.0 ++ s.0,
       s.1,
-      Consumes-then (g.R.Read.remaining c.args.input.now.inner) (g.R.Read.remaining c.open.new.input.inner) (g.R.Read.remaining c.serve_room.new.input.inner) o.0 s.0 o.1 s.2,
+      Consumes-then (g.R.Read.remaining c.args.input.now.inner) (g.R.Read.remaining c.open.new.input.inner)
+          (g.R.Read.remaining c.serve_room.new.input.inner) o.0 s.0 o.1 s.2,
       s.3,
       inr (
         c.in-Ok-open.opening.is_over,
@@ -32,6 +33,7 @@ returns-in-Ok-open-clause-plays g c =
         c.open.new.window ++ s.0,
         opens_more c.args.resume c.args.site (g.R.Read.remaining c.open.new.input.inner) (g.R.Read.remaining c.serve_room.new.input.inner)
             o.0 s.0 c.in-Ok-open.opening.is_over room.state.log c.open.new.window s.4 c.serve_room.ensures.unread o.2.1,
-        subst (λ (r : Account). ServesRoom r c.args.snapshot (c.open.new.window ++ s.0) (g.R.Read.remaining c.serve_room.new.input.inner) s.1 c.serve_room.result) o.2.0 s.5,
+        subst (λ (r : Account). ServesRoom r c.args.snapshot (c.open.new.window ++ s.0)
+            (g.R.Read.remaining c.serve_room.new.input.inner) s.1 c.serve_room.result) o.2.0 s.5,
       ),
     )

@@ -12,7 +12,8 @@ returns-in-Ok-clause-serves g c =
       h.0,
       h.1 ++ k.0,
       h.2,
-      Appends-then (g.W.Write.contents c.args.output.now.inner) (g.W.Write.contents c.serve_rest.new.output.inner) (g.W.Write.contents c.close.new.output.inner) h.1 k.0 h.3 k.1,
+      Appends-then (g.W.Write.contents c.args.output.now.inner) (g.W.Write.contents c.serve_rest.new.output.inner)
+          (g.W.Write.contents c.close.new.output.inner) h.1 k.0 h.3 k.1,
       h.4,
       closed c.args.opening.room c.args.snapshot c.new-desk.result c.serve_rest.new.desk (c.args.window.now ++ h.0) h.1 k.0
           (g.R.Read.remaining c.serve_rest.new.input.inner) c.replica.result.now.log c.close.result

@@ -22,7 +22,8 @@ returns-in_default-clause-plays g c = (
 
 -- all lines were answered, and what the sites read is written
 whole : (sites : ℕ) (world after : List Account) (held got answers last : List ℕ) (left : Option (List ℕ)) (r : Result (Unit {0}) Stop)
-    → held ≡ [] → world ≡ empty_rooms 0 sites → Serves {T = Unit {0}} AnswersLine world (held ++ got) left answers (Ok tt) after → Writes (readings after) last r
+    → held ≡ [] → world ≡ empty_rooms 0 sites → Serves {T = Unit {0}} AnswersLine world (held ++ got) left answers (Ok tt) after
+    → Writes (readings after) last r
     → ServesWorld sites got left (answers ++ last) r
 whole sites world after held got answers last left r none opens serves writes = record {
   after = after;
@@ -57,8 +58,10 @@ returns-in-Ok-serve-clause-plays g c =
       h.0,
       h.1 ++ k.0,
       h.2,
-      Appends-then (g.W.Write.contents c.args.output.now.inner) (g.W.Write.contents c.serve.new.output.inner) (g.W.Write.contents c.write_readings.new.output.inner) h.1 k.0 h.3 k.1,
-      inr (whole c.args.sites c.in-Ok-new.world c.serve.new.state c.in-Ok.window h.0 h.1 k.0 (g.R.Read.remaining c.serve.new.input.inner) c.write_readings.result
+      Appends-then (g.W.Write.contents c.args.output.now.inner) (g.W.Write.contents c.serve.new.output.inner)
+          (g.W.Write.contents c.write_readings.new.output.inner) h.1 k.0 h.3 k.1,
+      inr (whole c.args.sites c.in-Ok-new.world c.serve.new.state c.in-Ok.window h.0 h.1 k.0
+          (g.R.Read.remaining c.serve.new.input.inner) c.write_readings.result
           c.in-Ok.ensures (c.in-Ok-new.ensures ∙ ap (λ n. empty_rooms 0 n) c.count.ensures.value) h.4 k.2),
     )
 
@@ -69,6 +72,7 @@ returns-clause-plays g c =
       h.1,
       h.2,
       h.3,
-      inr (broken c.args.sites c.in-Ok-new.world c.serve.new.state c.in-Ok.window h.0 h.1 (g.R.Read.remaining c.serve.new.input.inner) c.in-Err.why
+      inr (broken c.args.sites c.in-Ok-new.world c.serve.new.state c.in-Ok.window h.0 h.1
+          (g.R.Read.remaining c.serve.new.input.inner) c.in-Err.why
           c.in-Ok.ensures (c.in-Ok-new.ensures ∙ ap (λ n. empty_rooms 0 n) c.count.ensures.value) h.4),
     )

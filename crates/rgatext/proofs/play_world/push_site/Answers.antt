@@ -2,7 +2,8 @@
 use Rattle.std.specs.Result.{is_ok}
 use Rattle.std.proofs.lemmas.Bool.{eqb-true}
 use Rattle.replica_world.specs.World.{room_of}
-use Rattle.std.proofs.Common.{Bool, true, false, [], ◌∷◌, string_bytes, ◌≡◌, ◌∙◌, ℕ, List, ◌++◌, Option, Some, None, length, refl, sym, ap, subst, decimal}
+use Rattle.std.proofs.Common.{Bool, true, false, [], ◌∷◌, string_bytes, ◌≡◌, ◌∙◌, ℕ, List, ◌++◌, Option, Some, None, length, refl, sym, ap}
+use Rattle.std.proofs.Common.{subst, decimal}
 use Rattle.std.specs.Prelude.{IfOk, Result, Ok, Err, ◌==◌, if◌then◌else◌, option_map, encode_utf8_all}
 use Rattle.json.specs.Print.{quoted}
 use Rattle.opid.specs.Reading.{reading}
@@ -39,7 +40,8 @@ found_at site (b ∷ world) a e = by (b.state.site == site) refl (λ k. found_at
     by false h later k = later k
 
 -- what stands behind the text, where it was pushed
-pushed : {E : Type 0} (r : Result (Unit {0}) E) (new old line more : List ℕ) → new ≡ (if is_ok r then old ++ line else old) → line ≡ more → IfOk r (λ u. new ≡ old ++ more)
+pushed : {E : Type 0} (r : Result (Unit {0}) E) (new old line more : List ℕ) → new ≡ (if is_ok r then old ++ line else old) → line ≡ more
+    → IfOk r (λ u. new ≡ old ++ more)
 pushed (Ok u) new old line more e is = e ∙ ap (λ t. old ++ t) is
 pushed (Err w) new old line more e is = tt
 
@@ -48,8 +50,11 @@ returns c =
     let site = c.args.number in
     let at = c.in-Ok.ensures.value in
     let room : Option Account = room_of site c.args.world.now in
-    let version = subst (λ (n : ℕ). Some c.in-Ok-version.version ≡ option_map (λ a. length a.state.log) (room_of n c.args.world.now)) at c.in-Ok-version.ensures.ok in
-    let reads = subst (λ (n : ℕ). Some c.in-Ok-reading.reading ≡ option_map (λ a. reading a.state.log) (room_of n c.args.world.now)) at c.in-Ok-reading.ensures.ok in
-    let line = told site c.in-Ok-version.version c.in-Ok-reading.reading c.as_str.result.now room (λ a e. found_at site c.args.world.now a e) version reads c.as_str.ensures.bytes in
+    let version = subst (λ (n : ℕ). Some c.in-Ok-version.version ≡ option_map (λ a. length a.state.log) (room_of n c.args.world.now)) at
+    c.in-Ok-version.ensures.ok in
+    let reads = subst (λ (n : ℕ). Some c.in-Ok-reading.reading ≡ option_map (λ a. reading a.state.log) (room_of n c.args.world.now)) at
+    c.in-Ok-reading.ensures.ok in
+    let line = told site c.in-Ok-version.version c.in-Ok-reading.reading c.as_str.result.now room
+    (λ a e. found_at site c.args.world.now a e) version reads c.as_str.ensures.bytes in
     pushed c.push_str.result (string_bytes c.push_str.new.self) (string_bytes c.args.text.now) c.as_str-2.result.now (site_lines room)
     c.push_str.ensures.bytes (c.as_str-2.ensures.value ∙ c.in_ok-line.ensures ∙ line)

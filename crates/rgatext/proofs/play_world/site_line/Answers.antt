@@ -15,4 +15,5 @@ in_order site version text quoted is =
 pub returns : goal.returns
 returns c =
     IfOk-weaker c.format.result _ _
-    (λ s h. h ∙ in_order (decimal c.args.number) (decimal c.args.version) (string_bytes c.in_ok-text.text) _ c.in_ok-text.ensures) c.format.ensures.ok
+    (λ s h. h ∙ in_order (decimal c.args.number) (decimal c.args.version) (string_bytes c.in_ok-text.text) _ c.in_ok-text.ensures)
+    c.format.ensures.ok

@@ -14,7 +14,13 @@ is_word_call : IsWord (codes "call")
 is_word_call = (λ e. omega (arith, e), (λ e. omega (arith, e), (λ e. omega (arith, e), (λ e. omega (arith, e), tt))))
 
 is_word_carry : IsWord (codes "carry")
-is_word_carry = (λ e. omega (arith, e), (λ e. omega (arith, e), (λ e. omega (arith, e), (λ e. omega (arith, e), (λ e. omega (arith, e), tt)))))
+is_word_carry = (
+  λ e. omega (arith, e),
+  (
+    λ e. omega (arith, e),
+    (λ e. omega (arith, e), (λ e. omega (arith, e), (λ e. omega (arith, e), tt))),
+  ),
+)
 
 is_word_fork : IsWord (codes "fork")
 is_word_fork = (λ e. omega (arith, e), (λ e. omega (arith, e), (λ e. omega (arith, e), (λ e. omega (arith, e), tt))))
@@ -29,7 +35,8 @@ no_form line name rest word at call carry fork (Fork new start n) h =
     fork (one_cut name (codes "fork") rest _ word is_word_fork (sym at ∙ h.0)).0
 
 differs : (r : Bool) (a b p : List ℕ) → r ≡ pointwise eqb a b → r ≡ false → b ≡ p → a ≡ p → ⊥
-differs r a b p e fails is same = let yes = (slice_eq-Decides Decides-eqb _ _ _ e).1 (same ∙ sym is) in let apart : false ≡ true = sym fails ∙ yes in cc
+differs r a b p e fails is same =
+    let yes = (slice_eq-Decides Decides-eqb _ _ _ e).1 (same ∙ sym is) in let apart : false ≡ true = sym fails ∙ yes in cc
 
 pub returns-else-eq-3-clause-none : goal.returns-else-eq-3-clause-none
 returns-else-eq-3-clause-none c =
@@ -37,5 +44,7 @@ returns-else-eq-3-clause-none c =
     let name = c.in_ok-name.name.now in
     no_form c.args.line.now name c.in_ok-name.rest.now cut.0 cut.1
     (differs c.eq.result name c.as_slice.result.now (codes "call") c.eq.ensures c.if-eq.false c.as_slice.ensures)
-    (differs c.eq-else-eq.result name c.as_slice-else-eq.result.now (codes "carry") c.eq-else-eq.ensures c.if-eq-2.false c.as_slice-else-eq.ensures)
-    (differs c.eq-else-eq-2.result name c.as_slice-else-eq-2.result.now (codes "fork") c.eq-else-eq-2.ensures c.if-eq-3.false c.as_slice-else-eq-2.ensures)
+    (differs c.eq-else-eq.result name c.as_slice-else-eq.result.now
+    (codes "carry") c.eq-else-eq.ensures c.if-eq-2.false c.as_slice-else-eq.ensures)
+    (differs c.eq-else-eq-2.result name c.as_slice-else-eq-2.result.now
+    (codes "fork") c.eq-else-eq-2.ensures c.if-eq-3.false c.as_slice-else-eq-2.ensures)

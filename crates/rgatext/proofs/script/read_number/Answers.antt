@@ -24,7 +24,8 @@ pub returns-in-Ok-clause-some : goal.returns-in-Ok-clause-some
 returns-in-Ok-clause-some c =
     let word = c.args.word.now in
     let same = c.in-Ok.ensures.cases.0 in
-    let read : ParsesUnsigned 32 10 word c.parse.result = subst (λ (w : List ℕ). ParsesUnsigned 32 10 w c.parse.result) same c.parse.ensures.value.0 in
+    let read : ParsesUnsigned 32 10 word c.parse.result =
+    subst (λ (w : List ℕ). ParsesUnsigned 32 10 w c.parse.result) same c.parse.ensures.value.0 in
     let plain : IsPlain word = c.is_plain.ensures.0 c.if-not-is_plain.false in
     some_where_ok (λ n. word ≡ decimal n) c.parse.result c.ok.result c.ok.ensures.value (number_read word c.parse.result plain read)
 
@@ -32,8 +33,10 @@ pub returns-in-Ok-clause-none : goal.returns-in-Ok-clause-none
 returns-in-Ok-clause-none c =
     let word = c.args.word.now in
     let same = c.in-Ok.ensures.cases.0 in
-    let read : ParsesUnsigned 32 10 word c.parse.result = subst (λ (w : List ℕ). ParsesUnsigned 32 10 w c.parse.result) same c.parse.ensures.value.0 in
-    none_where_err ((n : ℕ) → n < 2 ^ 32 → word ≡ decimal n → ⊥) c.parse.result c.ok.result c.ok.ensures.value (number_not_read word c.parse.result read)
+    let read : ParsesUnsigned 32 10 word c.parse.result =
+    subst (λ (w : List ℕ). ParsesUnsigned 32 10 w c.parse.result) same c.parse.ensures.value.0 in
+    none_where_err ((n : ℕ) → n < 2 ^ 32 → word ≡ decimal n → ⊥) c.parse.result c.ok.result c.ok.ensures.value
+    (number_not_read word c.parse.result read)
 
 pub returns-in-Err-clause-none : goal.returns-in-Err-clause-none
 returns-in-Err-clause-none c = λ n fits is. c.in-Err.ensures.cases.0 (subst IsUtf8 (sym is) (decimal_is_text n fits))

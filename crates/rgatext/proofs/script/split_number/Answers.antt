@@ -11,4 +11,5 @@ pub returns-in_err-number-clause-none : goal.returns-in_err-number-clause-none
 returns-in_err-number-clause-none c =
     let first = c.in_ok-word.ensures.some in
     if_none c.from_residual-in_err-number.result
-    (λ n rest fits is. c.in_err-number.ensures.none n fits (one_cut c.in_ok-word.word.now (decimal n) c.in_ok-word.rest.now rest first.0 (decimal_is_a_word n fits) (sym first.1 ∙ is)).0)
+    (λ n rest fits is. c.in_err-number.ensures.none n fits (one_cut c.in_ok-word.word.now (decimal n) c.in_ok-word.rest.now rest first.0
+    (decimal_is_a_word n fits) (sym first.1 ∙ is)).0)

@@ -23,7 +23,8 @@ returns-in_ok-owned-in-Some-get_strs-clause-some c =
 
 pub returns-in-None-get_strs-clause-none : goal.returns-in-None-get_strs-clause-none
 returns-in-None-get_strs-clause-none c =
-    serve_no_names (rows_of (found_of c.args.used.now)) (sym (c.in-None-get_strs.ensures ∙ raw_values-rows (found_of c.args.used.now) (codes "name")))
+    serve_no_names (rows_of (found_of c.args.used.now)) (sym
+    (c.in-None-get_strs.ensures ∙ raw_values-rows (found_of c.args.used.now) (codes "name")))
 
 pub returns-in-None-conns_in-clause-none : goal.returns-in-None-conns_in-clause-none
 returns-in-None-conns_in-clause-none c =

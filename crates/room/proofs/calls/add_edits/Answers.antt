@@ -8,7 +8,15 @@ use Rattle.room.proofs.calls.add_edits.Goals as goal
 pub loop-version-preserved : goal.loop-version-preserved
 loop-version-preserved c = record {
   edits =
-      gathered (edits c.args.doc.now.log) c.loop-version.es.items c.push_reserved.new.self.items _ c.loop-version.version c.args.to c.edit.result c.loop-version-test.true
-      (subst (λ n. slice_get (edits c.args.doc.now.log) n ≡ Some c.edit.result) (omega arith) c.edit.ensures.value) c.loop-version.invariant.edits c.push_reserved.ensures.items;
-  room = omega (arith, c.loop-version.invariant.room, c.push_reserved.ensures.capacity, ap length c.push_reserved.ensures.items, length-append c.loop-version.es.items (c.edit.result ∷ []));
+      gathered (edits c.args.doc.now.log) c.loop-version.es.items c.push_reserved.new.self.items _ c.loop-version.version c.args.to
+      c.edit.result c.loop-version-test.true
+      (subst (λ n. slice_get (edits c.args.doc.now.log) n ≡ Some c.edit.result) (omega arith) c.edit.ensures.value)
+      c.loop-version.invariant.edits c.push_reserved.ensures.items;
+  room = omega (
+    arith,
+    c.loop-version.invariant.room,
+    c.push_reserved.ensures.capacity,
+    ap length c.push_reserved.ensures.items,
+    length-append c.loop-version.es.items (c.edit.result ∷ []),
+  );
 }

@@ -7,7 +7,8 @@ use Rattle.room.proofs.calls.hand_over.Given as goal
 abbrev pub invariant-loop-op : goal.invariant-loop-op
 invariant-loop-op l = record {
   site : l.replica.site ≡ l.initial.replica.site;
-  handed : with_before l.outcomes.items (hand_over l.replica.site l.replica.log l.replica.held (drop l.op-index l.ops)) ≡ hand_over l.initial.replica.site l.initial.replica.log l.initial.replica.held l.ops;
+  handed : with_before l.outcomes.items (hand_over l.replica.site l.replica.log l.replica.held (drop l.op-index l.ops))
+      ≡ hand_over l.initial.replica.site l.initial.replica.log l.initial.replica.held l.ops;
   room : length l.replica.held + length (drop l.op-index l.ops) ≤ l.replica.room;
   capacity : vec_len l.outcomes + length (drop l.op-index l.ops) ≤ vec_capacity l.outcomes;
 }

@@ -7,6 +7,7 @@ use Rattle.session_outbox.proofs.sessions.replace.Goals as goal
 
 pub returns-in_default : goal.returns-in_default
 returns-in_default c =
-    let n : session_with c.args.s (sessions_of c.args.facts.now.entries) ≡ None = sym (found c.args.s c.args.facts.now.entries) ∙ ap (option_map (λ w. session_of (c.args.s, w))) (sym c.in_default.ensures.value) in
+    let n : session_with c.args.s (sessions_of c.args.facts.now.entries) ≡ None =
+    sym (found c.args.s c.args.facts.now.entries) ∙ ap (option_map (λ w. session_of (c.args.s, w))) (sym c.in_default.ensures.value) in
     let no : false ≡ true = subst IsSome n c.requires in
     cc

@@ -6,4 +6,5 @@ pub returns-in-None : goal.returns-in-None
 returns-in-None c = sym (has_stamp-none c.args.stamp.now c.args.list.now.entries (sym c.elem_of.ensures.value ∙ c.in-None.is))
 
 pub returns-in-Some : goal.returns-in-Some
-returns-in-Some c = sym (has_stamp-some c.args.stamp.now c.args.list.now.entries c.in-Some.field-0 (sym c.elem_of.ensures.value ∙ c.in-Some.is))
+returns-in-Some c = sym (has_stamp-some c.args.stamp.now c.args.list.now.entries c.in-Some.field-0
+    (sym c.elem_of.ensures.value ∙ c.in-Some.is))

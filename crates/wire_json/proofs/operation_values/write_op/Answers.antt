@@ -7,4 +7,5 @@ use Rattle.wire_json.proofs.operation_values.write_op.Goals as goal
 pub returns-clause-text : goal.returns-clause-text
 returns-clause-text c =
     let op = c.args.op.now in
-    c.in_ok-to_string.ensures.text (ap has_float c.in_ok-value.ensures.value ∙ op_no_float op) ∙ ap compact_text c.in_ok-value.ensures.value ∙ op_compact op
+    c.in_ok-to_string.ensures.text (ap has_float c.in_ok-value.ensures.value ∙ op_no_float op) ∙ ap compact_text c.in_ok-value.ensures.value
+    ∙ op_compact op

@@ -6,4 +6,5 @@ use Rattle.wire_json.proofs.Loops.{with_front}
 use Rattle.wire_json.proofs.operations.check_pair_sites.Given as goal
 
 abbrev pub invariant-loop-value : goal.invariant-loop-value
-invariant-loop-value l = with_front (pairs_in (take l.value-index l.pairs)) (each sited_pair (pairs_in (drop l.value-index l.pairs))) ≡ each sited_pair (pairs_in l.pairs)
+invariant-loop-value l = with_front (pairs_in (take l.value-index l.pairs)) (each sited_pair (pairs_in (drop l.value-index l.pairs)))
+    ≡ each sited_pair (pairs_in l.pairs)

@@ -7,4 +7,5 @@ use Rattle.wire_json.proofs.Loops.{with_front}
 use Rattle.wire_json.proofs.operations.check_pairs.Given as goal
 
 abbrev pub invariant-loop-value : goal.invariant-loop-value
-invariant-loop-value l = with_front (pairs_in (take l.value-index l.values)) (each pair_of (items_in (items_view (drop l.value-index l.values)))) ≡ each pair_of (items_in (items_view l.values))
+invariant-loop-value l = with_front (pairs_in (take l.value-index l.values))
+    (each pair_of (items_in (items_view (drop l.value-index l.values)))) ≡ each pair_of (items_in (items_view l.values))

@@ -15,7 +15,8 @@ returns-then-pairs-gt-SITES c =
 
 pub returns-in_err-list : goal.returns-in_err-list
 returns-in_err-list c =
-    let kept = same_at c.args.pairs.now c.loop-place.place c.index-pairs-place.result c.requires c.loop-place-test.true c.index-pairs-place.is in
+    let kept = same_at c.args.pairs.now c.loop-place.place c.index-pairs-place.result c.requires c.loop-place-test.true
+    c.index-pairs-place.is in
     let refused = c.in_err-list.ensures in
     let told = ap sited_pair c.pair_in.ensures in
     absurd (cc)
@@ -24,11 +25,14 @@ pub loop-place-preserved : goal.loop-place-preserved
 loop-place-preserved c =
     let room : c.loop-place.place < length c.loop-place.list = omega arith in (
       length-set c.loop-place.list c.loop-place.place c.in_ok-list.field-0 ∙ c.loop-place.invariant.0,
-      put_more c.args.pairs.now c.loop-place.place c.index-pairs-place.result c.in_ok-list.field-0 c.loop-place.list c.requires c.loop-place-test.true c.index-pairs-place.is (c.in_ok-list.ensures ∙ ap sited_pair c.pair_in.ensures) room c.loop-place.invariant.1,
+      put_more c.args.pairs.now c.loop-place.place c.index-pairs-place.result c.in_ok-list.field-0 c.loop-place.list c.requires
+          c.loop-place-test.true c.index-pairs-place.is (c.in_ok-list.ensures ∙ ap sited_pair c.pair_in.ensures) room
+          c.loop-place.invariant.1,
     )
 
 pub returns : goal.returns
 returns c =
     let n = length c.args.pairs.now in
     let all : c.loop-place.place ≡ n = omega arith in
-    c.from_pairs.ensures ∙ ap clock_told (ap (λ m. take m c.loop-place.list) (sym all) ∙ c.loop-place.invariant.1 ∙ ap (λ m. pairs_in (take m c.args.pairs.now)) all ∙ ap pairs_in (take_all n c.args.pairs.now (omega arith)))
+    c.from_pairs.ensures ∙ ap clock_told (ap (λ m. take m c.loop-place.list) (sym all) ∙ c.loop-place.invariant.1
+    ∙ ap (λ m. pairs_in (take m c.args.pairs.now)) all ∙ ap pairs_in (take_all n c.args.pairs.now (omega arith)))

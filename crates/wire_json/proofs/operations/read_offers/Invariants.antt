@@ -6,4 +6,5 @@ use Rattle.wire_json.proofs.Loops.{with_front}
 use Rattle.wire_json.proofs.operations.read_offers.Given as goal
 
 abbrev pub invariant-loop-value : goal.invariant-loop-value
-invariant-loop-value l = with_front l.offers.items (each offer_of (items_in (items_view (drop l.value-index l.values)))) ≡ each offer_of (items_in (items_view l.values))
+invariant-loop-value l = with_front l.offers.items (each offer_of (items_in (items_view (drop l.value-index l.values))))
+    ≡ each offer_of (items_in (items_view l.values))

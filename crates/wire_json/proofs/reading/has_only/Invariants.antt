@@ -5,4 +5,5 @@ use Rattle.wire_json.specs.Members.{are_among}
 use Rattle.wire_json.proofs.reading.has_only.Given as goal
 
 abbrev pub invariant-loop-key : goal.invariant-loop-key
-invariant-loop-key l = are_among (map (λ key. key.now) l.row) (members_view l.members.entries) ≡ are_among (map (λ key. key.now) l.row) (members_view l.key-iterator)
+invariant-loop-key l = are_among (map (λ key. key.now) l.row) (members_view l.members.entries)
+    ≡ are_among (map (λ key. key.now) l.row) (members_view l.key-iterator)

@@ -10,9 +10,12 @@ use Rattle.wire_json.proofs.writing.outcome_values.Goals as goal
 pub loop-outcome-preserved : goal.loop-outcome-preserved
 loop-outcome-preserved c = record {
   values = ap items_view c.in_ok-push.ensures.ok
-      ∙ pushed outcome_data c.loop-outcome.list.items c.in_ok-value.value c.args.outcomes.now c.loop-outcome.outcome-index _ c.loop-outcome-test.true c.loop-outcome.invariant.values c.in_ok-value.ensures.value;
-  in_range = all_more IsOutcomeInRange c.args.outcomes.now c.loop-outcome.outcome-index _ c.loop-outcome-test.true c.loop-outcome.invariant.in_range c.in_ok-value.ensures.in_range;
+      ∙ pushed outcome_data c.loop-outcome.list.items c.in_ok-value.value c.args.outcomes.now c.loop-outcome.outcome-index _
+      c.loop-outcome-test.true c.loop-outcome.invariant.values c.in_ok-value.ensures.value;
+  in_range = all_more IsOutcomeInRange c.args.outcomes.now c.loop-outcome.outcome-index _ c.loop-outcome-test.true
+      c.loop-outcome.invariant.in_range c.in_ok-value.ensures.in_range;
 }
 
 pub returns-clause-in_range : goal.returns-clause-in_range
-returns-clause-in_range c = subst (AllByRecursion IsOutcomeInRange) (take_all c.loop-outcome.outcome-index c.args.outcomes.now (omega arith)) c.loop-outcome.invariant.in_range
+returns-clause-in_range c = subst (AllByRecursion IsOutcomeInRange)
+    (take_all c.loop-outcome.outcome-index c.args.outcomes.now (omega arith)) c.loop-outcome.invariant.in_range

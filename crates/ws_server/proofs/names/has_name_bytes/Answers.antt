@@ -6,4 +6,5 @@ use Rattle.ws_server.specs.Names.{is_name_byte}
 use Rattle.ws_server.proofs.names.has_name_bytes.Goals as goal
 
 pub returns : goal.returns
-returns c = all_from_yields_List is_name_byte _ _ _ c.all.ensures.ran (YieldsList-from_slice c.args.name.now cc) (λ x b q k. search (rules, tests))
+returns c = all_from_yields_List is_name_byte _ _ _ c.all.ensures.ran (YieldsList-from_slice c.args.name.now cc)
+    (λ x b q k. search (rules, tests))

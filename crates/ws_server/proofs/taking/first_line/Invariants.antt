@@ -7,7 +7,8 @@ use Rattle.ws_server.proofs.taking.first_line.Given as goal
 
 abbrev pub invariant-reading : goal.invariant-reading
 invariant-reading g l = record {
-  kept : (got : List ℕ) × Consumes (g.R.Read.remaining l.fn.input.inner) (g.R.Read.remaining l.input.inner) got × (l.fn.window ++ got ≡ l.line.items ++ l.window);
+  kept : (got : List ℕ) × Consumes (g.R.Read.remaining l.fn.input.inner) (g.R.Read.remaining l.input.inner) got
+      × (l.fn.window ++ got ≡ l.line.items ++ l.window);
   plain : IsLine l.line.items;
   counted : l.input.failures ≡ l.fn.input.failures;
 }

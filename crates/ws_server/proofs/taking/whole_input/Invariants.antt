@@ -6,7 +6,8 @@ use Rattle.ws_server.proofs.taking.whole_input.Given as goal
 
 abbrev pub invariant-reading : goal.invariant-reading
 invariant-reading g l = record {
-  kept : (got : List ℕ) × Consumes (g.R.Read.remaining l.fn.input.inner) (g.R.Read.remaining l.input.inner) got × (l.fn.window ++ got ≡ l.bytes.items ++ l.window);
+  kept : (got : List ℕ) × Consumes (g.R.Read.remaining l.fn.input.inner) (g.R.Read.remaining l.input.inner) got
+      × (l.fn.window ++ got ≡ l.bytes.items ++ l.window);
   counted : l.input.failures ≡ l.fn.input.failures;
 }
 

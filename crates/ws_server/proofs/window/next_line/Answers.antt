@@ -9,7 +9,8 @@ pub returns-then-seen-limit-clause-cuts : goal.returns-then-seen-limit-clause-cu
 returns-then-seen-limit-clause-cuts g c =
     let i = c.lines.invariant in
     let long : c.args.limit < length c.lines.window = omega arith in
-    long_skipped c.args.limit (g.R.Read.remaining c.args.input.now.inner) (g.R.Read.remaining c.lines.input.inner) (g.R.Read.remaining c.skip_line.new.input.inner)
+    long_skipped c.args.limit (g.R.Read.remaining c.args.input.now.inner) (g.R.Read.remaining c.lines.input.inner)
+    (g.R.Read.remaining c.skip_line.new.input.inner)
     c.args.window.now i.grown.0 c.lines.window c.bytes.result.now c.skip_line.new.window c.skip_line.result
     i.grown.1 i.grown.2 c.bytes.ensures c.in_default.ensures long c.skip_line.ensures.skips
 
@@ -17,7 +18,8 @@ pub lines-preserved : goal.lines-preserved
 lines-preserved g c =
     let i = c.lines.invariant in
     let f = c.in_ok-got.ensures.fills in
-    let m = line_more (g.R.Read.remaining c.args.input.now.inner) (g.R.Read.remaining c.lines.input.inner) (g.R.Read.remaining c.fill.new.input.inner)
+    let m = line_more (g.R.Read.remaining c.args.input.now.inner) (g.R.Read.remaining c.lines.input.inner)
+    (g.R.Read.remaining c.fill.new.input.inner)
     c.args.window.now i.grown.0 c.lines.window f.0 c.fill.new.self c.bytes.result.now c.len-seen.result
     i.grown.1 i.grown.2 f.1 f.2 c.bytes.ensures c.in_default.ensures c.len-seen.ensures.len in
     record {

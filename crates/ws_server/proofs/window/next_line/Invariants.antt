@@ -8,7 +8,8 @@ use Rattle.ws_server.proofs.window.next_line.Given as goal
 
 abbrev pub invariant-lines : goal.invariant-lines
 invariant-lines g l = record {
-  grown : (got : List ℕ) × Consumes (g.R.Read.remaining l.fn.input.inner) (g.R.Read.remaining l.input.inner) got × (l.window ≡ l.fn.window ++ got);
+  grown : (got : List ℕ) × Consumes (g.R.Read.remaining l.fn.input.inner) (g.R.Read.remaining l.input.inner) got
+      × (l.window ≡ l.fn.window ++ got);
   within : l.seen ≤ length l.window;
   before : IsLine (take l.seen l.window);
   counted : l.input.failures ≡ l.fn.input.failures;

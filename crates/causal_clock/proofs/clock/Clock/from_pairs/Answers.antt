@@ -2,13 +2,16 @@ use Rattle.std.proofs.Common.{◌<◌, arith, sym, refl, subst}
 use Rattle.causal_clock.proofs.Listings.{told, untold}
 use Rattle.causal_clock.proofs.Listed.{Goes, Goes-start, Goes-step, Goes-stop, Goes-end}
 use Rattle.causal_clock.proofs.clock.Clock.from_pairs.Goals as goal
-use Rattle.causal_clock.proofs.clock.Clock.from_pairs.Goals.{then-number-least-via-then-number-least, then-number-least-via-else-number-least+then-count-eq0, then-number-least-via-else-number-least+else-count-eq0+then-count-sum}
+use Rattle.causal_clock.proofs.clock.Clock.from_pairs.Goals.{then-number-least-via-then-number-least}
+use Rattle.causal_clock.proofs.clock.Clock.from_pairs.Goals.{then-number-least-via-else-number-least+then-count-eq0}
+use Rattle.causal_clock.proofs.clock.Clock.from_pairs.Goals.{then-number-least-via-else-number-least+else-count-eq0+then-count-sum}
 
 pub loop-site-init : goal.loop-site-init
 loop-site-init c = subst (λ v. Goes c.args.pairs.now 0 v 0) (sym c.zero-clock.ensures) (Goes-start c.args.pairs.now)
 
 pub returns-then-number-least : goal.returns-then-number-least
-returns-then-number-least c = untold c.args.pairs.now (λ h. Goes-stop c.args.pairs.now c.loop-site.least c.loop-site.clock c.loop-site.site-index c.loop-site-item.result c.loop-site.invariant c.loop-site-test.true c.loop-site-item.is (λ a b m.
+returns-then-number-least c = untold c.args.pairs.now (λ h. Goes-stop c.args.pairs.now c.loop-site.least c.loop-site.clock
+    c.loop-site.site-index c.loop-site-item.result c.loop-site.invariant c.loop-site-test.true c.loop-site-item.is (λ a b m.
     elim c.then-number-least.branch [
       | then-number-least-via-then-number-least w ↦ omega (arith, a, w.if-number-least.true, c.number-number.ensures.value)
       | then-number-least-via-else-number-least+then-count-eq0 w ↦ omega (arith, b, w.if-count-eq0.true)

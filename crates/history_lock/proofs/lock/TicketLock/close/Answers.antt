@@ -4,4 +4,5 @@ use Rattle.history_lock.proofs.lock.TicketLock.close.Goals as goal
 
 pub returns-in-Ok-clause-exact : goal.returns-in-Ok-clause-exact
 returns-in-Ok-clause-exact g c = λ n trail all left.
-    closes_exact g.T.Trailed.trail g.T.Trailed.mark (sight c.args.pass) (sight c.try_enter.new.pass) (ticket_of c.in-Ok.hold) n trail c.in-Ok.hold.value c.in-Ok.ensures.turn c.in-Ok.ensures.below all left
+    closes_exact g.T.Trailed.trail g.T.Trailed.mark (sight c.args.pass) (sight c.try_enter.new.pass)
+    (ticket_of c.in-Ok.hold) n trail c.in-Ok.hold.value c.in-Ok.ensures.turn c.in-Ok.ensures.below all left

@@ -10,13 +10,15 @@ use Rattle.holdback.proofs.held.Held.take_first_ready.Goals as goal
 pub returns-in-None-clause-taken : goal.returns-in-None-clause-taken
 returns-in-None-clause-taken c =
     let clock = c.args.clock.now in
-    let none : None ≡ position (λ (x : Operation). is_next x.site x.clock clock) c.self.inside.ops.items = c.in-None.ensures ∙ ap (position (λ (x : Operation). is_next x.site x.clock clock)) c.as_slice.ensures.value in
+    let none : None ≡ position (λ (x : Operation). is_next x.site x.clock clock) c.self.inside.ops.items =
+    c.in-None.ensures ∙ ap (position (λ (x : Operation). is_next x.site x.clock clock)) c.as_slice.ensures.value in
     none_taken clock c.self.inside.ops.items none ∙ ap (λ (h : HeldOperations). first_ready clock h.ops) c.self.view_is
 
 pub returns-in-None-clause-others : goal.returns-in-None-clause-others
 returns-in-None-clause-others c =
     let clock = c.args.clock.now in
-    let none : None ≡ position (λ (x : Operation). is_next x.site x.clock clock) c.self.inside.ops.items = c.in-None.ensures ∙ ap (position (λ (x : Operation). is_next x.site x.clock clock)) c.as_slice.ensures.value in
+    let none : None ≡ position (λ (x : Operation). is_next x.site x.clock clock) c.self.inside.ops.items =
+    c.in-None.ensures ∙ ap (position (λ (x : Operation). is_next x.site x.clock clock)) c.as_slice.ensures.value in
     let with_ops : List Operation → HeldOperations = λ ops. record { ops = ops; room = c.self.inside.room } in
     let others_of : HeldOperations → HeldOperations = λ h. record { ops = without_first_ready clock h.ops; room = h.room } in
     sym c.self.view_is ∙ ap with_ops (all_left clock c.self.inside.ops.items none) ∙ ap others_of c.self.view_is
@@ -24,5 +26,6 @@ returns-in-None-clause-others c =
 pub returns-in-Some-clause-ready : goal.returns-in-Some-clause-ready
 returns-in-Some-clause-ready c =
     let clock = c.args.clock.now in
-    let some : Some c.in-Some.place ≡ position (λ (x : Operation). is_next x.site x.clock clock) c.self.inside.ops.items = c.in-Some.ensures ∙ ap (position (λ (x : Operation). is_next x.site x.clock clock)) c.as_slice.ensures.value in
+    let some : Some c.in-Some.place ≡ position (λ (x : Operation). is_next x.site x.clock clock) c.self.inside.ops.items =
+    c.in-Some.ensures ∙ ap (position (λ (x : Operation). is_next x.site x.clock clock)) c.as_slice.ensures.value in
     taken-ready clock c.self.inside.ops.items c.in-Some.place c.remove.result some c.remove.ensures.value

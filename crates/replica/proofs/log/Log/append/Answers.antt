@@ -19,12 +19,21 @@ invariant_of-self-2 c =
     let rising : IsRisingAt log x = c.last_sum.ensures.rising x (sym c.site-site.ensures.value) above in
     let follows : MayFollow log x = may_follow log x c.site-site.ensures.kept ready rising c.in_ok-integrate.ensures.ok in
     let sited : c.site-site.result < 32 = omega (arith, c.site-site.ensures.value, c.site-site.ensures.kept.site) in
-    let rows : AreNumbered log c.reserve.new.self.rows = subst (λ (r : Rows). AreNumbered log r.rows) (sym c.in_ok-reserve.ensures.ok) c.self.invariant.numbered in
+    let rows : AreNumbered log c.reserve.new.self.rows =
+    subst (λ (r : Rows). AreNumbered log r.rows) (sym c.in_ok-reserve.ensures.ok) c.self.invariant.numbered in
     record {
-      lawful = subst (λ (r : Document). IsLawful r.log) (sym c.in_ok-integrate.ensures.grown) (IsLawful-push log x c.self.invariant.lawful follows);
+      lawful = subst (λ (r : Document). IsLawful r.log) (sym c.in_ok-integrate.ensures.grown)
+          (IsLawful-push log x c.self.invariant.lawful follows);
       numbered = subst (λ (r : Document). AreNumbered r.log c.push.new.self.rows) (sym c.in_ok-integrate.ensures.grown)
-          (AreNumbered-push log c.reserve.new.self.rows c.push.new.self.rows x c.site-site.result c.version-place.result rows c.site-site.ensures.value sited c.version-place.ensures.value c.push.ensures.rows);
-      reserved = omega (arith, ap (λ (r : Document). r.room) c.in_ok-integrate.ensures.grown, ap (λ (r : Rows). r.room) c.in_ok-reserve.ensures.ok, c.push.ensures.room, c.self.invariant.reserved);
+          (AreNumbered-push log c.reserve.new.self.rows c.push.new.self.rows x c.site-site.result c.version-place.result rows
+          c.site-site.ensures.value sited c.version-place.ensures.value c.push.ensures.rows);
+      reserved = omega (
+        arith,
+        ap (λ (r : Document). r.room) c.in_ok-integrate.ensures.grown,
+        ap (λ (r : Rows). r.room) c.in_ok-reserve.ensures.ok,
+        c.push.ensures.room,
+        c.self.invariant.reserved,
+      );
     }
 
 pub returns-clause-lawful : goal.returns-clause-lawful

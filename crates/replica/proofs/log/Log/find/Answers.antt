@@ -14,7 +14,8 @@ returns-then-sequence-eq0 c =
 
 pub op-requires : goal.op-requires
 op-requires c =
-    row-within c.self.inside.doc.log c.self.inside.places.rows c.args.number.0 (c.args.number.1 - 1) c.in-Some.place c.self.invariant.numbered c.get.ensures.sited
+    row-within c.self.inside.doc.log c.self.inside.places.rows c.args.number.0
+    (c.args.number.1 - 1) c.in-Some.place c.self.invariant.numbered c.get.ensures.sited
     (sym c.in-Some.is ∙ c.get.ensures.value)
 
 pub returns-in-None : goal.returns-in-None
@@ -22,7 +23,8 @@ returns-in-None c =
     let log = c.self.inside.doc.log in
     let positive : 0 < c.args.number.1 = omega arith in
     sym (ap (λ (r : Document). with_number c.args.number r.log) (sym c.self.view_is)
-    ∙ with_number-row log c.self.inside.places.rows c.args.number c.self.invariant.lawful c.self.invariant.numbered c.get.ensures.sited positive
+    ∙ with_number-row log c.self.inside.places.rows c.args.number c.self.invariant.lawful c.self.invariant.numbered
+    c.get.ensures.sited positive
     ∙ ap (option_and_then (slice_get log)) (sym c.get.ensures.value ∙ c.in-None.is))
 
 pub returns-in-Some : goal.returns-in-Some
@@ -30,6 +32,7 @@ returns-in-Some c =
     let log = c.self.inside.doc.log in
     let positive : 0 < c.args.number.1 = omega arith in
     sym (ap (λ (r : Document). with_number c.args.number r.log) (sym c.self.view_is)
-    ∙ with_number-row log c.self.inside.places.rows c.args.number c.self.invariant.lawful c.self.invariant.numbered c.get.ensures.sited positive
+    ∙ with_number-row log c.self.inside.places.rows c.args.number c.self.invariant.lawful c.self.invariant.numbered
+    c.get.ensures.sited positive
     ∙ ap (option_and_then (slice_get log)) (sym c.get.ensures.value ∙ c.in-Some.is)
     ∙ c.op.ensures.value)

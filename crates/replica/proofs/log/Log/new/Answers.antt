@@ -9,6 +9,7 @@ use Rattle.replica.proofs.log.Log.new.Goals as goal
 pub invariant_of-result : goal.invariant_of-result
 invariant_of-result c = record {
   lawful = subst (λ (v : Document). IsLawful v.log) (sym c.new.ensures) tt;
-  numbered = subst (λ (v : Document). AreNumbered v.log c.new-2.result.rows) (sym c.new.ensures) (subst (λ (v : Rows). AreNumbered [] v.rows) (sym c.new-2.ensures) AreNumbered-none);
+  numbered = subst (λ (v : Document). AreNumbered v.log c.new-2.result.rows) (sym c.new.ensures)
+      (subst (λ (v : Rows). AreNumbered [] v.rows) (sym c.new-2.ensures) AreNumbered-none);
   reserved = omega (arith, ap (λ (v : Document). v.room) c.new.ensures, ap (λ (v : Rows). v.room) c.new-2.ensures);
 }

@@ -8,4 +8,5 @@ pub returns-clause-rows : goal.returns-clause-rows
 returns-clause-rows c =
     let within : c.from.result < length c.self.inside.rows = omega (arith, c.from.ensures, c.number.ensures.range) in
     pushed c.self.inside.rows c.args.self.now.rows c.from.result c.args.site c.args.place c.index-self-from.result c.push.new.self
-    (ap (λ (r : Rows). r.rows) c.self.view_is) (c.from.ensures ∙ c.number.ensures.value) within (ap (λ (r : PlacesOfOne). r.places) c.push.ensures)
+    (ap (λ (r : Rows). r.rows) c.self.view_is) (c.from.ensures ∙ c.number.ensures.value) within
+    (ap (λ (r : PlacesOfOne). r.places) c.push.ensures)

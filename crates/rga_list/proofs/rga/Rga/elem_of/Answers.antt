@@ -10,7 +10,8 @@ pub returns-clause-value : goal.returns-clause-value
 returns-clause-value c =
     let place : c.from.result ≡ c.args.stamp.site = c.from.ensures ∙ c.number.ensures.value in
     let row : get_or c.self.inside.tables c.from.result c.index-self-from.result ≡ row_at c.self.inside.tables c.args.stamp.site =
-    row_same c.self.inside.tables c.from.result c.args.stamp.site c.index-self-from.result place (omega (arith, c.from.ensures, c.number.ensures.range, c.self.told)) in
+    row_same c.self.inside.tables c.from.result c.args.stamp.site c.index-self-from.result place
+    (omega (arith, c.from.ensures, c.number.ensures.range, c.self.told)) in
     c.find.ensures
     ∙ ap (λ (r : Row). find_id c.args.stamp.sum r.ids) row
     ∙ named-elem_of c.self.inside.nodes.items c.self.inside.first c.self.inside.tables c.args.stamp c.self.invariant.0

@@ -9,12 +9,16 @@ use Rattle.rga_list.proofs.Shown.{listed-deletion}
 use Rattle.rga_list.proofs.rga.Rga.integrate_del.Goals as goal
 
 -- what holds once the element is hidden
-after : (c : goal.After-self-1) → IsList (set c.self.inside.nodes.items c.in-Some.elem (off c.index_mut-node.result.now)) c.self.inside.first c.self.inside.tables
-    × (entries_of (set c.self.inside.nodes.items c.in-Some.elem (off c.index_mut-node.result.now)) c.self.inside.first ≡ hidden c.args.target c.args.self.now.entries)
+after : (c : goal.After-self-1) → IsList (set c.self.inside.nodes.items c.in-Some.elem (off c.index_mut-node.result.now))
+    c.self.inside.first c.self.inside.tables
+    × (entries_of (set c.self.inside.nodes.items c.in-Some.elem (off c.index_mut-node.result.now)) c.self.inside.first
+    ≡ hidden c.args.target c.args.self.now.entries)
     × (c.index_mut-node.result.now.shown ≡ is_shown c.args.target c.args.self.now.entries)
 after c =
-    deleted c.self.inside.nodes.items c.self.inside.first c.self.inside.tables c.args.target c.in-Some.elem c.index_mut-node.result.now c.args.self.now.entries
-    c.self.invariant.0 (ap (λ (r : LinkedElements). r.entries) c.self.view_is) (sym c.elem_of.ensures.value ∙ c.in-Some.is) c.index_mut-node.ensures.value
+    deleted c.self.inside.nodes.items c.self.inside.first c.self.inside.tables c.args.target c.in-Some.elem c.index_mut-node.result.now
+    c.args.self.now.entries
+    c.self.invariant.0 (ap (λ (r : LinkedElements). r.entries) c.self.view_is)
+    (sym c.elem_of.ensures.value ∙ c.in-Some.is) c.index_mut-node.ensures.value
 
 pub index_mut-node-requires : goal.index_mut-node-requires
 index_mut-node-requires c =
@@ -31,16 +35,19 @@ returns-in-None-clause-cause c = (refl, has_stamp-none c.args.target c.args.self
 
 pub returns-in-Some-clause-list : goal.returns-in-Some-clause-list
 returns-in-Some-clause-list c =
-    ap₂ (λ (e : List Entry) (n : ℕ). let r : LinkedElements = record { entries = e; room = n } in r) (after c).1 (ap (λ (r : LinkedElements). r.room) c.self.view_is)
+    ap₂ (λ (e : List Entry) (n : ℕ). let r : LinkedElements = record { entries = e; room = n } in r) (after c).1
+    (ap (λ (r : LinkedElements). r.room) c.self.view_is)
 
 pub returns-in-Some-clause-shown : goal.returns-in-Some-clause-shown
 returns-in-Some-clause-shown c = (after c).2
 
 pub returns-in-Some-clause-shows : goal.returns-in-Some-clause-shows
 returns-in-Some-clause-shows c ops x sound kind is =
-    let there : has_stamp c.args.self.now.entries c.args.target ≡ true = has_stamp-some c.args.target c.args.self.now.entries c.in-Some.elem (sym c.elem_of.ensures.value ∙ c.in-Some.is) in
+    let there : has_stamp c.args.self.now.entries c.args.target ≡ true =
+    has_stamp-some c.args.target c.args.self.now.entries c.in-Some.elem (sym c.elem_of.ensures.value ∙ c.in-Some.is) in
     let list = listed-deletion ops x c.args.target sound kind (subst (λ v. has_stamp v c.args.target ≡ true) is there) in
     (list.0, (after c).1 ∙ ap (hidden c.args.target) is ∙ list.1)
 
 pub returns-in-Some-clause-ok : goal.returns-in-Some-clause-ok
-returns-in-Some-clause-ok c = has_stamp-some c.args.target c.args.self.now.entries c.in-Some.elem (sym c.elem_of.ensures.value ∙ c.in-Some.is)
+returns-in-Some-clause-ok c = has_stamp-some c.args.target c.args.self.now.entries c.in-Some.elem
+    (sym c.elem_of.ensures.value ∙ c.in-Some.is)

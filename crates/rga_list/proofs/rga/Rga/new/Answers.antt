@@ -10,8 +10,15 @@ use Rattle.rga_list.proofs.rga.Rga.new.Goals as goal
 pub invariant_of-result : goal.invariant_of-result
 invariant_of-result c =
     let blank : Row = record { ids = []; room = 0 } in
-    let made : (k : ℕ) → k < 32 → row_at c.from_fn.result k ≡ blank = λ k l. (let h = c.from_fn.ensures.items.at k blank l in search rules) in
-    let each : (k : ℕ) → row_at c.from_fn.result k ≡ blank = λ k. elim (cases_lt k 32) [ inl l ↦ made k l | inr l ↦ get_or_past c.from_fn.result k blank (omega (arith, c.from_fn.ensures.items.long)) ] in (
-      subst (λ v. IsList v None c.from_fn.result) (sym c.new.ensures.items) (IsList-none c.from_fn.result c.from_fn.ensures.items.long (λ k. ap (λ (r : Row). r.ids) (each k))),
+    let made : (k : ℕ) → k < 32 → row_at c.from_fn.result k ≡ blank =
+    λ k l. (let h = c.from_fn.ensures.items.at k blank l in search rules) in
+    let each : (k : ℕ) → row_at c.from_fn.result k ≡ blank =
+    λ k. elim (cases_lt k 32) [
+      | inl l ↦ made k l
+      | inr l ↦ get_or_past c.from_fn.result k blank
+          (omega (arith, c.from_fn.ensures.items.long))
+    ] in (
+      subst (λ v. IsList v None c.from_fn.result) (sym c.new.ensures.items)
+          (IsList-none c.from_fn.result c.from_fn.ensures.items.long (λ k. ap (λ (r : Row). r.ids) (each k))),
       record { elements = omega arith; ids = λ k l. omega arith },
     )

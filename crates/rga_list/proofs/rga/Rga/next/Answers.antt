@@ -9,23 +9,28 @@ use Rattle.rga_list.proofs.rga.Rga.next.Goals as goal
 pub returns-in-None-clause-value : goal.returns-in-None-clause-value
 returns-in-None-clause-value c =
     rw c.in-None.is
-    (first-order c.self.inside.nodes.items c.self.inside.first (order_of c.self.inside.nodes.items c.self.inside.first) c.self.invariant.0.linked.leads
+    (first-order c.self.inside.nodes.items c.self.inside.first
+    (order_of c.self.inside.nodes.items c.self.inside.first) c.self.invariant.0.linked.leads
     ∙ ap (λ (r : LinkedElements). first_of r.entries) c.self.view_is)
 
 pub returns-then-elem-len-clause-value : goal.returns-then-elem-len-clause-value
 returns-then-elem-len-clause-value c =
     let within : c.in-Some.elem < length c.self.inside.nodes.items = search rules in
-    let node : c.index.result.now ≡ node_at c.self.inside.nodes.items c.in-Some.elem = node_same c.self.inside.nodes.items c.in-Some.elem c.index.result.now c.index.ensures within in
+    let node : c.index.result.now ≡ node_at c.self.inside.nodes.items c.in-Some.elem =
+    node_same c.self.inside.nodes.items c.in-Some.elem c.index.result.now c.index.ensures within in
     rw c.in-Some.is
     (ap (λ (n : Node). n.next) node
-    ∙ after-order c.self.inside.nodes.items c.self.inside.first c.in-Some.elem (order_of c.self.inside.nodes.items c.self.inside.first) c.self.invariant.0.linked.leads (c.self.invariant.0.linked.covers c.in-Some.elem within)
+    ∙ after-order c.self.inside.nodes.items c.self.inside.first c.in-Some.elem
+    (order_of c.self.inside.nodes.items c.self.inside.first) c.self.invariant.0.linked.leads
+    (c.self.invariant.0.linked.covers c.in-Some.elem within)
     ∙ ap (λ (r : LinkedElements). elem_after c.in-Some.elem r.entries) c.self.view_is)
 
 pub returns-else-elem-len-clause-value : goal.returns-else-elem-len-clause-value
 returns-else-elem-len-clause-value c =
     let beyond : length c.self.inside.nodes.items ≤ c.in-Some.elem = search rules in
     rw c.in-Some.is
-    (after-beyond c.self.inside.nodes.items c.in-Some.elem (order_of c.self.inside.nodes.items c.self.inside.first) (order-within c.self.inside.nodes.items c.self.inside.first c.self.invariant.0.linked) beyond
+    (after-beyond c.self.inside.nodes.items c.in-Some.elem (order_of c.self.inside.nodes.items c.self.inside.first)
+    (order-within c.self.inside.nodes.items c.self.inside.first c.self.invariant.0.linked) beyond
     ∙ ap (λ (r : LinkedElements). elem_after c.in-Some.elem r.entries) c.self.view_is)
 
 pub returns-then-elem-len-clause-within : goal.returns-then-elem-len-clause-within

@@ -14,10 +14,12 @@ pub returns-then-lt-clause-ok : goal.returns-then-lt-clause-ok
 returns-then-lt-clause-ok c =
     let older : is_before c.in-Some.parent c.args.stamp.now ≡ true = search rules in
     rw c.in-Some.is (parent_refusal-none c.args.self.now.entries c.in-Some.parent c.args.stamp.now
-    (has_stamp-some c.in-Some.parent c.args.self.now.entries c.in-Some-elem_of.elem (sym c.elem_of.ensures.value ∙ c.in-Some-elem_of.is)) older)
+    (has_stamp-some c.in-Some.parent c.args.self.now.entries c.in-Some-elem_of.elem
+    (sym c.elem_of.ensures.value ∙ c.in-Some-elem_of.is)) older)
 
 pub returns-else-lt-clause-cause : goal.returns-else-lt-clause-cause
 returns-else-lt-clause-cause c =
     let younger : is_before c.in-Some.parent c.args.stamp.now ≡ false = search rules in
     rw c.in-Some.is (parent_refusal-younger c.args.self.now.entries c.in-Some.parent c.args.stamp.now
-    (has_stamp-some c.in-Some.parent c.args.self.now.entries c.in-Some-elem_of.elem (sym c.elem_of.ensures.value ∙ c.in-Some-elem_of.is)) younger)
+    (has_stamp-some c.in-Some.parent c.args.self.now.entries c.in-Some-elem_of.elem
+    (sym c.elem_of.ensures.value ∙ c.in-Some-elem_of.is)) younger)

@@ -8,7 +8,8 @@ use Rattle.rga_list.proofs.rga.Rga.reserve.Goals as goal
 pub invariant_of-self-in_err-reserve_each : goal.invariant_of-self-in_err-reserve_each
 invariant_of-self-in_err-reserve_each c = (
   subst (λ (v : List Node). IsList v c.self.inside.first c.reserve_each.new.tables) (sym c.reserve.ensures.items)
-      (IsList-same c.self.inside.nodes.items c.self.inside.first c.self.inside.tables c.reserve_each.new.tables c.reserve_each.auto.tables c.reserve_each.ensures.same c.self.invariant.0),
+      (IsList-same c.self.inside.nodes.items c.self.inside.first c.self.inside.tables c.reserve_each.new.tables c.reserve_each.auto.tables
+      c.reserve_each.ensures.same c.self.invariant.0),
   record {
     elements = omega (arith, c.reserve.ensures.len, c.reserve.ensures.capacity, c.self.invariant.1.elements);
     ids = λ k l. omega (arith, c.self.invariant.1.ids k l, c.reserve_each.ensures.kept k);
@@ -18,10 +19,24 @@ invariant_of-self-in_err-reserve_each c = (
 pub invariant_of-self-2 : goal.invariant_of-self-2
 invariant_of-self-2 c = (
   subst (λ (v : List Node). IsList v c.self.inside.first c.reserve_each.new.tables) (sym c.reserve.ensures.items)
-      (IsList-same c.self.inside.nodes.items c.self.inside.first c.self.inside.tables c.reserve_each.new.tables c.reserve_each.auto.tables c.reserve_each.ensures.same c.self.invariant.0),
+      (IsList-same c.self.inside.nodes.items c.self.inside.first c.self.inside.tables c.reserve_each.new.tables c.reserve_each.auto.tables
+      c.reserve_each.ensures.same c.self.invariant.0),
   record {
-    elements = omega (arith, c.reserve.ensures.len, c.in_ok-reserve.ensures.ok, c.reserve.ensures.capacity, c.self.invariant.1.elements, c.max-self-inside.ensures);
+    elements = omega (
+      arith,
+      c.reserve.ensures.len,
+      c.in_ok-reserve.ensures.ok,
+      c.reserve.ensures.capacity,
+      c.self.invariant.1.elements,
+      c.max-self-inside.ensures,
+    );
     ids = λ k l. (let enough : k < length c.self.inside.tables = omega (arith, l, c.self.invariant.0.width) in
-        omega (arith, c.max-self-inside.ensures, c.self.invariant.1.ids k l, c.reserve_each.ensures.kept k, c.in_ok-reserve_each.ensures.ok k enough));
+        omega (
+          arith,
+          c.max-self-inside.ensures,
+          c.self.invariant.1.ids k l,
+          c.reserve_each.ensures.kept k,
+          c.in_ok-reserve_each.ensures.ok k enough,
+        ));
   },
 )

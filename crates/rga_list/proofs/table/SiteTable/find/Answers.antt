@@ -10,11 +10,13 @@ returns-in-Ok c =
     let here : c.as_slice-ids.result.now ≡ c.args.self.now.ids = c.as_slice-ids.ensures.value ∙ ap (λ (r : Row). r.ids) c.self.view_is in
     let rising : AreRising c.as_slice-ids.result.now = subst AreRising (sym c.as_slice-ids.ensures.value) c.self.invariant.0 in
     subst (λ v. Some (get_or c.as_slice-ids.result.now c.in-Ok.place (0, 0)).1 ≡ find_id c.args.sum v) here
-    (halves-found c.as_slice-ids.result.now c.in-Ok.place c.args.sum (0, 0) rising c.in-Ok.ensures.bound (c.in-Ok.ensures.position (λ (i : ℕ × ℕ). i.0) (answers_always _ _ _ (λ f a r g called. search rules))))
+    (halves-found c.as_slice-ids.result.now c.in-Ok.place c.args.sum (0, 0) rising c.in-Ok.ensures.bound
+    (c.in-Ok.ensures.position (λ (i : ℕ × ℕ). i.0) (answers_always _ _ _ (λ f a r g called. search rules))))
 
 pub returns-in-Err : goal.returns-in-Err
 returns-in-Err c =
     let here : c.as_slice-ids.result.now ≡ c.args.self.now.ids = c.as_slice-ids.ensures.value ∙ ap (λ (r : Row). r.ids) c.self.view_is in
     let rising : AreRising c.as_slice-ids.result.now = subst AreRising (sym c.as_slice-ids.ensures.value) c.self.invariant.0 in
     subst (λ v. None ≡ find_id c.args.sum v) here
-    (halves-none c.as_slice-ids.result.now c.in-Err.field-0 c.args.sum rising (c.in-Err.ensures.position (λ (i : ℕ × ℕ). i.0) (answers_always _ _ _ (λ f a r g called. search rules))))
+    (halves-none c.as_slice-ids.result.now c.in-Err.field-0 c.args.sum rising
+    (c.in-Err.ensures.position (λ (i : ℕ × ℕ). i.0) (answers_always _ _ _ (λ f a r g called. search rules))))

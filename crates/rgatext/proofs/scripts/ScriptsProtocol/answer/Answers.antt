@@ -13,5 +13,9 @@ returns-in-Ok-clause-answered c =
 
 pub returns-in-Err-clause-answered : goal.returns-in-Err-clause-answered
 returns-in-Err-clause-answered c =
-    let asked = c.in-Err.ensures.asked in
-    (text (No c.in-Err.why), answers_refusal c.args.world.now c.args.line.now c.in-Err.why (Err c.in-Err.why) asked.0 refl asked.1 c.in-Err.ensures.too_long asked.2, c.refusal.ensures)
+    let asked = c.in-Err.ensures.asked in (
+      text (No c.in-Err.why),
+      answers_refusal c.args.world.now c.args.line.now c.in-Err.why
+          (Err c.in-Err.why) asked.0 refl asked.1 c.in-Err.ensures.too_long asked.2,
+      c.refusal.ensures,
+    )

@@ -1,4 +1,5 @@
-use Rattle.std.proofs.Common.{refl, ◌≡◌, ◌+◌, ◌^◌, ◌<◌, ◌≤◌, ◌++◌, ◌∷◌, [], ℕ, length, take, get_or, List, ap, ◌∙◌, subst, sym, append_assoc}
+use Rattle.std.proofs.Common.{refl, ◌≡◌, ◌+◌, ◌^◌, ◌<◌, ◌≤◌, ◌++◌, ◌∷◌, [], ℕ, length, take, get_or, List, ap, ◌∙◌, subst, sym}
+use Rattle.std.proofs.Common.{append_assoc}
 use mathlib.Core.Path.{ap₂}
 use Rattle.std.proofs.lemmas.List.{take_more}
 use Rattle.room.specs.declared.call.Call.{Call}
@@ -10,14 +11,18 @@ use Rattle.room.proofs.Intentions.{keeps_intentions}
 use Rattle.room.proofs.room.Room.run.Goals as goal
 
 -- one more call
-goes_on : (first room new : Account) (calls : List Call) (i : ℕ) (c copy : Call) (reply : Reply) (before replies more : List Reply) (t : ℕ) → i < length calls → c ≡ get_or calls i c → copy ≡ c
-    → mark room.history ≤ 2 ^ 61 + length room.history → replies ≡ before ++ answers first.state (take i calls) → room ≡ ran first (take i calls)
+goes_on : (first room new : Account) (calls : List Call) (i : ℕ) (c copy : Call) (reply : Reply) (before replies more : List Reply) (t : ℕ)
+    → i < length calls → c ≡ get_or calls i c → copy ≡ c
+    → mark room.history ≤ 2 ^ 61 + length room.history → replies ≡ before ++ answers first.state (take i calls)
+    → room ≡ ran first (take i calls)
     → t ≡ mark room.history → reply ≡ answer room.state copy → new ≡ called room t copy → more ≡ replies ++ reply ∷ []
-    → (mark new.history ≤ 2 ^ 61 + length new.history) × (more ≡ before ++ answers first.state (take (i + 1) calls)) × (new ≡ ran first (take (i + 1) calls))
+    → (mark new.history ≤ 2 ^ 61 + length new.history) × (more ≡ before ++ answers first.state (take (i + 1) calls))
+    × (new ≡ ran first (take (i + 1) calls))
 goes_on first room new calls i c copy reply before replies more t b e p w a r m y n z =
     let here : new ≡ called room (mark room.history) c = n ∙ ap₂ (λ (u : ℕ) (d : Call). called room u d) m p in
     let taken : take (i + 1) calls ≡ take i calls ++ c ∷ [] = take_more calls i c b ∙ ap (λ (d : Call). take i calls ++ d ∷ []) (sym e) in
-    let told : reply ≡ answer (after first.state (take i calls)) c = y ∙ ap₂ (λ (S : State) (d : Call). answer S d) (ap (λ (q : Account). q.state) r ∙ ran-state first (take i calls)) p in (
+    let told : reply ≡ answer (after first.state (take i calls)) c =
+    y ∙ ap₂ (λ (S : State) (d : Call). answer S d) (ap (λ (q : Account). q.state) r ∙ ran-state first (take i calls)) p in (
       subst (λ (q : Account). mark q.history ≤ 2 ^ 61 + length q.history) (sym here) (mark-within room c w),
       z ∙ ap₂ (λ (xs : List Reply) (x : Reply). xs ++ x ∷ []) a told
           ∙ append_assoc before (answers first.state (take i calls)) (answer (after first.state (take i calls)) c ∷ [])
@@ -27,7 +32,8 @@ goes_on first room new calls i c copy reply before replies more t b e p w a r m 
 
 pub loop-call-preserved : goal.loop-call-preserved
 loop-call-preserved c =
-    let on = goes_on c.args.self.now c.loop-call.self c.step.new.self c.args.calls.now c.loop-call.call-index c.call-item.result c.in_ok-copy.copy c.in_ok-reply.reply
+    let on = goes_on c.args.self.now c.loop-call.self c.step.new.self c.args.calls.now c.loop-call.call-index c.call-item.result
+    c.in_ok-copy.copy c.in_ok-reply.reply
     c.args.replies.now.items c.reserve.new.self.items c.push_reserved.new.self.items (mark c.loop-call.self.history)
     c.loop-call-test.true c.call-item.is c.in_ok-copy.ensures.cases c.loop-call.invariant.within
     (c.reserve.ensures.items ∙ c.loop-call.invariant.answered) c.loop-call.invariant.room

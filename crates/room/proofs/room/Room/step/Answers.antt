@@ -8,7 +8,8 @@ use Rattle.room.proofs.Histories.{mark-within}
 use Rattle.room.proofs.room.Room.step.Goals as goal
 
 -- whatever was answered, the mark is within its range again
-within : (old new : Account) (t : _) (c : Call) (r : Result Reply AllocError) → t ≡ mark old.history → mark old.history ≤ 2 ^ 61 + length old.history
+within : (old new : Account) (t : _) (c : Call) (r : Result Reply AllocError) → t ≡ mark old.history
+    → mark old.history ≤ 2 ^ 61 + length old.history
     → OnOk r (new ≡ called old t c) → OnErr r (new ≡ old) → mark new.history ≤ 2 ^ 61 + length new.history
 within old new t c (Ok reply) e b f g =
     subst (λ (a : Account). mark a.history ≤ 2 ^ 61 + length a.history) (sym (subst (λ n. new ≡ called old n c) e f)) (mark-within old c b)

@@ -7,8 +7,11 @@ use Rattle.session_outbox.proofs.sessions.Sessions.join.Goals as goal
 
 pub invariant_of-self-2 : goal.invariant_of-self-2
 invariant_of-self-2 c =
-    subst (λ (ws : List Session). AreNumbered 0 (c.self.inside.next_number + 1) ws) (sym (ap sessions_of c.in_ok-insert.ensures.entries ∙ inserted 0 c.self.inside.next_number _ c.self.inside.facts.entries c.self.invariant))
-    (numbered-joined 0 c.self.inside.next_number (sessions_of c.self.inside.facts.entries) (joined c.self.inside.next_number c.args.version) refl c.self.invariant)
+    subst (λ (ws : List Session). AreNumbered 0 (c.self.inside.next_number + 1) ws)
+    (sym (ap sessions_of c.in_ok-insert.ensures.entries ∙ inserted 0 c.self.inside.next_number _ c.self.inside.facts.entries
+    c.self.invariant))
+    (numbered-joined 0 c.self.inside.next_number (sessions_of c.self.inside.facts.entries)
+    (joined c.self.inside.next_number c.args.version) refl c.self.invariant)
 
 pub returns-clause-fresh : goal.returns-clause-fresh
 returns-clause-fresh c =
@@ -17,5 +20,7 @@ returns-clause-fresh c =
 
 pub returns-clause-next : goal.returns-clause-next
 returns-clause-next c =
-    ap (λ (ws : List Session). let T : Outbox = record { sessions = ws; next_number = c.self.inside.next_number + 1 } in T) (ap sessions_of c.in_ok-insert.ensures.entries ∙ inserted 0 c.self.inside.next_number _ c.self.inside.facts.entries c.self.invariant)
+    ap (λ (ws : List Session). let T : Outbox = record { sessions = ws; next_number = c.self.inside.next_number + 1 } in T)
+    (ap sessions_of c.in_ok-insert.ensures.entries ∙ inserted 0 c.self.inside.next_number _ c.self.inside.facts.entries
+    c.self.invariant)
     ∙ ap (after_join c.args.version) c.self.view_is

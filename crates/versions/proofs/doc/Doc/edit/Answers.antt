@@ -18,14 +18,29 @@ some_same a b h = cc
 pub index-requires : goal.index-requires
 index-requires c =
     let size : vec_len c.self.inside.edits ≡ length c.self.inside.edits.items = search rules in
-    omega (arith, size, ap length c.self.invariant.0.edited, edits-length c.self.inside.log.ops, ap (λ (r : Document). length r.log) c.self.view_is, c.requires.first, c.requires.last)
+    omega (
+      arith,
+      size,
+      ap length c.self.invariant.0.edited,
+      edits-length c.self.inside.log.ops,
+      ap (λ (r : Document). length r.log) c.self.view_is,
+      c.requires.first,
+      c.requires.last,
+    )
 
 value : (c : goal.After-edit) → slice_get (edits c.args.self.now.log) (c.args.n - 1) ≡ Some c.edit.result
 value c =
     ap (λ (r : Document). slice_get (edits r.log) (c.args.n - 1)) (sym c.self.view_is)
     ∙ ap (λ (es : List Edit). slice_get es (c.args.n - 1)) (sym c.self.invariant.0.edited)
     ∙ get_within c.self.inside.edits.items (c.args.n - 1) c.index.result.now
-    (omega (arith, ap length c.self.invariant.0.edited, edits-length c.self.inside.log.ops, ap (λ (r : Document). length r.log) c.self.view_is, c.requires.first, c.requires.last)) c.index.ensures
+    (omega (
+      arith,
+      ap length c.self.invariant.0.edited,
+      edits-length c.self.inside.log.ops,
+      ap (λ (r : Document). length r.log) c.self.view_is,
+      c.requires.first,
+      c.requires.last,
+    )) c.index.ensures
     ∙ ap (λ (e : Edit). Some e) (sym c.edit.ensures)
 
 pub returns-clause-value : goal.returns-clause-value

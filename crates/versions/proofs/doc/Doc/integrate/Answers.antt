@@ -11,5 +11,6 @@ refusal_of-requires-clause-sound c = IsSound-lawful c.self.inside.log.ops c.self
 
 pub returns-clause-leads : goal.returns-clause-leads
 returns-clause-leads c =
-    ap (λ (l : List Operation). apply (reading l) c.integrate-edit.result) (sym (c.make_room.ensures.log ∙ ap (λ (r : Document). r.log) c.self.view_is))
+    ap (λ (l : List Operation). apply (reading l) c.integrate-edit.result)
+    (sym (c.make_room.ensures.log ∙ ap (λ (r : Document). r.log) c.self.view_is))
     ∙ c.integrate-edit.ensures.leads

@@ -10,4 +10,5 @@ returns-clause-rising c x q h =
     let place : c.from.result ≡ c.args.site = c.from.ensures ∙ c.number.ensures.value in
     let within : c.from.result < 32 = omega (arith, c.from.ensures, c.number.ensures.range) in
     subst (λ (r : Document). IsRisingAt r.log x) c.self.view_is
-    (above_last_sum c.self.inside.log.ops x c.args.site _ c.self.invariant.0.lawful (c.self.invariant.0.summed.at c.from.result within ∙ ap (last_sum c.self.inside.log.ops) place) q h)
+    (above_last_sum c.self.inside.log.ops x c.args.site _ c.self.invariant.0.lawful
+    (c.self.invariant.0.summed.at c.from.result within ∙ ap (last_sum c.self.inside.log.ops) place) q h)

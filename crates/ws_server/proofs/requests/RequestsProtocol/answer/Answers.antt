@@ -9,7 +9,8 @@ use Rattle.ws_server.proofs.requests.RequestsProtocol.answer.Goals as goal
 pub returns-in-Ok-clause-answered : goal.returns-in-Ok-clause-answered
 returns-in-Ok-clause-answered g c = (
   text (reply_of c.call-done.result),
-  Answers-asked g.D.Desk.step g.D.Desk.fault c.args.desk.now c.call-done.new.self c.args.line.now c.in-Ok.call c.call-done.result c.in-Ok.ensures.asked c.call-done.ensures.answered,
+  Answers-asked g.D.Desk.step g.D.Desk.fault c.args.desk.now c.call-done.new.self c.args.line.now c.in-Ok.call c.call-done.result
+      c.in-Ok.ensures.asked c.call-done.ensures.answered,
   c.told.ensures,
 )
 

@@ -15,5 +15,11 @@ returns-in-Some-clause-fills g c =
     let t = fill_some (g.R.Read.remaining c.args.input.now.inner) (g.R.Read.remaining c.read_behind.new.input.inner)
     moved.result c.self.inside.len c.in-Some.got c.args.self.now moved.new.buf.items c.as_mut_slice.result.now new
     (moved.ensures.held ∙ c.self.view_is) c.as_mut_slice.ensures.value c.in-Some.ensures.front c.in-Some.ensures.bound in
-    let size : length new ≡ moved.new.buf.len = c.read_behind.auto.buf ∙ c.as_mut_slice.ensures.len in
-    (t.0, t.1, ap (λ b. take (c.self.inside.len + c.in-Some.got) (drop moved.result b)) (written_back moved.new.buf.len new moved.new.buf.items size) ∙ t.2, t.3, t.4)
+    let size : length new ≡ moved.new.buf.len = c.read_behind.auto.buf ∙ c.as_mut_slice.ensures.len in (
+      t.0,
+      t.1,
+      ap (λ b. take (c.self.inside.len + c.in-Some.got) (drop moved.result b))
+          (written_back moved.new.buf.len new moved.new.buf.items size) ∙ t.2,
+      t.3,
+      t.4,
+    )
