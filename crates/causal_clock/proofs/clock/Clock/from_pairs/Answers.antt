@@ -1,4 +1,4 @@
-use Rattle.std.proofs.Common.{◌<◌, arith, sym, refl, subst}
+use Rattle.std.proofs.Common.{◌<◌, arith, sym, subst}
 use Rattle.causal_clock.proofs.Listings.{told, untold}
 use Rattle.causal_clock.proofs.Listed.{Goes, Goes-start, Goes-step, Goes-stop, Goes-end}
 use Rattle.causal_clock.proofs.clock.Clock.from_pairs.Goals as goal
