@@ -66,13 +66,18 @@ class Socket:
         await line.send(json.dumps({"t": "open", "room": self.room}))
         reply = json.loads(await line.recv())
         if reply["r"] == "no":
+            await line.close()
             raise Refused(reply["n"])
         return line
 
     async def answer(self, request):
         self.line = self.line or await self.opened()
         await self.line.send(json.dumps(request))
-        return json.loads(await self.line.recv())
+        reply = json.loads(await self.line.recv())
+        if reply.get("n") == 25:  # this line's calls are used up: the next request connects again
+            await self.line.close()
+            self.line = None
+        return reply
 
     def __call__(self, request):
         self.is_anew = self.is_anew and request["t"] != "join"
@@ -87,7 +92,8 @@ class Socket:
             raise Lost from None
 
     def close(self):
-        self.run(self.line.close())
+        if self.line:
+            self.run(self.line.close())
 
 
 def carried(place, edits):
@@ -111,16 +117,17 @@ class Session:
         self.join()
 
     def _answer(self, request):
-        """The reply to a request that may be sent again: an accepted submission is not carried out twice."""
+        """The reply, where it isn't refused, to a request that may be sent again: nothing is carried out twice."""
         for _ in range(self.tries):
             try:
                 reply = self.ask(request)
             except Lost:
                 continue
-            if reply["r"] == "no" and reply["n"] in (25, 26):
-                time.sleep(self.pause)
-                continue
-            return reply
+            if reply["r"] != "no":
+                return reply
+            if reply["n"] not in (25, 26):
+                self._refuse(reply["n"])
+            time.sleep(self.pause)
         raise Lost
 
     @staticmethod
@@ -130,16 +137,15 @@ class Session:
     def join(self):
         """Opens a session. If the answer is lost, a session of the room stays unused."""
         reply = self._answer({"t": "join"})
-        if reply["r"] == "no":
-            self._refuse(reply["n"])
         self.session, self.version, self.text = reply["s"], reply["v"], list(reply["x"])
         self.number = self.reached = 0
 
     def leave(self):
         """Ends the session. A second `leave`, where the answer to the first was lost, is answered 5."""
-        reply = self._answer({"t": "leave", "s": self.session})
-        if reply["r"] == "no" and reply["n"] != 5:
-            self._refuse(reply["n"])
+        try:
+            self._answer({"t": "leave", "s": self.session})
+        except JoinAnew:
+            pass  # 5: it was ended
 
     def follow(self, reply):
         """Plays a reply, whenever and however often it comes, and gives the edits that it played."""
@@ -157,11 +163,7 @@ class Session:
         """Brings the text up to the newest version, and gives the edits that led there."""
         played = []
         while True:
-            request = {"t": "pull", "s": self.session, "have": self.version, "max": MOST}
-            reply = self._answer(request)
-            if reply["r"] == "no":
-                self._refuse(reply["n"])
-            edits = self.follow(reply)
+            edits = self.follow(self._answer({"t": "pull", "s": self.session, "have": self.version, "max": MOST}))
             played += edits
             if len(edits) < MOST:
                 return played
@@ -171,8 +173,6 @@ class Session:
         was sent, so 8 doesn't come."""
         more = {"s": self.session, "n": self.number + 1, "v": self.version, "k": place}
         reply = self._answer({**request, **more})
-        if reply["r"] == "no":
-            self._refuse(reply["n"])
         if reply["from"] < self.reached:
             self._refuse(7)
         self.number, self.reached = self.number + 1, reply["to"]
