@@ -230,7 +230,7 @@ class Editor {
 
   stop(number) {
     this.close();
-    const why = { 4: "there is no such room", 12: "the document is full", 13: "the room is worn" };
+    const why = { 4: "there is no such room", 12: "the document is full", 13: "the room has recorded all the calls that it can" };
     this.page.tell(why[number] ?? `refused ${number}`, true);
   }
 
