@@ -75,8 +75,12 @@ class Stream:
 
         self.broker = redis.Redis.from_url(url)
         self.key = f"rgatext:{name}"
+        self.run = self.run_id()
         self.last = b"0-0"
         self.there = set()  # what was read from the stream, or put there
+
+    def run_id(self):
+        return self.broker.info("server")["run_id"]
 
     def news(self, pause):
         """The next operations, waiting a little where there are none."""
@@ -86,8 +90,10 @@ class Stream:
         if entries:
             self.last = entries[-1][0]
         self.there.update(map(identity, operations))
-        if not entries and self.broker.xlen(self.key) < len(self.there):
-            raise Lost  # the broker has lost what it had
+        # a broker that was started anew may have lost what it had; in one run a stream that was deleted is shorter, unless
+        # others have put as much there again
+        if not entries and (self.run_id() != self.run or self.broker.xlen(self.key) < len(self.there)):
+            raise Lost
         return operations
 
     def put(self, operations):
@@ -133,7 +139,7 @@ def main():
         except Refused as why:
             sys.exit(str(why))
         except Lost:
-            print("the server was away, or the broker lost its stream", file=sys.stderr)
+            print("the server was away, or the broker was started anew or lost its stream", file=sys.stderr)
         except OSError as why:
             print(f"away: {why}", file=sys.stderr)
         except Exception as why:  # redis.ConnectionError is no OSError
