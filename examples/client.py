@@ -27,7 +27,7 @@ class Refused(Exception):
 
 
 class JoinAnew(Refused):
-    """The room and this session no longer speak of one text: join anew, and carry unsent work over by the new text."""
+    """The room and this session no longer speak of one text: leave and join anew, and carry unsent work over by the new text."""
 
 
 class Pipe:
@@ -141,11 +141,11 @@ class Session:
         self.number = self.reached = 0
 
     def leave(self):
-        """Ends the session. A second `leave`, where the answer to the first was lost, is answered 5."""
+        """Ends the session, where it is there: a `Socket` that wants a new session doesn't send it."""
         try:
             self._answer({"t": "leave", "s": self.session})
         except JoinAnew:
-            pass  # 5: it was ended
+            pass  # 5: it was ended, or it may be another client's by now
 
     def follow(self, reply):
         """Plays a reply, whenever and however often it comes, and gives the edits that it played."""
