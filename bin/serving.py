@@ -1,5 +1,6 @@
 """What the scripts that start a server share."""
 
+import pathlib
 import socket
 
 
@@ -8,3 +9,10 @@ def free_port():
     with socket.socket() as it:
         it.bind(("127.0.0.1", 0))
         return it.getsockname()[1]
+
+
+def figure(process, key):
+    """What the system tells of a process under this key, in KiB or as a count: `VmRSS` is the memory that it holds now, `VmHWM`
+    the most that it held, `Threads` its threads."""
+    lines = pathlib.Path(f"/proc/{process.pid}/status").read_text().splitlines()
+    return int(next(line for line in lines if line.startswith(key + ":")).split()[1])
