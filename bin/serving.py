@@ -1,5 +1,6 @@
 """What the scripts that start a server share."""
 
+import os
 import pathlib
 import socket
 
@@ -16,3 +17,9 @@ def figure(process, key):
     the most that it held, `Threads` its threads."""
     lines = pathlib.Path(f"/proc/{process.pid}/status").read_text().splitlines()
     return int(next(line for line in lines if line.startswith(key + ":")).split()[1])
+
+
+def spent(process):
+    """The processor time that a process has taken, in seconds."""
+    fields = pathlib.Path(f"/proc/{process.pid}/stat").read_text().rsplit(")", 1)[1].split()
+    return (int(fields[11]) + int(fields[12])) / os.sysconf("SC_CLK_TCK")
