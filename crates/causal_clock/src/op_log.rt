@@ -102,7 +102,7 @@ impl OpLog {
     }
 
     /// Reserves memory for the next `n` operations, so that they aren't refused with `Memory`: for each 24 bytes,
-    /// and 128 for the 32 entries that it may have. Refused with `Memory`.
+    /// and 128 for the 32 entries that it may have. Refused with `Memory`, also above 67,108,864 operations.
     pub fn reserve(&mut self, n: usize) -> Result<(), Refusal>
         ensures ok { OnOk result (self.new ≡ record self.old { room = max self.old.room n }) }
         ensures err { OnErr result (self.new ≡ self.old) }
@@ -113,7 +113,8 @@ impl OpLog {
         Ok(())
     }
 
-    /// Adds an operation. Takes a step for each site. Refused with `Memory`, only where nothing is reserved.
+    /// Adds an operation. Takes a step for each site. Refused with `Memory`, only where nothing is reserved, also above
+    /// 67,108,864 operations.
     pub fn push(&mut self, op: Op) -> Result<(), Refusal>
         ensures ok { OnOk result (self.new ≡ record { ops = self.old.ops ++ op ∷ []; room = self.old.room - 1 }) }
 

@@ -1,6 +1,5 @@
 //! Where threads sleep until their turn comes nearer, and who wakes them. Tickets that are 64 apart share a bell, so
-//! that a
-//! turn wakes one in 64 of those that sleep behind the first in line. Nothing here is a step of the lock.
+//! that a turn wakes one in 64 of those that sleep behind the first in line. Nothing here is a step of the lock.
 
 use crate::lock::{NEXT, SERVED, Ticket, TicketLock};
 use crate::trailed::Trailed;
@@ -71,8 +70,7 @@ impl Bells {
 
 impl<T: Trailed> TicketLock<T> {
     // Comes to a place, and then looks whose turn it is. Who gives the turn on after that look finds that a thread
-    // came, so
-    // no wake-up is lost; no thread comes in another way.
+    // came, so no wake-up is lost; no thread comes in another way.
     fn come(&self, sleepers: &Sleepers) -> u64 {
         sleepers.count.fetch_add(1, SeqCst);
         self.table.shared.peek(SERVED)

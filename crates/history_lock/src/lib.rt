@@ -2,10 +2,8 @@
 //! seen of it.
 //!
 //! The lock is this project's own. Its one rule stands in `specs/Lock.antt`; the seven kinds of its atomic steps, and
-//! the load
-//! that ends a join, in `specs/Told.antt`; what a pass knows in `specs/Sights.antt`; which trail was left for each
-//! turn in
-//! `specs/Turns.antt`; and the words of the public contracts in `specs/Locks.antt`.
+//! the load that ends a join, in `specs/Told.antt`; what a pass knows in `specs/Sights.antt`; which trail was left for
+//! each turn in `specs/Turns.antt`; and the words of the public contracts in `specs/Locks.antt`.
 #![tactic(auto)]
 
 mod bells;

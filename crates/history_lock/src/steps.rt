@@ -99,8 +99,7 @@ impl<T: Trailed> TicketLock<T> {
     /// Waits for the ticket's turn and takes the value.
     ///
     /// As the next in line it looks 64 times, and then sleeps on the number of the ticket that is served until a
-    /// `leave` wakes it. Further back it sleeps beside
-    /// the bell of its ticket until it is the next in line.
+    /// `leave` wakes it. Further back it sleeps beside the bell of its ticket until it is the next in line.
     #[tactic(auto, using(crate::proofs::Turns::first_finds_opening))]
     pub fn enter<R: Wait>(&self, rt: &R, ticket: Ticket, pass: &mut Pass<T>) -> Hold<T>
         requires pass { IsPassOf self.now pass.old }

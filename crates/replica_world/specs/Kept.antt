@@ -1,4 +1,5 @@
--- What holds of every world that events lead to.
+-- What holds of every world that events lead to: the strong list specification (Attiya and others 2016) over all its
+-- replicas (Roh, Jeon, Kim and Lee 2011), and what editors are promised at each.
 use Rattle.std.specs.Prelude.{◌≡◌, ◌⊎◌, ◌<◌, ◌≤◌, List, length, Contains}
 use Rattle.std.specs.List.{AllByRecursion}
 use Rattle.opid.specs.Operations.{Operation}

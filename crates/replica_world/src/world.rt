@@ -43,7 +43,7 @@ impl Model for World {
 }
 
 impl World {
-    /// Empty rooms at the sites 0 to `n - 1`. An error is for want of memory. Takes a step and a room's memory for each.
+    /// Empty rooms at the sites 0 to `n - 1`, 1 to 32 of them. An error is for want of memory. Takes a step and a room's memory for each.
     pub fn new(alloc: Global, n: u8) -> Result<World, AllocError>
         requires first { 1 ≤ n }
         requires most { n ≤ 32 }
@@ -72,7 +72,8 @@ impl World {
     ///
     /// At most 32 steps find each site. A call then takes what `Room::call` takes; what is carried, one look-up in the log
     /// of its source, which goes at most 63 steps back, and what a `put` of one operation takes; a fork, such a look-up for
-    /// each of the first `n` operations, and the time and memory to integrate them into a new room.
+    /// each of the first `n` operations, a copy of them, some 150 bytes each while it lasts, and the time and memory to
+    /// integrate them into a new room.
     pub fn step(&mut self, event: Event) -> Result<WorldReply, AllocError>
         ensures reply { IfOk result (λ r. r ≡ (step self.old event).reply) }
         ensures next { OnOk result (self.new ≡ (step self.old event).world) }

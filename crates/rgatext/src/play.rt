@@ -16,10 +16,10 @@ use ws_server::{Counted, Source};
 /// Runs a plan other than `serve` from the reader to the writer.
 ///
 /// `lines` serves a room of its site, `text` prints a reading, and `world` plays a script. An `Err` tells the refusal or
-/// the fault that ended it:
-/// a snapshot that is none or whose log has an operation of the site, a version above the newest, a read or a write that
-/// failed, or memory that was refused. Takes the time of the engine and of the calls that the lines ask for, and memory
-/// for the engine's buffer and for the room.
+/// the fault that ended it: a snapshot that is none or whose log has an operation of the site, a version above the newest,
+/// a read or a write that failed, or memory that was refused. Takes the time of the engine and of the calls that the lines
+/// ask for, and memory for the engine's buffer and for the room or rooms; a snapshot that is read is in memory as a whole
+/// with its JSON value, and so is the text that is written of a snapshot, of a version or of a world's readings.
 pub fn play<R: Source, W: Write>(
     alloc: Global,
     plan: &Plan,

@@ -19,7 +19,7 @@ use wire_json::{check_keys, read_list, read_number, read_op, read_value};
 /// The replica of a site over the log that the bytes stand for; it holds nothing back.
 ///
 /// Refused with `BadSnapshot` exactly where `load_doc` is; else with `SiteUsed` exactly where the log has an operation of the
-/// site, since a number of its would be given twice; and with `Memory` in the place of any answer. Takes the steps of
+/// site, since one of that site's numbers would be given twice; and with `Memory` in the place of any answer. Takes the steps of
 /// `load_doc` and those of `Replica::over_doc`.
 pub fn load(alloc: Global, bytes: &[u8], site: Site) -> Result<Replica, Refusal>
     ensures stands { IfOk result (λ r. StandsFor bytes.now r.log) }
