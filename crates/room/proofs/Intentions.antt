@@ -28,7 +28,7 @@ use Rattle.room.specs.Intention.{asked_by, StandsAsked, IsAccepted, IsKept, stat
 use Rattle.room.proofs.Accepted.{first_accepted, at_most}
 use Rattle.room.proofs.Handing.{Extends}
 use Rattle.room.proofs.Histories.{next-site}
-use Rattle.room.proofs.Converging.{state_of-extends}
+use Rattle.room.proofs.Known.{state_of-extends}
 
 -- ---- along a history
 
