@@ -1,4 +1,5 @@
 pub mod Entries
 pub mod Listed
+pub mod Packed
 pub mod Rows
 pub mod Links

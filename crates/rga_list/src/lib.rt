@@ -6,6 +6,7 @@
 #![tactic(auto)]
 
 mod links;
+mod packed_node;
 mod rga;
 mod table;
 

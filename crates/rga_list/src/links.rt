@@ -1,7 +1,9 @@
 //! Elements in a vector, linked in their order by numbers: the walk, and the link of a new element.
 ghost use Rattle.std.specs.Prelude.{◌≡◌, ◌<◌, ◌≤◌, ◌+◌, ℕ, length, IfSome, vec_len, vec_capacity};
+ghost use Rattle.std.specs.Option.{ForSome};
 ghost use Rattle.rga_list.specs.Links.{Ends, Walked, following, put_in, first_then};
 
+use crate::packed_node::PackedNode;
 use opid::Stamp;
 
 /// An element: how many elements came before it.
@@ -17,20 +19,20 @@ pub struct Node {
 }
 
 /// The element after this one (`None`: the first).
-pub fn after(nodes: &[Node], first: Option<Elem>, before: Option<Elem>) -> Option<Elem>
+pub fn after(nodes: &[PackedNode], first: Option<Elem>, before: Option<Elem>) -> Option<Elem>
     requires { IfSome before (λ k. k < length nodes.now) }
     ensures { result ≡ following nodes.now first before }
 {
     match before {
         None => first,
-        Some(elem) => nodes[elem as usize].next,
+        Some(elem) => nodes[elem as usize].get().next,
     }
 }
 
 /// From `at`, which comes after `before`, past every greater stamp: the last element passed, and the one
 /// that it stops before. Takes a step for each element passed.
 pub fn walk(
-    nodes: &[Node],
+    nodes: &[PackedNode],
     before: Option<Elem>,
     at: Option<Elem>,
     stamp: &Stamp,
@@ -41,7 +43,7 @@ pub fn walk(
     let mut last = before;
     let mut next = at;
     while let Some(elem) = next {
-        let node = &nodes[elem as usize];
+        let node = nodes[elem as usize].get();
         if !(*stamp < node.stamp) {
             return (last, next);
         }
@@ -53,9 +55,10 @@ pub fn walk(
 
 /// Adds a node, which names the element after it already, and links it behind `last` (`None`: at the head).
 /// Constant time; takes no memory.
-pub fn link(nodes: &mut Vec<Node>, first: &mut Option<Elem>, node: Node, last: Option<Elem>)
+pub fn link(nodes: &mut Vec<PackedNode>, first: &mut Option<Elem>, node: Node, last: Option<Elem>)
     requires room { vec_len nodes.old < vec_capacity nodes.old }
     requires few { vec_len nodes.old < 131072 }
+    requires next { ForSome node.next (λ k. k < 131072) }
     requires within { IfSome last (λ k. k < vec_len nodes.old) }
     ensures nodes { nodes.new.items ≡ put_in nodes.old.items node last }
     ensures first { first.new ≡ first_then nodes.old.items first.old last }
@@ -63,9 +66,12 @@ pub fn link(nodes: &mut Vec<Node>, first: &mut Option<Elem>, node: Node, last: O
     ensures capacity { vec_capacity nodes.old ≤ vec_capacity nodes.new }
 {
     let elem = nodes.len() as Elem;
-    nodes.push(node).unwrap();
+    nodes.push(PackedNode::new(node)).unwrap();
     match last {
         None => *first = Some(elem),
-        Some(last) => nodes[last as usize].next = Some(elem),
+        Some(last) => {
+            let before = &mut nodes[last as usize];
+            before.set_next(elem);
+        }
     }
 }

@@ -13,6 +13,7 @@ ghost use Rattle.rga_list.specs.Links.{row_at};
 ghost use Rattle.rga_list.specs.Listed.{listed};
 
 use crate::links::{Elem, Node, after, link, walk};
+use crate::packed_node::PackedNode;
 use crate::table::SiteTable;
 use opid::{Refusal, SITES, Site, Stamp};
 use std::alloc::Global;
@@ -34,7 +35,7 @@ pub struct Place {
 #[derive(Drop)]
 pub struct Rga {
     first: Option<Elem>,
-    nodes: Vec<Node>,
+    nodes: Vec<PackedNode>,
     tables: [SiteTable; SITES],
     room: usize,
 }
@@ -87,8 +88,9 @@ impl Rga {
         requires { elem < length self.now.entries }
         ensures { entry_of elem self.now.entries ≡ Some (record { elem = elem; stamp = result.0; ch = result.1; shown = result.2 }) }
     {
-        let node = &self.nodes[elem as usize];
-        (node.stamp, node.ch, node.shown)
+        let node = self.nodes[elem as usize].get();
+        let ch = node.ch;
+        (node.stamp, ch, node.shown)
     }
 
     /// The element right after this one in the linked order (`None`: the first one). `None` after the last,
@@ -101,7 +103,7 @@ impl Rga {
             None => self.first,
             Some(elem) => {
                 if (elem as usize) < self.nodes.len() {
-                    self.nodes[elem as usize].next
+                    self.nodes[elem as usize].get().next
                 } else {
                     None
                 }
@@ -123,8 +125,8 @@ impl Rga {
     }
 
     /// Reserves memory for the next `n` insertions, so that they aren't refused with `Memory`. As any site may
-    /// insert, each of the 32 tables gets room for `n` identifiers of 8 bytes, beside `n` elements of 24: for 64
-    /// insertions that is some 18 KB, whose reserve is kept. Refused with `Memory`.
+    /// insert, each of the 32 tables gets room for `n` identifiers of 8 bytes, beside `n` elements of 16: for 64
+    /// insertions that is some 17 KB, whose reserve is kept. Refused with `Memory`.
     pub fn reserve(&mut self, n: usize) -> Result<(), Refusal>
         ensures ok { OnOk result (self.new ≡ record self.old { room = max self.old.room n }) }
         ensures err { OnErr result (self.new ≡ self.old) }
@@ -208,8 +210,7 @@ impl Rga {
             None => Err(Refusal::UnknownElement),
             Some(elem) => {
                 let node = &mut self.nodes[elem as usize];
-                let shown = node.shown;
-                node.shown = false;
+                let shown = node.hide();
                 Ok(shown)
             }
         }

@@ -17,8 +17,8 @@ loop-next-smaller c =
     let w = rw c.in-Some.is at c.loop-next.invariant.steps in
     let within : c.in-Some.elem < length c.args.nodes.now =
     Walking-within c.args.nodes.now c.args.stamp.now c.args.before c.args.at c.loop-next.last c.in-Some.elem w in
-    let node : c.index-nodes-elem.result ≡ node_at c.args.nodes.now c.in-Some.elem =
-    c.index-nodes-elem.is ∙ get_or_default c.args.nodes.now c.in-Some.elem c.index-nodes-elem.result blank within in
+    let node : c.get-node.result ≡ node_at c.args.nodes.now c.in-Some.elem =
+    c.get-node.ensures ∙ c.index-nodes-elem.is ∙ get_or_default c.args.nodes.now c.in-Some.elem c.index-nodes-elem.result blank within in
     let less = Walking-shorter c.args.nodes.now c.args.stamp.now c.args.before c.args.at c.loop-next.last c.in-Some.elem w in
     rw c.in-Some.is (subst (λ (n : Node). length (chain (length c.args.nodes.now) c.args.nodes.now n.next)
     < length (chain (length c.args.nodes.now) c.args.nodes.now (Some c.in-Some.elem))) (sym node) less)
@@ -28,9 +28,9 @@ loop-next-preserved c =
     let w = rw c.in-Some.is at c.loop-next.invariant.steps in
     let within : c.in-Some.elem < length c.args.nodes.now =
     Walking-within c.args.nodes.now c.args.stamp.now c.args.before c.args.at c.loop-next.last c.in-Some.elem w in
-    let node : c.index-nodes-elem.result ≡ node_at c.args.nodes.now c.in-Some.elem =
-    c.index-nodes-elem.is ∙ get_or_default c.args.nodes.now c.in-Some.elem c.index-nodes-elem.result blank within in
-    let greater : is_before c.args.stamp.now c.index-nodes-elem.result.stamp ≡ true = search rules in
+    let node : c.get-node.result ≡ node_at c.args.nodes.now c.in-Some.elem =
+    c.get-node.ensures ∙ c.index-nodes-elem.is ∙ get_or_default c.args.nodes.now c.in-Some.elem c.index-nodes-elem.result blank within in
+    let greater : is_before c.args.stamp.now c.get-node.result.stamp ≡ true = search rules in
     let more = Walking-more c.args.nodes.now c.args.stamp.now c.args.before c.args.at c.loop-next.last c.in-Some.elem w
     (subst (λ (n : Node). is_before c.args.stamp.now n.stamp ≡ true) node greater) in
     let next = subst (λ (n : Node). Walking c.args.nodes.now c.args.stamp.now c.args.before c.args.at (Some c.in-Some.elem) n.next)
@@ -38,5 +38,5 @@ loop-next-preserved c =
     record {
       steps = next;
       within = Walking-place c.args.nodes.now c.args.stamp.now c.args.before c.args.at
-          (Some c.in-Some.elem) c.index-nodes-elem.result.next next;
+          (Some c.in-Some.elem) c.get-node.result.next next;
     }

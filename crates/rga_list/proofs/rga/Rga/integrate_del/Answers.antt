@@ -2,23 +2,29 @@
 use Rattle.std.proofs.Common.{◌≡◌, ◌∙◌, ◌<◌, ℕ, true, List, refl, ap, subst, sym, set, length, arith}
 use mathlib.Core.Path.{ap₂}
 use Rattle.rga_list.specs.Entries.{LinkedElements, Entry, has_stamp, hidden, is_shown}
+use Rattle.rga_list.specs.declared.links.Node.{Node}
 use Rattle.rga_list.specs.Links.{entries_of, IsList}
 use Rattle.rga_list.proofs.Ordered.{has_stamp-some, has_stamp-none}
-use Rattle.rga_list.proofs.Deleted.{off, target-within, deleted}
+use Rattle.rga_list.proofs.Deleted.{target-within, deleted}
 use Rattle.rga_list.proofs.Shown.{listed-deletion}
 use Rattle.rga_list.proofs.rga.Rga.integrate_del.Goals as goal
 
 -- what holds once the element is hidden
-after : (c : goal.After-self-1) → IsList (set c.self.inside.nodes.items c.in-Some.elem (off c.index_mut-node.result.now))
+after : (c : goal.After-self-1) → IsList (set c.self.inside.nodes.items c.in-Some.elem c.hide-shown.new.self)
     c.self.inside.first c.self.inside.tables
-    × (entries_of (set c.self.inside.nodes.items c.in-Some.elem (off c.index_mut-node.result.now)) c.self.inside.first
+    × (entries_of (set c.self.inside.nodes.items c.in-Some.elem c.hide-shown.new.self) c.self.inside.first
     ≡ hidden c.args.target c.args.self.now.entries)
-    × (c.index_mut-node.result.now.shown ≡ is_shown c.args.target c.args.self.now.entries)
+    × (c.hide-shown.result ≡ is_shown c.args.target c.args.self.now.entries)
 after c =
-    deleted c.self.inside.nodes.items c.self.inside.first c.self.inside.tables c.args.target c.in-Some.elem c.index_mut-node.result.now
+    let made = deleted c.self.inside.nodes.items c.self.inside.first c.self.inside.tables c.args.target c.in-Some.elem c.index_mut-node.result.now
     c.args.self.now.entries
     c.self.invariant.0 (ap (λ (r : LinkedElements). r.entries) c.self.view_is)
-    (sym c.elem_of.ensures.value ∙ c.in-Some.is) c.index_mut-node.ensures.value
+    (sym c.elem_of.ensures.value ∙ c.in-Some.is) c.index_mut-node.ensures.value in (
+      subst (λ (n : Node). IsList (set c.self.inside.nodes.items c.in-Some.elem n) c.self.inside.first c.self.inside.tables)
+          (sym c.hide-shown.ensures.node) made.0,
+      ap (λ (n : Node). entries_of (set c.self.inside.nodes.items c.in-Some.elem n) c.self.inside.first) c.hide-shown.ensures.node ∙ made.1,
+      c.hide-shown.ensures.was ∙ made.2,
+    )
 
 pub index_mut-node-requires : goal.index_mut-node-requires
 index_mut-node-requires c =

@@ -19,7 +19,7 @@ returns-then-elem-len-clause-value c =
     let node : c.index.result.now ≡ node_at c.self.inside.nodes.items c.in-Some.elem =
     node_same c.self.inside.nodes.items c.in-Some.elem c.index.result.now c.index.ensures within in
     rw c.in-Some.is
-    (ap (λ (n : Node). n.next) node
+    (ap (λ (n : Node). n.next) (c.get.ensures ∙ node)
     ∙ after-order c.self.inside.nodes.items c.self.inside.first c.in-Some.elem
     (order_of c.self.inside.nodes.items c.self.inside.first) c.self.invariant.0.linked.leads
     (c.self.invariant.0.linked.covers c.in-Some.elem within)
