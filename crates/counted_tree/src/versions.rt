@@ -9,11 +9,11 @@ ghost use Rattle.counted_tree.specs.Tree.{entries};
 ghost use Rattle.counted_tree.specs.Arena.{IsLinkBelow, AreSound};
 ghost use Rattle.counted_tree.specs.Change.{tree_in};
 
-use crate::above::Above;
 use crate::build::summary_of;
 use crate::change::{hide, insert, rank_in};
 use crate::link::Link;
 use crate::nodes::Nodes;
+use crate::packed_above::PackedAbove;
 use crate::search::find_in;
 use crate::steps::Steps;
 use crate::walk::push_shown_in;
@@ -25,7 +25,7 @@ use std::marker::Model;
 #[derive(Drop)]
 pub struct VersionTree {
     nodes: Nodes,
-    table: Vec<Option<Above>>,
+    table: Vec<PackedAbove>,
     roots: Vec<Link>,
     room: usize,
 }

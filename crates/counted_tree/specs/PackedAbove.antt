@@ -1,0 +1,36 @@
+-- What a kept row of the table of parents stands for. No public clause cites this: it is the code's alone.
+use Rattle.std.specs.Prelude.{◌≡◌, ℕ, Option, Some, None, refl}
+use Rattle.std.proofs.Common.{ap, sym}
+use Rattle.counted_tree.specs.declared.above.Above.{Above}
+use Rattle.counted_tree.specs.declared.side.Side.{Side}
+use Rattle.counted_tree.specs.declared.packed_above.PackedAbove.TheInside.{Inside}
+
+abbrev pub above_by : Option Side → ℕ → Option Above
+above_by None elem = None
+above_by (Some side) elem = Some (record { elem = elem; side = side })
+
+-- what the element hangs from that is kept so
+abbrev pub above_of : Inside → Option Above
+above_of a = above_by a.side a.elem
+
+-- where nothing is above, the number is 0
+abbrev pub IsPlainBy : Option Side → ℕ → Type 0
+IsPlainBy None elem = elem ≡ 0
+IsPlainBy (Some side) elem = Unit {0}
+
+abbrev pub IsPlain : Inside → Type 0
+IsPlain a = IsPlainBy a.side a.elem
+
+abbrev pub packed : ℕ → Option Side → Inside
+packed elem side = record { elem = elem; side = side }
+
+abbrev pub inside_of : Option Above → Inside
+inside_of None = packed 0 None
+inside_of (Some above) = packed above.elem (Some above.side)
+
+unpack : (side : Option Side) (elem : ℕ) → IsPlainBy side elem → inside_of (above_by side elem) ≡ packed elem side
+unpack None elem h = ap (λ n. packed n None) (sym h)
+unpack (Some side) elem h = refl
+
+pub inside_of-above_of : (a : Inside) → IsPlain a → inside_of (above_of a) ≡ a
+inside_of-above_of a h = unpack a.side a.elem h
