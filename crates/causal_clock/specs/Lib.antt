@@ -4,5 +4,5 @@ pub mod Stored
 pub mod Logged
 pub mod Packed
 pub mod Replayed
-pub mod Halves
 pub mod Shapes
+pub mod Halves

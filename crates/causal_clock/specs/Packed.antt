@@ -21,8 +21,8 @@ no_op = record { site = 0; clock = []; kind = no_kind }
 abbrev pub row_at : List Row → ℕ → Row
 row_at rows k = get_or rows k no_row
 
-abbrev pub op_at : List Operation → ℕ → Operation
-op_at ops k = get_or ops k no_op
+abbrev pub operation_at : List Operation → ℕ → Operation
+operation_at ops k = get_or ops k no_op
 
 -- the counts with each of the entries put in
 abbrev pub fill : List ℕ → List (ℕ × ℕ) → List ℕ
@@ -34,20 +34,20 @@ abbrev pub changes_of : List (ℕ × ℕ) → Row → List (ℕ × ℕ)
 changes_of entries row = take row.count (drop row.from entries)
 
 -- the clock of a row's operation, after the clocks of its sites' last ones
-abbrev pub clock_told : List (List ℕ) → List (ℕ × ℕ) → Row → List ℕ
-clock_told clocks entries row = fill (get_or clocks row.site []) (changes_of entries row)
+abbrev pub row_clock : List (List ℕ) → List (ℕ × ℕ) → Row → List ℕ
+row_clock clocks entries row = fill (get_or clocks row.site []) (changes_of entries row)
 
 -- the operations that rows tell, after the clocks of the sites' last ones
 unfoldable pub told : List (List ℕ) → List (ℕ × ℕ) → List Row → List Operation
 told clocks entries [] = []
 told clocks entries (r ∷ rs) =
-    record { site = r.site; clock = clock_told clocks entries r; kind = r.kind }
-    ∷ told (slice_set clocks r.site (clock_told clocks entries r)) entries rs
+    record { site = r.site; clock = row_clock clocks entries r; kind = r.kind }
+    ∷ told (slice_set clocks r.site (row_clock clocks entries r)) entries rs
 
 -- the clocks of the sites' last operations after those rows
 unfoldable pub after : List (List ℕ) → List (ℕ × ℕ) → List Row → List (List ℕ)
 after clocks entries [] = clocks
-after clocks entries (r ∷ rs) = after (slice_set clocks r.site (clock_told clocks entries r)) entries rs
+after clocks entries (r ∷ rs) = after (slice_set clocks r.site (row_clock clocks entries r)) entries rs
 
 -- no site has an operation
 abbrev pub no_clocks : List (List ℕ)
@@ -60,16 +60,16 @@ logged entries rows = told no_clocks entries rows
 -- The row at k tells the operation there: its entries are put into the clock of no operations, or into that of
 -- the row that it names, which is one step nearer to a row of the first kind.
 pub record IsRow (entries : List (ℕ × ℕ)) (rows : List Row) (ops : List Operation) (k : ℕ) : Type 0 where
-  pub valid : IsOperation (op_at ops k)
-  pub site : (row_at rows k).site ≡ (op_at ops k).site
-  pub kind : (row_at rows k).kind ≡ (op_at ops k).kind
+  pub valid : IsOperation (operation_at ops k)
+  pub site : (row_at rows k).site ≡ (operation_at ops k).site
+  pub kind : (row_at rows k).kind ≡ (operation_at ops k).kind
   pub within : (row_at rows k).from + (row_at rows k).count ≤ length entries
-  pub base : (row_at rows k).back ≡ 0 → (op_at ops k).clock ≡ fill (clock_of []) (changes_of entries (row_at rows k))
+  pub base : (row_at rows k).back ≡ 0 → (operation_at ops k).clock ≡ fill (clock_of []) (changes_of entries (row_at rows k))
   pub short : (row_at rows k).back < 64
   pub earlier : 0 < (row_at rows k).back → (row_at rows k).prev < k
   pub nearer : 0 < (row_at rows k).back → (row_at rows (row_at rows k).prev).back + 1 ≡ (row_at rows k).back
   pub step : 0 < (row_at rows k).back
-      → (op_at ops k).clock ≡ fill (op_at ops (row_at rows k).prev).clock (changes_of entries (row_at rows k))
+      → (operation_at ops k).clock ≡ fill (operation_at ops (row_at rows k).prev).clock (changes_of entries (row_at rows k))
 
 -- each row tells the operation at its place
 abbrev pub AreRows : List (ℕ × ℕ) → List Row → List Operation → Type 0
@@ -82,7 +82,7 @@ pub record IsSite (rows : List Row) (ops : List Operation) (clocks : List (List 
   pub none : count_of ops site ≡ 0 → latest ops site ≡ clock_of []
   pub last : 0 < count_of ops site → get_or lasts site 0 < length rows
   pub near : 0 < count_of ops site → (row_at rows (get_or lasts site 0)).back ≤ count_of ops site % 64
-  pub same : 0 < count_of ops site → (op_at ops (get_or lasts site 0)).clock ≡ latest ops site
+  pub same : 0 < count_of ops site → (operation_at ops (get_or lasts site 0)).clock ≡ latest ops site
 
 -- the parts of a log of these operations
 pub record IsPacked (entries : List (ℕ × ℕ)) (rows : List Row) (ops : List Operation) (clocks : List (List ℕ))

@@ -4,15 +4,15 @@ ghost use Rattle.std.specs.Prelude.{slice_get, OnOk, OnErr, IfErr, vec_len, vec_
 ghost use Rattle.opid.specs.declared.refusal.Refusal.TheVariants.{Memory};
 ghost use Rattle.causal_clock.specs.Kinds.{IsOperation};
 ghost use Rattle.causal_clock.specs.Stored.{changes, entries_of, stored};
-ghost use Rattle.causal_clock.specs.Packed.{AreReserved, AreRows, IsPacked, fill, op_at, row_at, logged};
+ghost use Rattle.causal_clock.specs.Packed.{AreReserved, AreRows, IsPacked, changes_of, fill, operation_at, row_at, logged};
 
 use crate::changed::Changed;
 use crate::clock::Clock;
 use crate::op::Op;
 use crate::packed_kind::{PackedKind, site_of};
+use crate::reads::Reads;
 use crate::replay::Replay;
-use crate::row::Row;
-use crate::steps::Steps;
+use crate::row::{Row, read};
 use opid::{Refusal, SITES};
 use std::alloc::Global;
 use std::marker::Model;
@@ -79,17 +79,18 @@ impl OpLog {
         self.entries.len()
     }
 
-    /// The operation at the place. Takes no memory, and reads the entries of at most 64 operations: its own, and those
-    /// of its site's before it back to one that has them all.
-    pub fn get<L: Ledger>(&self, i: usize, steps: &mut Steps<L>) -> Op
+    /// The operation at the place. Takes no memory, and reads what is kept of at most 64 operations: itself, and those of
+    /// its site before it back to one that has its whole clock.
+    pub fn get<L: Ledger>(&self, i: usize, steps: &mut Reads<L>) -> Op
         requires { i < length self.now.ops }
         ensures value { slice_get self.now.ops i ≡ Some result }
         ensures cost { steps.new ≤ steps.old + 64 }
     {
         let rows = self.rows.as_slice();
         let entries = self.entries.as_slice();
-        let counts = counts_at(rows, entries, i, steps);
-        told_by(rows, entries, i, counts)
+        let (row, changes) = read(rows, entries, i, steps);
+        let before = counts_before(rows, entries, &row, steps);
+        told_by(&row, filled(before, changes))
     }
 
     /// The operations from a place on, in order. The first one of each site takes the steps of `get`, each other one a
@@ -156,26 +157,26 @@ fn reserve_each(rows: &mut Vec<Row>, entries: &mut Vec<Changed>, n: usize) -> Re
     Ok(())
 }
 
-/// The counts of the clock of the operation at the place.
-pub(crate) fn counts_at<L: Ledger>(
+/// The counts into which a row's entries are put: none, or those of the clock of its site's operation before. Reads as
+/// many operations as the row goes back.
+pub(crate) fn counts_before<L: Ledger>(
     rows: &[Row],
     entries: &[Changed],
-    at: usize,
-    steps: &mut Steps<L>,
+    row: &Row,
+    steps: &mut Reads<L>,
 ) -> [u32; SITES]
-    requires within { at < length rows.now }
     requires rows { AreRows entries.now rows.now (logged entries.now rows.now) }
-    ensures counts { result ≡ (op_at (logged entries.now rows.now) at).clock }
-    ensures cost { steps.new ≡ steps.old + (row_at rows.now at).back + 1 }
-    ensures few { (row_at rows.now at).back < 64 }
+    requires row { (k : ℕ) × (k < length rows.now) × (row_at rows.now k ≡ row.now) }
+    ensures counts { (k : ℕ) → k < length rows.now → row_at rows.now k ≡ row.now
+        → fill result (changes_of entries.now row.now) ≡ (operation_at (logged entries.now rows.now) k).clock }
+    ensures cost { steps.new ≡ steps.old + row.now.back }
 {
-    let row = rows[at];
-    let before = if row.back == 0 {
-        [0; SITES]
-    } else {
-        counts_at(rows, entries, row.prev as usize, steps)
-    };
-    filled(before, row.entries(entries, steps))
+    if row.back == 0 {
+        return [0; SITES];
+    }
+    let (last, changes) = read(rows, entries, row.prev as usize, steps);
+    let before = counts_before(rows, entries, &last, steps);
+    filled(before, changes)
 }
 
 /// The counts with each of the entries put in.
@@ -190,14 +191,11 @@ pub(crate) fn filled(counts: [u32; SITES], entries: &[Changed]) -> [u32; SITES]
     counts
 }
 
-/// The operation at the place, whose clock has these counts.
-pub(crate) fn told_by(rows: &[Row], entries: &[Changed], at: usize, counts: [u32; SITES]) -> Op
-    requires within { at < length rows.now }
-    requires rows { AreRows entries.now rows.now (logged entries.now rows.now) }
-    requires counts { counts ≡ (op_at (logged entries.now rows.now) at).clock }
-    ensures { slice_get (logged entries.now rows.now) at ≡ Some result }
+/// The operation of a row, whose clock has these counts.
+pub(crate) fn told_by(row: &Row, counts: [u32; SITES]) -> Op
+    requires { IsOperation (record { site = row.now.site; clock = counts; kind = row.now.kind }) }
+    ensures { result ≡ record { site = row.now.site; clock = counts; kind = row.now.kind } }
 {
-    let row = rows[at];
     match Op::new(row.site, Clock::of_counts(counts), row.kind.kind()) {
         Ok(op) => op,
         Err(_) => unreachable!(),

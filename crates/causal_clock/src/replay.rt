@@ -1,14 +1,14 @@
 //! The operations of a log in order, from a place on.
-ghost use Rattle.std.specs.Prelude.{◌≡◌, ◌<◌, ◌≤◌, ℕ, List, Some, length, drop, slice_get, IfSome};
+ghost use Rattle.std.specs.Prelude.{◌≡◌, ◌+◌, ◌<◌, ◌≤◌, ◌∷◌, ℕ, List, Some, length, drop, slice_get, IfSome};
 ghost use Rattle.opid.specs.Operations.{Operation};
-ghost use Rattle.causal_clock.specs.Packed.{AreRows, op_at, logged};
+ghost use Rattle.causal_clock.specs.Packed.{AreRows, changes_of, fill, operation_at, row_at, logged};
 ghost use Rattle.causal_clock.specs.Replayed.{AreSeen};
 
 use crate::changed::Changed;
 use crate::op::Op;
-use crate::op_log::{counts_at, filled, told_by};
-use crate::row::Row;
-use crate::steps::Steps;
+use crate::op_log::{counts_before, filled, told_by};
+use crate::reads::Reads;
+use crate::row::{Row, read};
 use opid::SITES;
 use std::marker::{Brand, Model};
 use std::sync::ledger::{Blank, Ledger};
@@ -57,6 +57,17 @@ impl<'a> Replay<'a> {
             seen: [None; SITES],
         }
     }
+
+    /// The next operation, where one is left. A loop over places that are known calls it: a `for` over the operations
+    /// doesn't tell their places.
+    pub fn next_op(&mut self) -> Op
+        requires { 0 < length self.old }
+        ensures { self.old ≡ result ∷ self.new }
+    {
+        let at = self.place;
+        self.place = at + 1;
+        op_after::<Brand>(&mut self.seen, self.rows, self.entries, at, Blank::new(1))
+    }
 }
 
 impl<'a> Iterator for Replay<'a> {
@@ -69,12 +80,10 @@ impl<'a> Iterator for Replay<'a> {
     ghost remaining = { item_count (λ s. s) };
 
     fn next(&mut self) -> Option<Op> {
-        let at = self.place;
-        if at >= self.rows.len() {
+        if self.place >= self.rows.len() {
             return None;
         }
-        self.place = at + 1;
-        Some(op_after::<Brand>(&mut self.seen, self.rows, self.entries, at, Blank::new(1)))
+        Some(self.next_op())
     }
 }
 
@@ -95,37 +104,38 @@ fn op_after<L: Ledger>(
     ensures op { slice_get (logged entries.now rows.now) at ≡ Some result }
     ensures seen { AreSeen seen.new (logged entries.now rows.now) }
 {
-    let mut steps = Steps::<L>::new(blank);
-    let counts = counts_after(seen, rows, entries, at, &mut steps);
-    let site = rows[at].site;
+    let mut steps = Reads::<L>::new(blank);
+    let (row, changes) = read(rows, entries, at, &mut steps);
+    let counts = filled(counts_after(seen, rows, entries, &row, &mut steps), changes);
+    let site = row.site;
     seen[usize::from(site.number())] = Some(Seen { place: at, counts });
-    told_by(rows, entries, at, counts)
+    told_by(&row, counts)
 }
 
-/// The counts of the clock of the operation at the place, from those that are kept where they serve.
+/// The counts into which a row's entries are put, from those that are kept where they serve.
 fn counts_after<L: Ledger>(
     seen: &[Option<Seen>; SITES],
     rows: &[Row],
     entries: &[Changed],
-    at: usize,
-    steps: &mut Steps<L>,
+    row: &Row,
+    steps: &mut Reads<L>,
 ) -> [u32; SITES]
-    requires within { at < length rows.now }
     requires rows { AreRows entries.now rows.now (logged entries.now rows.now) }
+    requires row { (k : ℕ) × (k < length rows.now) × (row_at rows.now k ≡ row.now) }
     requires seen { AreSeen seen.now (logged entries.now rows.now) }
-    ensures { result ≡ (op_at (logged entries.now rows.now) at).clock }
+    ensures { (k : ℕ) → k < length rows.now → row_at rows.now k ≡ row.now
+        → fill result (changes_of entries.now row.now) ≡ (operation_at (logged entries.now rows.now) k).clock }
 {
-    let row = rows[at];
-    match counts_before(seen, &row) {
-        None => counts_at(rows, entries, at, steps),
-        Some(before) => filled(before, row.entries(entries, steps)),
+    match kept_before(seen, row) {
+        None => counts_before(rows, entries, row, steps),
+        Some(before) => before,
     }
 }
 
 /// The counts into which the row's entries are to be put, if they are kept.
-fn counts_before(seen: &[Option<Seen>; SITES], row: &Row) -> Option<[u32; SITES]>
+fn kept_before(seen: &[Option<Seen>; SITES], row: &Row) -> Option<[u32; SITES]>
     ensures { (ops : List Operation) → AreSeen seen.now ops
-        → IfSome result (λ counts. (0 < row.now.back) × (counts ≡ (op_at ops row.now.prev).clock)) }
+        → IfSome result (λ counts. (0 < row.now.back) × (counts ≡ (operation_at ops row.now.prev).clock)) }
 {
     let site = row.site;
     let last = seen[usize::from(site.number())]?;

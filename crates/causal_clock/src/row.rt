@@ -1,10 +1,10 @@
 //! What a log keeps of one operation, beside the entries of its clock.
-ghost use Rattle.std.specs.Prelude.{◌≡◌, ◌+◌, ◌≤◌, length};
-ghost use Rattle.causal_clock.specs.Packed.{changes_of};
+ghost use Rattle.std.specs.Prelude.{◌≡◌, ◌+◌, ◌<◌, ◌≤◌, length};
+ghost use Rattle.causal_clock.specs.Packed.{changes_of, row_at};
 
 use crate::changed::Changed;
 use crate::packed_kind::PackedKind;
-use crate::steps::Steps;
+use crate::reads::Reads;
 use opid::Site;
 use std::sync::ledger::Ledger;
 
@@ -23,19 +23,23 @@ pub(crate) struct Row {
     pub(crate) count: u8,
 }
 
-impl Row {
-    /// Its entries among those of all rows. The only call that reads them.
-    pub(crate) fn entries<'a, L: Ledger>(
-        &self,
-        entries: &'a [Changed],
-        steps: &mut Steps<L>,
-    ) -> &'a [Changed]
-        requires { self.now.from + self.now.count ≤ length entries.now }
-        ensures entries { result.now ≡ changes_of entries.now self.now }
-        ensures step { steps.new ≡ steps.old + 1 }
-    {
-        steps.tick();
-        let from = self.from as usize;
-        &entries[from..from + usize::from(self.count)]
-    }
+const _: () = prove!(size_of::<Row>() == 24);
+
+/// The row at the place, and its entries. The only call that reads rows or entries for an operation that is asked for.
+pub(crate) fn read<'a, L: Ledger>(
+    rows: &[Row],
+    entries: &'a [Changed],
+    at: usize,
+    steps: &mut Reads<L>,
+) -> (Row, &'a [Changed])
+    requires within { at < length rows.now }
+    requires entries { (row_at rows.now at).from + (row_at rows.now at).count ≤ length entries.now }
+    ensures row { result.0 ≡ row_at rows.now at }
+    ensures entries { result.1.now ≡ changes_of entries.now (row_at rows.now at) }
+    ensures step { steps.new ≡ steps.old + 1 }
+{
+    steps.tick();
+    let row = rows[at];
+    let from = row.from as usize;
+    (row, &entries[from..from + usize::from(row.count)])
 }

@@ -1,7 +1,7 @@
 //! The worked cases of clocks, operations and logs, and a random log beside a plain list.
 ghost use Rattle.std.specs.Prelude.{◌≡◌, ◌<◌, length};
 
-use crate::{Clock, Op, OpLog, Steps};
+use crate::{Clock, Op, OpLog, Reads};
 use opid::{OpKind, Refusal, Site, Stamp};
 use std::alloc::Global;
 use std::marker::Brand;
@@ -120,7 +120,7 @@ fn get_at<L: Ledger>(log: &OpLog, place: usize, blank: Blank) -> Op
     requires parts { blank.parts ≡ L.parts }
     requires some { 0 < L.parts }
 {
-    log.get(place, &mut Steps::<L>::new(blank))
+    log.get(place, &mut Reads::<L>::new(blank))
 }
 
 /// Whether the log has these operations: each by its place, and all that follow in order.

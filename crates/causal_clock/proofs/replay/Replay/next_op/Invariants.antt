@@ -1,4 +1,4 @@
-use Rattle.causal_clock.proofs.replay.ReplayIterator.next.Given as goal
+use Rattle.causal_clock.proofs.replay.Replay.next_op.Given as goal
 
 -- the ledger of the blank that is made for the call
 abbrev pub ghosts-op_after : goal.ghosts-op_after
