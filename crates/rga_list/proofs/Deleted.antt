@@ -9,7 +9,7 @@ use Rattle.opid.specs.Stamps.{is_same}
 use Rattle.opid.proofs.Order.{is_same-eq, is_same-refl}
 use Rattle.rga_list.specs.declared.links.Node.{Node}
 use Rattle.rga_list.specs.Entries.{Entry, elem_of, hide, hidden, is_shown}
-use Rattle.rga_list.specs.Rows.{Row}
+use Rattle.rga_list.specs.SiteIds.{SiteIds}
 use Rattle.rga_list.specs.Links.{blank, node_at, chain, order_of, entry_at, entries_of, Leads, AreOnce, IsOneOf, IsLinked, named, AreNamed}
 use Rattle.rga_list.specs.Links.{IsList}
 use Rattle.rga_list.proofs.Linked.{Leads-kept}
@@ -72,7 +72,7 @@ IsLinked-same nodes new first l s h =
     kept [] = tt
     kept (x ∷ xs) = ((λ b. (omega (arith, b, l), s x)), kept xs)
 
-AreNamed-same_stamps : (nodes new : List Node) (rows : List Row) → length new ≡ length nodes
+AreNamed-same_stamps : (nodes new : List Node) (rows : List SiteIds) → length new ≡ length nodes
     → ((i : ℕ) → (node_at new i).stamp ≡ (node_at nodes i).stamp) → AreNamed nodes rows → AreNamed new rows
 AreNamed-same_stamps nodes new rows l s n = record {
   sites = λ i b. subst (λ (v : Stamp). v.site < 32) (sym (s i)) (n.sites i (omega (arith, b, l)));
@@ -80,7 +80,7 @@ AreNamed-same_stamps nodes new rows l s n = record {
   only = λ t i e. (let o = n.only t i e in (omega (arith, o.0, l), s i ∙ o.1));
 }
 
-pub IsList-hidden : (nodes new : List Node) (first : Option ℕ) (rows : List Row) (k : ℕ) → Changes nodes new k (off (node_at nodes k))
+pub IsList-hidden : (nodes new : List Node) (first : Option ℕ) (rows : List SiteIds) (k : ℕ) → Changes nodes new k (off (node_at nodes k))
     → IsList nodes first rows → IsList new first rows
 IsList-hidden nodes new first rows k h list = record {
   linked = IsLinked-same nodes new first h.size (same-next nodes new k h) list.linked;
@@ -91,7 +91,7 @@ IsList-hidden nodes new first rows k h list = record {
   width = list.width;
 }
 
-pub entries-hidden : (nodes new : List Node) (first : Option ℕ) (rows : List Row) (k : ℕ) (t : Stamp)
+pub entries-hidden : (nodes new : List Node) (first : Option ℕ) (rows : List SiteIds) (k : ℕ) (t : Stamp)
     → Changes nodes new k (off (node_at nodes k)) → IsList nodes first rows → k < length nodes → (node_at nodes k).stamp ≡ t
     → entries_of new first ≡ hidden t (entries_of nodes first)
 entries-hidden nodes new first rows k t h list b e =
@@ -120,7 +120,7 @@ entries-hidden nodes new first rows k t h list b e =
     each (i ∷ is) w = ap₂ (λ (v : Entry) r. v ∷ r) (one i w.0 (cases_eq i k)) (each is w.1)
 
 -- whether the element was shown
-pub is_shown-order : (nodes : List Node) (first : Option ℕ) (rows : List Row) (k : ℕ) (t : Stamp) → IsList nodes first rows
+pub is_shown-order : (nodes : List Node) (first : Option ℕ) (rows : List SiteIds) (k : ℕ) (t : Stamp) → IsList nodes first rows
     → k < length nodes → (node_at nodes k).stamp ≡ t
     → (node_at nodes k).shown ≡ is_shown t (entries_of nodes first)
 is_shown-order nodes first rows k t list b e =
@@ -150,12 +150,13 @@ is_shown-order nodes first rows k t list b e =
     go false s = s ∙ sym (none s (order_of nodes first) (order-within nodes first list.linked))
 
 -- where the element of a deletion is
-pub target-within : (nodes : List Node) (first : Option ℕ) (rows : List Row) (t : Stamp) (k : ℕ) (xs : List Entry) → IsList nodes first rows
+pub target-within : (nodes : List Node) (first : Option ℕ) (rows : List SiteIds) (t : Stamp) (k : ℕ) (xs : List Entry)
+    → IsList nodes first rows
     → entries_of nodes first ≡ xs → elem_of t xs ≡ Some k → k < length nodes
 target-within nodes first rows t k xs list shows e = (elem_of-found nodes first rows t k list (ap (elem_of t) shows ∙ e)).0
 
 -- What the deletion leaves, for what the code has read and written.
-pub deleted : (nodes : List Node) (first : Option ℕ) (rows : List Row) (t : Stamp) (k : ℕ) (n : Node) (xs : List Entry)
+pub deleted : (nodes : List Node) (first : Option ℕ) (rows : List SiteIds) (t : Stamp) (k : ℕ) (n : Node) (xs : List Entry)
     → IsList nodes first rows → entries_of nodes first ≡ xs → elem_of t xs ≡ Some k → n ≡ get_or nodes k n
     → IsList (set nodes k (off n)) first rows × (entries_of (set nodes k (off n)) first ≡ hidden t xs) × (n.shown ≡ is_shown t xs)
 deleted nodes first rows t k n xs list shows e read =

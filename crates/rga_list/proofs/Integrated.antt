@@ -13,8 +13,8 @@ use Rattle.opid.specs.Stamps.{is_same}
 use Rattle.opid.proofs.Order.{is_same-refl}
 use Rattle.rga_list.specs.declared.links.Node.{Node}
 use Rattle.rga_list.specs.Entries.{Entry, has_stamp, elem_of, placed, elem_before, IsAboveItsSite, parent_refusal}
-use Rattle.rga_list.specs.Rows.{Row, find_id}
-use Rattle.rga_list.specs.Links.{blank, node_at, order_of, entry_at, entries_of, IsLinked, AreApart, row_at, named, AreNamed, IsList}
+use Rattle.rga_list.specs.SiteIds.{SiteIds, find_id}
+use Rattle.rga_list.specs.Links.{blank, node_at, order_of, entry_at, entries_of, IsLinked, AreApart, ids_at, named, AreNamed, IsList}
 use Rattle.rga_list.specs.Links.{following, Ends, Walked, last_of, put_in, first_then}
 use Rattle.rga_list.proofs.Identifiers.{find_id-kept, find_id-push}
 use Rattle.rga_list.proofs.Linked.{Leads-within}
@@ -76,25 +76,25 @@ AreApart-grown nodes new s g a i j l m e = go (cases_lt i (length nodes)) (cases
     go (inr p) (inr q) = omega (arith, g.size)
 
 -- the rows with the new stamp
-module _ (rows : List Row) (s : Stamp) (m : ℕ) (r : Row) (width : s.site < length rows)
-    (ids : r.ids ≡ (row_at rows s.site).ids ++ (s.sum, m) ∷ []) (lacks : named rows s ≡ None) where
-  row_here : (t : Stamp) → t.site ≡ s.site → (row_at (set rows s.site r) t.site).ids ≡ (row_at rows s.site).ids ++ (s.sum, m) ∷ []
-  row_here t e = ap (λ k. (row_at (set rows s.site r) k).ids) e
-      ∙ ap (λ (v : Row). v.ids) (get_or-set_same rows s.site r (record { ids = []; room = 0 }) width) ∙ ids
+module _ (rows : List SiteIds) (s : Stamp) (m : ℕ) (r : SiteIds) (width : s.site < length rows)
+    (ids : r.ids ≡ (ids_at rows s.site).ids ++ (s.sum, m) ∷ []) (lacks : named rows s ≡ None) where
+  row_here : (t : Stamp) → t.site ≡ s.site → (ids_at (set rows s.site r) t.site).ids ≡ (ids_at rows s.site).ids ++ (s.sum, m) ∷ []
+  row_here t e = ap (λ k. (ids_at (set rows s.site r) k).ids) e
+      ∙ ap (λ (v : SiteIds). v.ids) (get_or-set_same rows s.site r (record { ids = []; room = 0 }) width) ∙ ids
 
-  row_other : (t : Stamp) → (t.site ≡ s.site → ⊥) → row_at (set rows s.site r) t.site ≡ row_at rows t.site
+  row_other : (t : Stamp) → (t.site ≡ s.site → ⊥) → ids_at (set rows s.site r) t.site ≡ ids_at rows t.site
   row_other t d = get_or-set_other rows s.site t.site r (record { ids = []; room = 0 }) d
 
   named-kept : (t : Stamp) (k : ℕ) → named rows t ≡ Some k → named (set rows s.site r) t ≡ Some k
   named-kept t k h = go (cases_eq t.site s.site)
     where
       go : (t.site ≡ s.site) ⊎ (t.site ≡ s.site → ⊥) → named (set rows s.site r) t ≡ Some k
-      go (inl e) = ap (find_id t.sum) (row_here t e) ∙ find_id-kept (row_at rows s.site).ids t.sum k (s.sum, m)
-          (ap (λ v. find_id t.sum (row_at rows v).ids) (sym e) ∙ h)
-      go (inr d) = ap (λ (v : Row). find_id t.sum v.ids) (row_other t d) ∙ h
+      go (inl e) = ap (find_id t.sum) (row_here t e) ∙ find_id-kept (ids_at rows s.site).ids t.sum k (s.sum, m)
+          (ap (λ v. find_id t.sum (ids_at rows v).ids) (sym e) ∙ h)
+      go (inr d) = ap (λ (v : SiteIds). find_id t.sum v.ids) (row_other t d) ∙ h
 
   named-new : named (set rows s.site r) s ≡ Some m
-  named-new = ap (find_id s.sum) (row_here s refl) ∙ find_id-push (row_at rows s.site).ids s.sum (s.sum, m) lacks
+  named-new = ap (find_id s.sum) (row_here s refl) ∙ find_id-push (ids_at rows s.site).ids s.sum (s.sum, m) lacks
       ∙ cond-true _ _ _ (eq-eqb s.sum s.sum refl)
 
   named-only : (t : Stamp) (k : ℕ) → named (set rows s.site r) t ≡ Some k → (named rows t ≡ Some k) ⊎ ((t ≡ s) × (k ≡ m))
@@ -104,23 +104,24 @@ module _ (rows : List Row) (s : Stamp) (m : ℕ) (r : Row) (width : s.site < len
       at_sum e true q f = (ap₂ (λ (u v : ℕ). let w : Stamp = record { sum = u; site = v } in w) (sym (eqb-true s.sum t.sum q)) e, cc)
       at_sum e false q f = cc
 
-      among : t.site ≡ s.site → (o : Option ℕ) → find_id t.sum (row_at rows s.site).ids ≡ o → (named rows t ≡ Some k) ⊎ ((t ≡ s) × (k ≡ m))
+      among : t.site ≡ s.site → (o : Option ℕ) → find_id t.sum (ids_at rows s.site).ids ≡ o → (named rows t ≡ Some k) ⊎ ((t ≡ s) × (k ≡ m))
       among e (Some j) q =
-          let kept : find_id t.sum ((row_at rows s.site).ids ++ (s.sum, m) ∷ []) ≡ Some j =
-          find_id-kept (row_at rows s.site).ids t.sum j (s.sum, m) q in
+          let kept : find_id t.sum ((ids_at rows s.site).ids ++ (s.sum, m) ∷ []) ≡ Some j =
+          find_id-kept (ids_at rows s.site).ids t.sum j (s.sum, m) q in
           let same : Some j ≡ Some k = sym kept ∙ sym (ap (find_id t.sum) (row_here t e)) ∙ h in
-          inl (ap (λ v. find_id t.sum (row_at rows v).ids) e ∙ q ∙ same)
+          inl (ap (λ v. find_id t.sum (ids_at rows v).ids) e ∙ q ∙ same)
       among e None q =
-          let pushed : find_id t.sum ((row_at rows s.site).ids ++ (s.sum, m) ∷ []) ≡ cond (eqb s.sum t.sum) (Some m) None =
-          find_id-push (row_at rows s.site).ids t.sum (s.sum, m) q in
+          let pushed : find_id t.sum ((ids_at rows s.site).ids ++ (s.sum, m) ∷ []) ≡ cond (eqb s.sum t.sum) (Some m) None =
+          find_id-push (ids_at rows s.site).ids t.sum (s.sum, m) q in
           inr (at_sum e (eqb s.sum t.sum) refl (sym pushed ∙ sym (ap (find_id t.sum) (row_here t e)) ∙ h))
 
       go : (t.site ≡ s.site) ⊎ (t.site ≡ s.site → ⊥) → (named rows t ≡ Some k) ⊎ ((t ≡ s) × (k ≡ m))
-      go (inl e) = among e (find_id t.sum (row_at rows s.site).ids) refl
-      go (inr d) = inl (ap (λ (v : Row). find_id t.sum v.ids) (sym (row_other t d)) ∙ h)
+      go (inl e) = among e (find_id t.sum (ids_at rows s.site).ids) refl
+      go (inr d) = inl (ap (λ (v : SiteIds). find_id t.sum v.ids) (sym (row_other t d)) ∙ h)
 
-AreNamed-grown : (nodes new : List Node) (rows : List Row) (s : Stamp) (r : Row) → Grows nodes new s → s.site < 32 → length rows ≡ 32
-    → r.ids ≡ (row_at rows s.site).ids ++ (s.sum, length nodes) ∷ [] → named rows s ≡ None → AreNamed nodes rows
+AreNamed-grown : (nodes new : List Node) (rows : List SiteIds) (s : Stamp) (r : SiteIds) → Grows nodes new s → s.site < 32
+    → length rows ≡ 32
+    → r.ids ≡ (ids_at rows s.site).ids ++ (s.sum, length nodes) ∷ [] → named rows s ≡ None → AreNamed nodes rows
     → AreNamed new (set rows s.site r)
 AreNamed-grown nodes new rows s r g b w ids lacks n =
     let width : s.site < length rows = omega (arith, b, w) in
@@ -185,7 +186,7 @@ put nodes first s o (Some p) next v l e d =
     put_behind nodes first s o p next v (linked_to (node_at nodes p) (length nodes)) l e d refl (refl, refl, refl)
 
 -- where the walk starts
-pub starts_at : (nodes : List Node) (first : Option ℕ) (rows : List Row) (s : Stamp) (o : Option Stamp) (before at : Option ℕ)
+pub starts_at : (nodes : List Node) (first : Option ℕ) (rows : List SiteIds) (s : Stamp) (o : Option Stamp) (before at : Option ℕ)
     → IsList nodes first rows
     → parent_refusal (entries_of nodes first) o s ≡ None → before ≡ option_and_then (λ p. elem_of p (entries_of nodes first)) o
     → at ≡ following nodes first before → Starts nodes first s o before at
@@ -203,7 +204,7 @@ starts_at nodes first rows s (Some p) before at h a e f = go (elem_of p (entries
         absurd (both_ways (has_stamp (entries_of nodes first) p) unknown known)
 
 -- the parent's element is there
-pub parent-within : (nodes : List Node) (first : Option ℕ) (rows : List Row) (o : Option Stamp) (before : Option ℕ)
+pub parent-within : (nodes : List Node) (first : Option ℕ) (rows : List SiteIds) (o : Option Stamp) (before : Option ℕ)
     → IsList nodes first rows
     → before ≡ option_and_then (λ p. elem_of p (entries_of nodes first)) o → IfSome before (λ k. k < length nodes)
 parent-within nodes first rows o None h e = tt
@@ -211,24 +212,24 @@ parent-within nodes first rows None (Some k) h e = cc
 parent-within nodes first rows (Some p) (Some k) h e = (elem_of-found nodes first rows p k h (sym e)).0
 
 -- no element has a stamp that is above every stamp of its site
-named-above : (nodes : List Node) (first : Option ℕ) (rows : List Row) (s : Stamp) → IsList nodes first rows
+named-above : (nodes : List Node) (first : Option ℕ) (rows : List SiteIds) (s : Stamp) → IsList nodes first rows
     → IsAboveItsSite (entries_of nodes first) s → named rows s ≡ None
 named-above nodes first rows s h above =
     named-elem_of nodes first rows s h ∙ elem_of-lacks s (entries_of nodes first) (has_stamp-above (entries_of nodes first) s above)
 
 -- The insertion keeps what holds of the list, and its entries are those of the walk.
-pub record After (nodes : List Node) (first : Option ℕ) (rows : List Row) (s : Stamp) (o : Option Stamp) (c : ℕ) (last next : Option ℕ)
-    (r : Row) : Type 0 where
+pub record After (nodes : List Node) (first : Option ℕ) (rows : List SiteIds) (s : Stamp) (o : Option Stamp) (c : ℕ) (last next : Option ℕ)
+    (r : SiteIds) : Type 0 where
   pub list : IsList (put_in nodes (made s c next) last) (first_then nodes first last) (set rows s.site r)
   pub entries : entries_of (put_in nodes (made s c next) last) (first_then nodes first last)
       ≡ placed o (record { elem = length nodes; stamp = s; ch = c; shown = true }) (entries_of nodes first)
   pub before : last ≡ elem_before (length nodes) None (entries_of (put_in nodes (made s c next) last) (first_then nodes first last))
 
-pub integrated : (nodes : List Node) (first : Option ℕ) (rows : List Row) (s : Stamp) (o : Option Stamp) (c : ℕ)
-    (before at last next : Option ℕ) (r : Row)
+pub integrated : (nodes : List Node) (first : Option ℕ) (rows : List SiteIds) (s : Stamp) (o : Option Stamp) (c : ℕ)
+    (before at last next : Option ℕ) (r : SiteIds)
     → IsList nodes first rows → length nodes < 131072 → s.site < 32 → IsAboveItsSite (entries_of nodes first) s
     → Starts nodes first s o before at → Walked nodes s before at last next
-    → r.ids ≡ (row_at rows s.site).ids ++ (s.sum, length nodes) ∷ []
+    → r.ids ≡ (ids_at rows s.site).ids ++ (s.sum, length nodes) ∷ []
     → After nodes first rows s o c last next r
 integrated nodes first rows s o c before at last next r h few site above starts walked ids =
     let d : Found nodes first s o last next = found nodes first s o before at last next h.linked h.apart starts walked in
@@ -263,8 +264,8 @@ integrated nodes first rows s o c before at last next r h few site above starts 
     }
 
 -- The same, for what the code has read and written.
-pub inserted : (nodes new : List Node) (first f : Option ℕ) (rows : List Row) (site : ℕ) (d row r : Row) (s : Stamp) (o : Option Stamp)
-    (c : ℕ) (before at last next : Option ℕ) (m : ℕ) (xs : List Entry)
+pub inserted : (nodes new : List Node) (first f : Option ℕ) (rows : List SiteIds) (site : ℕ) (d row r : SiteIds) (s : Stamp)
+    (o : Option Stamp) (c : ℕ) (before at last next : Option ℕ) (m : ℕ) (xs : List Entry)
     → IsList nodes first rows → entries_of nodes first ≡ xs → length nodes < 131072 → IsAboveItsSite xs s
     → parent_refusal xs o s ≡ None → before ≡ option_and_then (λ p. elem_of p xs) o → at ≡ following nodes first before
     → Walked nodes s before at last next
@@ -275,7 +276,7 @@ pub inserted : (nodes new : List Node) (first f : Option ℕ) (rows : List Row) 
 inserted nodes new first f rows site d row r s o c before at last next m xs list shows few above refusal parent follows walked here bound
     read size ids put_new put_first =
     let width : site < length rows = omega (arith, list.width) in
-    let at_site : row.ids ≡ (row_at rows s.site).ids = ap (λ (v : Row). v.ids) (read ∙ row_same rows site s.site d here width) in
+    let at_site : row.ids ≡ (ids_at rows s.site).ids = ap (λ (v : SiteIds). v.ids) (read ∙ row_same rows site s.site d here width) in
     let starts : Starts nodes first s o before at = starts_at nodes first rows s o before at list
     (subst (λ v. parent_refusal v o s ≡ None) (sym shows) refusal)
     (subst (λ v. before ≡ option_and_then (λ p. elem_of p v) o) (sym shows) parent) follows in
@@ -294,7 +295,7 @@ inserted nodes new first f rows site d row r s o c before at last next m xs list
     ))
 
 -- what the walk needs of where it starts
-pub walk-ends : (nodes : List Node) (first : Option ℕ) (rows : List Row) (s : Stamp) (o : Option Stamp) (before at : Option ℕ)
+pub walk-ends : (nodes : List Node) (first : Option ℕ) (rows : List SiteIds) (s : Stamp) (o : Option Stamp) (before at : Option ℕ)
     (xs : List Entry)
     → IsList nodes first rows → entries_of nodes first ≡ xs → parent_refusal xs o s ≡ None → before ≡ option_and_then (λ p. elem_of p xs) o
     → at ≡ following nodes first before → Ends nodes at
@@ -304,7 +305,7 @@ walk-ends nodes first rows s o before at xs list shows refusal parent follows =
     (subst (λ v. before ≡ option_and_then (λ p. elem_of p v) o) (sym shows) parent) follows)
 
 -- and where it stops
-pub walk-last : (nodes : List Node) (first : Option ℕ) (rows : List Row) (s : Stamp) (o : Option Stamp) (before at last next : Option ℕ)
+pub walk-last : (nodes : List Node) (first : Option ℕ) (rows : List SiteIds) (s : Stamp) (o : Option Stamp) (before at last next : Option ℕ)
     (xs : List Entry)
     → IsList nodes first rows → entries_of nodes first ≡ xs → parent_refusal xs o s ≡ None → before ≡ option_and_then (λ p. elem_of p xs) o
     → at ≡ following nodes first before

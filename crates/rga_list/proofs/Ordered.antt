@@ -9,8 +9,8 @@ use Rattle.opid.specs.Stamps.{is_same}
 use Rattle.opid.proofs.Order.{is_same-eq, is_same-refl}
 use Rattle.rga_list.specs.declared.links.Node.{Node}
 use Rattle.rga_list.specs.Entries.{Entry, has_stamp, elem_of, entry_of, first_of, elem_after, next_of, IsAboveItsSite, IsGreatestOf}
-use Rattle.rga_list.specs.Rows.{Row, find_id, IsGreatest}
-use Rattle.rga_list.specs.Links.{blank, node_at, order_of, entry_at, entries_of, Leads, IsOneOf, IsLinked, row_at, named, AreNamed, IsList}
+use Rattle.rga_list.specs.SiteIds.{SiteIds, find_id, IsGreatest}
+use Rattle.rga_list.specs.Links.{blank, node_at, order_of, entry_at, entries_of, Leads, IsOneOf, IsLinked, ids_at, named, AreNamed, IsList}
 use Rattle.rga_list.proofs.Identifiers.{eqb-differs, Each-found, found-Each}
 use Rattle.rga_list.proofs.Linked.{Leads-within}
 
@@ -36,7 +36,7 @@ Each-map P f [] n w h = tt
 Each-map P f (x ∷ xs) n w h = (h x w.0, Each-map P f xs n w.1 h)
 
 -- the rows name what stands in the order
-elem_of-some : (nodes : List Node) (rows : List Row) (s : Stamp) (k : ℕ) → AreNamed nodes rows → named rows s ≡ Some k
+elem_of-some : (nodes : List Node) (rows : List SiteIds) (s : Stamp) (k : ℕ) → AreNamed nodes rows → named rows s ≡ Some k
     → (xs : List ℕ) → Each (λ i. i < length nodes) xs → IsOneOf k xs → elem_of s (map (entry_at nodes) xs) ≡ Some k
 elem_of-some nodes rows s k n e [] w o = absurd o
 elem_of-some nodes rows s k n e (i ∷ is) w o = go (is_same s (node_at nodes i).stamp) refl (elem_of-some nodes rows s k n e is w.1) o
@@ -49,7 +49,7 @@ elem_of-some nodes rows s k n e (i ∷ is) w o = go (is_same s (node_at nodes i)
         (subst (λ v. is_same s (node_at nodes v).stamp ≡ true) f (subst (λ v. is_same s v ≡ true) (sym (n.only s k e).1) (is_same-refl s))))
     go false q ih (inr o) = ih o
 
-elem_of-none : (nodes : List Node) (rows : List Row) (s : Stamp) → AreNamed nodes rows → named rows s ≡ None
+elem_of-none : (nodes : List Node) (rows : List SiteIds) (s : Stamp) → AreNamed nodes rows → named rows s ≡ None
     → (xs : List ℕ) → Each (λ i. i < length nodes) xs → elem_of s (map (entry_at nodes) xs) ≡ None
 elem_of-none nodes rows s n e [] w = refl
 elem_of-none nodes rows s n e (i ∷ is) w =
@@ -57,7 +57,7 @@ elem_of-none nodes rows s n e (i ∷ is) w =
     let here : Some i ≡ None = sym (n.each i w.0) ∙ ap (named rows) (sym (is_same-eq s (node_at nodes i).stamp q)) ∙ e in cc))
     ∙ elem_of-none nodes rows s n e is w.1
 
-pub named-elem_of : (nodes : List Node) (first : Option ℕ) (rows : List Row) (s : Stamp) → IsList nodes first rows
+pub named-elem_of : (nodes : List Node) (first : Option ℕ) (rows : List SiteIds) (s : Stamp) → IsList nodes first rows
     → named rows s ≡ elem_of s (entries_of nodes first)
 named-elem_of nodes first rows s h = go (named rows s) refl
   where
@@ -67,7 +67,7 @@ named-elem_of nodes first rows s h = go (named rows s) refl
         (h.linked.covers k (h.are_named.only s k e).0))
 
 -- an element that is found by its stamp is there, and has it
-pub elem_of-found : (nodes : List Node) (first : Option ℕ) (rows : List Row) (s : Stamp) (k : ℕ) → IsList nodes first rows
+pub elem_of-found : (nodes : List Node) (first : Option ℕ) (rows : List SiteIds) (s : Stamp) (k : ℕ) → IsList nodes first rows
     → elem_of s (entries_of nodes first) ≡ Some k
     → (k < length nodes) × ((node_at nodes k).stamp ≡ s)
 elem_of-found nodes first rows s k h e = h.are_named.only s k (named-elem_of nodes first rows s h ∙ e)
@@ -147,8 +147,8 @@ after-beyond nodes k [] w l = refl
 after-beyond nodes k (i ∷ is) w l = after-beyond nodes k is w.1 l ∙ sym (cond-false _ _ _ (eqb-differs i k (λ e. omega (arith, w.0, e))))
 
 -- the greatest of a site
-pub greatest : (nodes : List Node) (first : Option ℕ) (rows : List Row) (site sum : ℕ) → IsList nodes first rows
-    → IsGreatest (row_at rows site).ids sum
+pub greatest : (nodes : List Node) (first : Option ℕ) (rows : List SiteIds) (site sum : ℕ) → IsList nodes first rows
+    → IsGreatest (ids_at rows site).ids sum
     → IsGreatestOf (entries_of nodes first) site (record { sum = sum; site = site })
 greatest nodes first rows site sum h g =
     let s : Stamp = record { sum = sum; site = site } in (
@@ -156,25 +156,25 @@ greatest nodes first rows site sum h g =
       has_stamp-some s (entries_of nodes first) g.elem (sym (named-elem_of nodes first rows s h) ∙ g.found),
       Each-map (λ e. e.stamp.site ≡ site → e.stamp.sum ≤ sum) (entry_at nodes) (order_of nodes first) (length nodes)
           (order-within nodes first h.linked) (λ i l e.
-          found-Each (λ v. v ≤ sum) (row_at rows site).ids g.above (node_at nodes i).stamp.sum i
-          (ap (λ v. find_id (node_at nodes i).stamp.sum (row_at rows v).ids) (sym e) ∙ h.are_named.each i l)),
+          found-Each (λ v. v ≤ sum) (ids_at rows site).ids g.above (node_at nodes i).stamp.sum i
+          (ap (λ v. find_id (node_at nodes i).stamp.sum (ids_at rows v).ids) (sym e) ∙ h.are_named.each i l)),
     )
 
-pub no_greatest : (nodes : List Node) (first : Option ℕ) (rows : List Row) (site : ℕ) → IsList nodes first rows
-    → (row_at rows site).ids ≡ []
+pub no_greatest : (nodes : List Node) (first : Option ℕ) (rows : List SiteIds) (site : ℕ) → IsList nodes first rows
+    → (ids_at rows site).ids ≡ []
     → Each (λ e. e.stamp.site ≢ site) (entries_of nodes first)
 no_greatest nodes first rows site h none =
     Each-map (λ e. e.stamp.site ≢ site) (entry_at nodes) (order_of nodes first) (length nodes) (order-within nodes first h.linked) (λ i l e.
     let found : None ≡ Some i = ap (find_id (node_at nodes i).stamp.sum) (sym none)
-    ∙ ap (λ v. find_id (node_at nodes i).stamp.sum (row_at rows v).ids) (sym e) ∙ h.are_named.each i l in
+    ∙ ap (λ v. find_id (node_at nodes i).stamp.sum (ids_at rows v).ids) (sym e) ∙ h.are_named.each i l in
     cc)
 
 -- a stamp above every stamp of its site is above its row
-pub row-below : (nodes : List Node) (first : Option ℕ) (rows : List Row) (s : Stamp) → IsList nodes first rows
+pub row-below : (nodes : List Node) (first : Option ℕ) (rows : List SiteIds) (s : Stamp) → IsList nodes first rows
     → IsAboveItsSite (entries_of nodes first) s
-    → Each (λ id. id.0 < s.sum) (row_at rows s.site).ids
+    → Each (λ id. id.0 < s.sum) (ids_at rows s.site).ids
 row-below nodes first rows s h above =
-    Each-found (λ v. v < s.sum) (row_at rows s.site).ids (λ v k e.
+    Each-found (λ v. v < s.sum) (ids_at rows s.site).ids (λ v k e.
     let t : Stamp = record { sum = v; site = s.site } in
     let there = h.are_named.only t k e in
     let less : (node_at nodes k).stamp.sum < s.sum =
@@ -184,8 +184,8 @@ row-below nodes first rows s h above =
     omega arith)
 
 -- a row read by an index
-pub row_same : (rows : List Row) (i site : ℕ) (d : Row) → i ≡ site → i < length rows → get_or rows i d ≡ row_at rows site
-row_same rows i site d e l = get_or_default rows i d (record { ids = []; room = 0 }) l ∙ ap (row_at rows) e
+pub row_same : (rows : List SiteIds) (i site : ℕ) (d : SiteIds) → i ≡ site → i < length rows → get_or rows i d ≡ ids_at rows site
+row_same rows i site d e l = get_or_default rows i d (record { ids = []; room = 0 }) l ∙ ap (ids_at rows) e
 
 -- a node read by an index
 pub node_same : (nodes : List Node) (i : ℕ) (n : Node) → n ≡ get_or nodes i n → i < length nodes → n ≡ node_at nodes i
@@ -217,7 +217,7 @@ next_of-within nodes first (Some k) l =
     subst (λ n. IfSome (elem_after k (entries_of nodes first)) (λ j. j < n)) (sym (length-entries nodes first l))
     (elem_after-within nodes (length nodes) k (order_of nodes first) (order-within nodes first l))
 
-pub elem_of-within : (nodes : List Node) (first : Option ℕ) (rows : List Row) (s : Stamp) → IsList nodes first rows
+pub elem_of-within : (nodes : List Node) (first : Option ℕ) (rows : List SiteIds) (s : Stamp) → IsList nodes first rows
     → IfSome (elem_of s (entries_of nodes first)) (λ k. k < length (entries_of nodes first))
 elem_of-within nodes first rows s h = go (elem_of s (entries_of nodes first)) refl
   where

@@ -3,20 +3,21 @@ use Rattle.std.proofs.Common.{◌≡◌, ℕ, ◌-◌, ◌<◌, ◌≤◌, ◌�
 use Rattle.std.proofs.Common.{get_or-set_other, get_or-set_same}
 use Rattle.std.proofs.lemmas.Bool.{cases_eq}
 use Rattle.rga_list.specs.declared.links.Node.{Node}
-use Rattle.rga_list.specs.Rows.{Row, find_id}
-use Rattle.rga_list.specs.Links.{row_at, AreNamed, IsList}
+use Rattle.rga_list.specs.SiteIds.{SiteIds, find_id}
+use Rattle.rga_list.specs.Links.{ids_at, AreNamed, IsList}
 
-pub set-keeps : {X : Type 0} (f : Row → X) (rows : List Row) (i k : ℕ) (r : Row) → i < length rows → f r ≡ f (row_at rows i)
-    → f (row_at (set rows i r) k) ≡ f (row_at rows k)
+pub set-keeps : {X : Type 0} (f : SiteIds → X) (rows : List SiteIds) (i k : ℕ) (r : SiteIds) → i < length rows → f r ≡ f (ids_at rows i)
+    → f (ids_at (set rows i r) k) ≡ f (ids_at rows k)
 set-keeps {X} f rows i k r l e = go (cases_eq k i)
   where
-    go : (k ≡ i) ⊎ (k ≡ i → ⊥) → f (row_at (set rows i r) k) ≡ f (row_at rows k)
-    go (inl q) = ap (λ v. f (row_at (set rows i r) v)) q ∙ ap f (get_or-set_same rows i r (record { ids = []; room = 0 }) l) ∙ e
-        ∙ ap (λ v. f (row_at rows v)) (sym q)
+    go : (k ≡ i) ⊎ (k ≡ i → ⊥) → f (ids_at (set rows i r) k) ≡ f (ids_at rows k)
+    go (inl q) = ap (λ v. f (ids_at (set rows i r) v)) q ∙ ap f (get_or-set_same rows i r (record { ids = []; room = 0 }) l) ∙ e
+        ∙ ap (λ v. f (ids_at rows v)) (sym q)
     go (inr d) = ap f (get_or-set_other rows i k r (record { ids = []; room = 0 }) d)
 
 -- rows with the same identifiers name the same
-pub AreNamed-same : (nodes : List Node) (rows new : List Row) → ((k : ℕ) → (row_at new k).ids ≡ (row_at rows k).ids) → AreNamed nodes rows
+pub AreNamed-same : (nodes : List Node) (rows new : List SiteIds) → ((k : ℕ) → (ids_at new k).ids ≡ (ids_at rows k).ids)
+    → AreNamed nodes rows
     → AreNamed nodes new
 AreNamed-same nodes rows new same n = record {
   sites = n.sites;
@@ -24,8 +25,8 @@ AreNamed-same nodes rows new same n = record {
   only = λ s i e. n.only s i (ap (find_id s.sum) (sym (same s.site)) ∙ e);
 }
 
-pub IsList-same : (nodes : List Node) (first : Option ℕ) (rows new : List Row) → length new ≡ length rows
-    → ((k : ℕ) → (row_at new k).ids ≡ (row_at rows k).ids) → IsList nodes first rows → IsList nodes first new
+pub IsList-same : (nodes : List Node) (first : Option ℕ) (rows new : List SiteIds) → length new ≡ length rows
+    → ((k : ℕ) → (ids_at new k).ids ≡ (ids_at rows k).ids) → IsList nodes first rows → IsList nodes first new
 IsList-same nodes first rows new size same h = record {
   linked = h.linked;
   apart = h.apart;
@@ -34,7 +35,7 @@ IsList-same nodes first rows new size same h = record {
   width = size ∙ h.width;
 }
 
-pub IsList-none : (rows : List Row) → length rows ≡ 32 → ((k : ℕ) → (row_at rows k).ids ≡ []) → IsList [] None rows
+pub IsList-none : (rows : List SiteIds) → length rows ≡ 32 → ((k : ℕ) → (ids_at rows k).ids ≡ []) → IsList [] None rows
 IsList-none rows size none = record {
   linked = record { leads = refl; once = tt; each = refl; covers = λ i l. absurd (omega arith) };
   apart = λ i j l m e. absurd (omega arith);
@@ -48,18 +49,18 @@ IsList-none rows size none = record {
 }
 
 -- one identifier more in one row
-pub room-pushed : (rows : List Row) (site k room : ℕ) (r : Row) → site < length rows → r.room ≡ (row_at rows site).room - 1
-    → ((j : ℕ) → j < 32 → room ≤ (row_at rows j).room) → k < 32 → site < 32
-    → room - 1 ≤ (row_at (set rows site r) k).room
+pub room-pushed : (rows : List SiteIds) (site k room : ℕ) (r : SiteIds) → site < length rows → r.room ≡ (ids_at rows site).room - 1
+    → ((j : ℕ) → j < 32 → room ≤ (ids_at rows j).room) → k < 32 → site < 32
+    → room - 1 ≤ (ids_at (set rows site r) k).room
 room-pushed rows site k room r l e h m b = go (cases_eq k site)
   where
-    go : (k ≡ site) ⊎ (k ≡ site → ⊥) → room - 1 ≤ (row_at (set rows site r) k).room
+    go : (k ≡ site) ⊎ (k ≡ site → ⊥) → room - 1 ≤ (ids_at (set rows site r) k).room
     go (inl q) =
-        let here : (row_at (set rows site r) k).room ≡ (row_at rows site).room - 1 =
-        ap (λ j. (row_at (set rows site r) j).room) q ∙ ap (λ (v : Row). v.room)
+        let here : (ids_at (set rows site r) k).room ≡ (ids_at rows site).room - 1 =
+        ap (λ j. (ids_at (set rows site r) j).room) q ∙ ap (λ (v : SiteIds). v.room)
         (get_or-set_same rows site r (record { ids = []; room = 0 }) l) ∙ e in
         omega (arith, here, h site b)
     go (inr d) =
-        let here : (row_at (set rows site r) k).room ≡ (row_at rows k).room =
-        ap (λ (v : Row). v.room) (get_or-set_other rows site k r (record { ids = []; room = 0 }) d) in
+        let here : (ids_at (set rows site r) k).room ≡ (ids_at rows k).room =
+        ap (λ (v : SiteIds). v.room) (get_or-set_other rows site k r (record { ids = []; room = 0 }) d) in
         omega (arith, here, h k m)

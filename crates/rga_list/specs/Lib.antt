@@ -1,5 +1,5 @@
 pub mod Entries
 pub mod Listed
 pub mod Packed
-pub mod Rows
+pub mod SiteIds
 pub mod Links

@@ -6,7 +6,7 @@ use Rattle.std.specs.List.{AllByRecursion}
 use Rattle.opid.specs.declared.stamp.Stamp.{Stamp}
 use Rattle.opid.specs.Stamps.{is_before}
 use Rattle.rga_list.specs.Entries.{Entry}
-use Rattle.rga_list.specs.Rows.{Row, find_id}
+use Rattle.rga_list.specs.SiteIds.{SiteIds, find_id}
 use Rattle.rga_list.specs.declared.links.Node.{Node}
 
 -- what a place past the end is read as
@@ -59,26 +59,26 @@ abbrev pub AreApart : List Node → Type 0
 AreApart nodes = (i j : ℕ) → i < length nodes → j < length nodes → (node_at nodes i).stamp ≡ (node_at nodes j).stamp → i ≡ j
 
 -- the row of a site
-abbrev pub row_at : List Row → ℕ → Row
-row_at rows site = slice_index_or rows site (record { ids = []; room = 0 })
+abbrev pub ids_at : List SiteIds → ℕ → SiteIds
+ids_at rows site = slice_index_or rows site (record { ids = []; room = 0 })
 
 -- the place that the rows name for a stamp
-abbrev pub named : List Row → Stamp → Option ℕ
-named rows s = find_id s.sum (row_at rows s.site).ids
+abbrev pub named : List SiteIds → Stamp → Option ℕ
+named rows s = find_id s.sum (ids_at rows s.site).ids
 
 -- the rows name each place by its stamp, and nothing else
-pub record AreNamed (nodes : List Node) (rows : List Row) : Type 0 where
+pub record AreNamed (nodes : List Node) (rows : List SiteIds) : Type 0 where
   pub sites : (i : ℕ) → i < length nodes → (node_at nodes i).stamp.site < 32
   pub each : (i : ℕ) → i < length nodes → named rows (node_at nodes i).stamp ≡ Some i
   pub only : (s : Stamp) (i : ℕ) → named rows s ≡ Some i → (i < length nodes) × ((node_at nodes i).stamp ≡ s)
 
 -- the memory that is reserved is there: in the vector of elements, and in each row
-pub record AreReserved (nodes capacity : ℕ) (rows : List Row) (room : ℕ) : Type 0 where
+pub record AreReserved (nodes capacity : ℕ) (rows : List SiteIds) (room : ℕ) : Type 0 where
   pub elements : nodes + room ≤ capacity
-  pub ids : (site : ℕ) → site < 32 → room ≤ (row_at rows site).room
+  pub ids : (site : ℕ) → site < 32 → room ≤ (ids_at rows site).room
 
 -- what holds of every list
-pub record IsList (nodes : List Node) (first : Option ℕ) (rows : List Row) : Type 0 where
+pub record IsList (nodes : List Node) (first : Option ℕ) (rows : List SiteIds) : Type 0 where
   pub linked : IsLinked nodes first
   pub apart : AreApart nodes
   pub are_named : AreNamed nodes rows

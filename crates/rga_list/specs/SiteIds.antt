@@ -3,7 +3,7 @@ use Rattle.std.specs.Prelude.{◌≡◌, ℕ, ◌<◌, ◌≤◌, ◌==◌, if�
 use Rattle.std.specs.List.{AllByRecursion}
 
 -- the identifiers of a site, and how many more have their memory already
-pub record Row : Type 0 where
+pub record SiteIds : Type 0 where
   pub ids : List (ℕ × ℕ)
   pub room : ℕ
 

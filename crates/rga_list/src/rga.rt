@@ -9,7 +9,7 @@ ghost use Rattle.opid.specs.Operations.{Operation, stamp_of};
 ghost use Rattle.opid.specs.Lawful.{IsSound};
 ghost use Rattle.rga_list.specs.Entries.{Entry, LinkedElements, placed, elem_of, entry_of, next_of, elem_before, has_stamp, IsAboveItsSite};
 ghost use Rattle.rga_list.specs.Entries.{IsGreatestOf, parent_refusal, refusal_of, hidden, is_shown, AreOfOwn};
-ghost use Rattle.rga_list.specs.Links.{row_at};
+ghost use Rattle.rga_list.specs.Links.{ids_at};
 ghost use Rattle.rga_list.specs.Listed.{listed};
 
 use crate::links::{Elem, Node, after, link, walk};
@@ -240,9 +240,9 @@ impl Rga {
 
 /// Reserves memory for `n` more identifiers in each table.
 fn reserve_each(tables: &mut [SiteTable], n: usize) -> Result<(), Refusal>
-    ensures same { (k : ℕ) → (row_at tables.new k).ids ≡ (row_at tables.old k).ids }
-    ensures kept { (k : ℕ) → (row_at tables.old k).room ≤ (row_at tables.new k).room }
-    ensures ok { OnOk result ((k : ℕ) → k < length tables.old → n ≤ (row_at tables.new k).room) }
+    ensures same { (k : ℕ) → (ids_at tables.new k).ids ≡ (ids_at tables.old k).ids }
+    ensures kept { (k : ℕ) → (ids_at tables.old k).room ≤ (ids_at tables.new k).room }
+    ensures ok { OnOk result ((k : ℕ) → k < length tables.old → n ≤ (ids_at tables.new k).room) }
     ensures memory { IfErr result (λ e. e ≡ Memory) }
 {
     for table in tables.iter_mut() {

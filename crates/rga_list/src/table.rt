@@ -3,7 +3,7 @@
 ghost use Rattle.std.specs.Prelude.{◌≡◌, ◌<◌, ◌-◌, [], ◌∷◌, ◌++◌, max, IfSome, IfNone, IfErr, OnOk, OnErr};
 ghost use Rattle.std.specs.List.{AllByRecursion};
 ghost use Rattle.opid.specs.declared.refusal.Refusal.TheVariants.{Memory};
-ghost use Rattle.rga_list.specs.Rows.{Row, find_id, IsGreatest};
+ghost use Rattle.rga_list.specs.SiteIds.{SiteIds, find_id, IsGreatest};
 
 use crate::links::Elem;
 use opid::Refusal;
@@ -19,9 +19,9 @@ pub struct SiteTable {
 
 impl Model for SiteTable {
     ghost use Rattle.std.specs.Prelude.{◌+◌, ◌≤◌, vec_len, vec_capacity};
-    ghost use Rattle.rga_list.specs.Rows.{Row, AreRising};
+    ghost use Rattle.rga_list.specs.SiteIds.{SiteIds, AreRising};
 
-    ghost Value = { Row };
+    ghost Value = { SiteIds };
 
     ghost view = { λ t. record { ids = t.ids.items; room = t.room } };
 

@@ -17,4 +17,5 @@ returns c =
     sym (ap (λ (r : LinkedElements). entry_of c.args.elem r.entries) c.self.view_is)
     ∙ entry_of-order c.self.inside.nodes.items c.args.elem (order_of c.self.inside.nodes.items c.self.inside.first)
     (c.self.invariant.0.linked.covers c.args.elem within)
-    ∙ ap (λ (n : Node). let e : Entry = record { elem = c.args.elem; stamp = n.stamp; ch = n.ch; shown = n.shown } in Some e) (sym (c.get-node.ensures ∙ node))
+    ∙ ap (λ (n : Node). let e : Entry = record { elem = c.args.elem; stamp = n.stamp; ch = n.ch; shown = n.shown } in Some e)
+    (sym (c.get-node.ensures ∙ node))

@@ -16,8 +16,8 @@ after : (c : goal.After-self-1) → IsList (set c.self.inside.nodes.items c.in-S
     ≡ hidden c.args.target c.args.self.now.entries)
     × (c.hide-shown.result ≡ is_shown c.args.target c.args.self.now.entries)
 after c =
-    let made = deleted c.self.inside.nodes.items c.self.inside.first c.self.inside.tables c.args.target c.in-Some.elem c.index_mut-node.result.now
-    c.args.self.now.entries
+    let made = deleted c.self.inside.nodes.items c.self.inside.first c.self.inside.tables c.args.target c.in-Some.elem
+    c.index_mut-node.result.now c.args.self.now.entries
     c.self.invariant.0 (ap (λ (r : LinkedElements). r.entries) c.self.view_is)
     (sym c.elem_of.ensures.value ∙ c.in-Some.is) c.index_mut-node.ensures.value in (
       subst (λ (n : Node). IsList (set c.self.inside.nodes.items c.in-Some.elem n) c.self.inside.first c.self.inside.tables)

@@ -6,8 +6,8 @@ use Rattle.std.specs.Prelude.{option_and_then}
 use Rattle.std.specs.List.{AllByRecursion as Each}
 use Rattle.rga_list.specs.declared.links.Node.{Node}
 use Rattle.rga_list.specs.Entries.{LinkedElements, Entry, elem_of, elem_before, placed, parent_refusal, IsAboveItsSite}
-use Rattle.rga_list.specs.Rows.{Row}
-use Rattle.rga_list.specs.Links.{entries_of, row_at, IsList, following, Ends, Walked, put_in, first_then}
+use Rattle.rga_list.specs.SiteIds.{SiteIds}
+use Rattle.rga_list.specs.Links.{entries_of, ids_at, IsList, following, Ends, Walked, put_in, first_then}
 use Rattle.rga_list.proofs.Ordered.{length-entries, row_same, row-below}
 use Rattle.rga_list.proofs.Reserved.{room-pushed}
 use Rattle.rga_list.proofs.Integrated.{made, parent-within, walk-ends, walk-last, inserted}
@@ -38,10 +38,10 @@ push-requires c =
     let shows : entries_of c.self.inside.nodes.items c.self.inside.first ≡ c.args.self.now.entries =
     ap (λ (r : LinkedElements). r.entries) c.self.view_is in
     let place : c.from-site.result ≡ c.args.stamp.site = c.from-site.ensures ∙ c.number.ensures.value in
-    let row : get_or c.self.inside.tables c.from-site.result c.index-self-site.result ≡ row_at c.self.inside.tables c.args.stamp.site =
+    let row : get_or c.self.inside.tables c.from-site.result c.index-self-site.result ≡ ids_at c.self.inside.tables c.args.stamp.site =
     row_same c.self.inside.tables c.from-site.result c.args.stamp.site c.index-self-site.result place
     (omega (arith, c.from-site.ensures, c.number.ensures.range, c.self.invariant.0.width)) in
-    subst (λ (r : Row). Each (λ id. id.0 < c.args.stamp.sum) r.ids) (sym row)
+    subst (λ (r : SiteIds). Each (λ id. id.0 < c.args.stamp.sum) r.ids) (sym row)
     (row-below c.self.inside.nodes.items c.self.inside.first c.self.inside.tables c.args.stamp c.self.invariant.0
     (subst (λ v. IsAboveItsSite v c.args.stamp) (sym shows) c.requires))
 
@@ -82,7 +82,7 @@ after c =
     (c.from-site.ensures ∙ c.number.ensures.value)
     (omega (arith, c.from-site.ensures, c.number.ensures.range))
     refl size
-    (ap (λ (r : Row). r.ids) c.in_ok-push.ensures.ok)
+    (ap (λ (r : SiteIds). r.ids) c.in_ok-push.ensures.ok)
     (c.link.ensures.nodes ∙ ap (λ (v : List Node). put_in v (made c.args.stamp c.args.ch c.walk-last.result.1) c.walk-last.result.0)
     c.reserve.ensures.items)
     (c.link.ensures.first ∙ ap (λ (v : List Node). first_then v c.self.inside.first c.walk-last.result.0) c.reserve.ensures.items)
@@ -92,9 +92,9 @@ invariant_of-self-2 c =
     let width : c.from-site.result < length c.self.inside.tables =
     omega (arith, c.from-site.ensures, c.number.ensures.range, c.self.invariant.0.width) in
     let room : c.saturating_sub-self-inside.result ≡ c.self.inside.room - 1 = c.saturating_sub-self-inside.ensures in
-    let row : c.push.new.self.room ≡ (row_at c.self.inside.tables c.from-site.result).room - 1 =
-    ap (λ (r : Row). r.room) c.in_ok-push.ensures.ok
-    ∙ ap (λ (r : Row). r.room - 1) (row_same c.self.inside.tables c.from-site.result c.from-site.result c.index-self-site.result
+    let row : c.push.new.self.room ≡ (ids_at c.self.inside.tables c.from-site.result).room - 1 =
+    ap (λ (r : SiteIds). r.room) c.in_ok-push.ensures.ok
+    ∙ ap (λ (r : SiteIds). r.room - 1) (row_same c.self.inside.tables c.from-site.result c.from-site.result c.index-self-site.result
     refl width) in (
       (after c).0,
       record {
@@ -108,7 +108,7 @@ invariant_of-self-2 c =
           c.reserve.ensures.capacity,
           c.self.invariant.1.elements,
         );
-        ids = λ k l. subst (λ n. n ≤ (row_at (set c.self.inside.tables c.from-site.result c.push.new.self) k).room) (sym room)
+        ids = λ k l. subst (λ n. n ≤ (ids_at (set c.self.inside.tables c.from-site.result c.push.new.self) k).room) (sym room)
             (room-pushed c.self.inside.tables c.from-site.result k c.self.inside.room c.push.new.self width row c.self.invariant.1.ids l
             (omega (arith, c.from-site.ensures, c.number.ensures.range)));
       },

@@ -2,31 +2,31 @@
 use Rattle.std.proofs.Common.{◌≡◌, ◌≢◌, ◌∙◌, ap, arith, get_or, subst, sym}
 use Rattle.std.specs.List.{AllByRecursion}
 use Rattle.rga_list.specs.Entries.{LinkedElements, IsGreatestOf}
-use Rattle.rga_list.specs.Rows.{Row, IsGreatest}
-use Rattle.rga_list.specs.Links.{row_at}
+use Rattle.rga_list.specs.SiteIds.{SiteIds, IsGreatest}
+use Rattle.rga_list.specs.Links.{ids_at}
 use Rattle.rga_list.proofs.Ordered.{greatest, no_greatest, above_greatest, above_none, row_same}
 use Rattle.rga_list.proofs.rga.Rga.last_of.Goals as goal
 
 pub returns-in_err-sum-clause-none : goal.returns-in_err-sum-clause-none
 returns-in_err-sum-clause-none c =
     let place : c.from.result ≡ c.args.site = c.from.ensures ∙ c.number.ensures.value in
-    let row : get_or c.self.inside.tables c.from.result c.index-self-from.result ≡ row_at c.self.inside.tables c.args.site =
+    let row : get_or c.self.inside.tables c.from.result c.index-self-from.result ≡ ids_at c.self.inside.tables c.args.site =
     row_same c.self.inside.tables c.from.result c.args.site c.index-self-from.result place
     (omega (arith, c.from.ensures, c.number.ensures.range, c.self.told)) in
     rw c.from_residual.ensures
     (subst (λ (r : LinkedElements). AllByRecursion (λ e. e.stamp.site ≢ c.args.site) r.entries) c.self.view_is
     (no_greatest c.self.inside.nodes.items c.self.inside.first c.self.inside.tables c.args.site c.self.invariant.0
-    (ap (λ (r : Row). r.ids) (sym row) ∙ c.in_err-sum.ensures.none)))
+    (ap (λ (r : SiteIds). r.ids) (sym row) ∙ c.in_err-sum.ensures.none)))
 
 pub returns-clause-some : goal.returns-clause-some
 returns-clause-some c =
     let place : c.from.result ≡ c.args.site = c.from.ensures ∙ c.number.ensures.value in
-    let row : get_or c.self.inside.tables c.from.result c.index-self-from.result ≡ row_at c.self.inside.tables c.args.site =
+    let row : get_or c.self.inside.tables c.from.result c.index-self-from.result ≡ ids_at c.self.inside.tables c.args.site =
     row_same c.self.inside.tables c.from.result c.args.site c.index-self-from.result place
     (omega (arith, c.from.ensures, c.number.ensures.range, c.self.told)) in
     subst (λ (r : LinkedElements). IsGreatestOf r.entries c.args.site (record { sum = c.in_ok-sum.sum; site = c.args.site })) c.self.view_is
     (greatest c.self.inside.nodes.items c.self.inside.first c.self.inside.tables c.args.site c.in_ok-sum.sum c.self.invariant.0
-    (subst (λ (r : Row). IsGreatest r.ids c.in_ok-sum.sum) row c.in_ok-sum.ensures.some))
+    (subst (λ (r : SiteIds). IsGreatest r.ids c.in_ok-sum.sum) row c.in_ok-sum.ensures.some))
 
 pub returns-in_err-sum-clause-free : goal.returns-in_err-sum-clause-free
 returns-in_err-sum-clause-free c =

@@ -1,13 +1,14 @@
 -- The search by halves finds what is found along the row.
 use Rattle.std.proofs.Common.{◌≡◌, ◌∙◌, ℕ, Some, None, sym, subst, ap, get_or, rules}
 use Rattle.std.proofs.lemmas.List.Sorted.{answers_always}
-use Rattle.rga_list.specs.Rows.{Row, find_id, AreRising}
+use Rattle.rga_list.specs.SiteIds.{SiteIds, find_id, AreRising}
 use Rattle.rga_list.proofs.Identifiers.{halves-found, halves-none}
 use Rattle.rga_list.proofs.table.SiteTable.find.Goals as goal
 
 pub returns-in-Ok : goal.returns-in-Ok
 returns-in-Ok c =
-    let here : c.as_slice-ids.result.now ≡ c.args.self.now.ids = c.as_slice-ids.ensures.value ∙ ap (λ (r : Row). r.ids) c.self.view_is in
+    let here : c.as_slice-ids.result.now ≡ c.args.self.now.ids =
+    c.as_slice-ids.ensures.value ∙ ap (λ (r : SiteIds). r.ids) c.self.view_is in
     let rising : AreRising c.as_slice-ids.result.now = subst AreRising (sym c.as_slice-ids.ensures.value) c.self.invariant.0 in
     subst (λ v. Some (get_or c.as_slice-ids.result.now c.in-Ok.place (0, 0)).1 ≡ find_id c.args.sum v) here
     (halves-found c.as_slice-ids.result.now c.in-Ok.place c.args.sum (0, 0) rising c.in-Ok.ensures.bound
@@ -15,7 +16,8 @@ returns-in-Ok c =
 
 pub returns-in-Err : goal.returns-in-Err
 returns-in-Err c =
-    let here : c.as_slice-ids.result.now ≡ c.args.self.now.ids = c.as_slice-ids.ensures.value ∙ ap (λ (r : Row). r.ids) c.self.view_is in
+    let here : c.as_slice-ids.result.now ≡ c.args.self.now.ids =
+    c.as_slice-ids.ensures.value ∙ ap (λ (r : SiteIds). r.ids) c.self.view_is in
     let rising : AreRising c.as_slice-ids.result.now = subst AreRising (sym c.as_slice-ids.ensures.value) c.self.invariant.0 in
     subst (λ v. None ≡ find_id c.args.sum v) here
     (halves-none c.as_slice-ids.result.now c.in-Err.field-0 c.args.sum rising
