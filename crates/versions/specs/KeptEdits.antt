@@ -1,8 +1,8 @@
--- An edit, kept as a kind, a character and a place in two parts.
+-- An edit, kept as a kind, a character and a place in two parts. No public clause cites this: it is the code's alone.
 use Rattle.std.specs.Prelude.{◌≡◌, ℕ, ◌+◌, ◌*◌, ◌/◌, ◌%◌, ◌<◌, ◌≤◌}
 use Rattle.std.proofs.Common.{ap, sym, ◌∙◌}
 use mathlib.Core.Path.{ap₂}
-use Rattle.causal_clock.specs.Halves.{upper, lower}
+use Rattle.std.proofs.lemmas.Nat.{div-mul-add, mod-mul-add}
 use Rattle.opid.specs.declared.edit.Edit.{Edit}
 use Rattle.opid.specs.declared.edit.Edit.TheVariants as edits
 use Rattle.versions.specs.declared.kept_edit.EditKind.{EditKind}
@@ -46,8 +46,9 @@ inside_of edits.Nop = kept Nop 0 0 0
 
 unkept : (kind : EditKind) (high low ch : ℕ) → low < 65536 → IsPlainBy kind high low ch
     → inside_of (edit_by kind (high * 65536 + low) ch) ≡ kept kind high low ch
-unkept Ins high low ch l h = ap₂ (λ a b. kept Ins a b ch) (upper high low l) (lower high low l)
-unkept Del high low ch l h = ap₂ (λ a b. kept Del a b 0) (upper high low l) (lower high low l) ∙ ap (kept Del high low) (sym h)
+unkept Ins high low ch l h = ap₂ (λ a b. kept Ins a b ch) (div-mul-add high 65536 low l) (mod-mul-add high 65536 low l)
+unkept Del high low ch l h =
+    ap₂ (λ a b. kept Del a b 0) (div-mul-add high 65536 low l) (mod-mul-add high 65536 low l) ∙ ap (kept Del high low) (sym h)
 unkept Nop high low ch l h = ap₂ (λ a b. kept Nop a b 0) (sym h.0) (sym h.1) ∙ ap (kept Nop high low) (sym h.2)
 
 pub inside_of-edit_of : (a : Inside) → IsPlain a → inside_of (edit_of a) ≡ a

@@ -15,14 +15,14 @@ ghost use Rattle.versions.specs.Sums.{last_sum};
 use crate::characters::Characters;
 use crate::integrate::{MAX_OPERATIONS, integrate, refusal_of};
 use crate::kept_edit::KeptEdit;
-use crate::op_at::op_at;
+use crate::read_op::read_op;
 use crate::reserved::{make_room, reserve_each};
 use crate::text::text_in;
 use causal_clock::{Clock, Op, OpLog, Replay};
 use counted_tree::{Steps, VersionTree};
 use opid::{Edit, Refusal, SITES, Site, Stamp};
 use rga_list::{LIMIT, Rga};
-use std::alloc::Global;
+use std::alloc::{AllocError, Global};
 use std::marker::Model;
 
 /// A lawful log of at most 131,072 operations, every version of which can be read: version n is what its first n
@@ -92,7 +92,7 @@ impl Doc {
         requires { i < length self.now.log }
         ensures value { slice_get self.now.log i ≡ Some result }
     {
-        op_at(&self.log, i as usize)
+        read_op(&self.log, i as usize)
     }
 
     /// The operations from a place of the log on, in order. The first one of each site takes the steps of `op`, each
@@ -102,6 +102,22 @@ impl Doc {
         ensures { result ≡ drop i self.now.log }
     {
         self.log.replay_from(i as usize)
+    }
+
+    /// A copy of the operations from one place of the log up to another. Takes the steps of `ops_from` for them, and memory
+    /// for them, some 150 bytes each. An error is for want of memory.
+    #[tactic(auto, using(crate::proofs::Left::left_after, crate::proofs::Left::some_left, opid::proofs::Gathered::gathered, opid::proofs::Gathered::gathered_all))]
+    pub fn copy_ops(&self, from: u32, end: u32) -> Result<Vec<Op>, AllocError>
+        requires order { from ≤ end }
+        requires within { end ≤ length self.now.log }
+        ensures { IfOk result (λ ops. ops.items ≡ take (end - from) (drop from self.now.log)) }
+    {
+        let mut ops = Vec::with_capacity(self.alloc, (end - from) as usize)?;
+        let mut rest = self.ops_from(from);
+        'told: for _place in from..end {
+            ops.push(rest.next_op())?;
+        }
+        Ok(ops)
     }
 
     /// The sum of the site's last operation, 0 where there is none. Constant time.
