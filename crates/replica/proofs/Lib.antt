@@ -1,5 +1,5 @@
 -- The lemmas of this crate.
-pub mod Rows
+pub mod SitePlaces
 pub mod Numbers
 pub mod Rounds
 pub mod Checks

@@ -19,7 +19,7 @@ use Rattle.opid.proofs.Logs.{lawful_induction}
 use Rattle.opid.proofs.Walk.{append-nil}
 use Rattle.opid.proofs.Placing.{get-middle, get-within}
 use Rattle.holdback.specs.Offered.{with_number, is_same_number}
-use Rattle.replica.specs.Numbered.{row_at, places_from, places_of, AreNumbered}
+use Rattle.replica.specs.Numbered.{places_at, places_from, places_of, AreNumbered}
 
 slice_get-old : {X : Type 0} (xs : List X) (y : X) (k : ℕ) → k < length xs → slice_get (xs ++ y ∷ []) k ≡ slice_get xs k
 slice_get-old [] y k l = absurd (omega arith)
@@ -219,29 +219,30 @@ with_number-zero = lawful_induction HasNoZero (λ site. refl) (λ log x l m ih s
 -- one more place in the row of the operation's site
 pub AreNumbered-push : (log : List Operation) (rows new : List (List ℕ)) (x : Operation) (site place : ℕ) → AreNumbered log rows
     → site ≡ x.site → site < 32 → place ≡ length log
-    → new ≡ set rows site (row_at rows site ++ place ∷ []) → AreNumbered (log ++ x ∷ []) new
+    → new ≡ set rows site (places_at rows site ++ place ∷ []) → AreNumbered (log ++ x ∷ []) new
 AreNumbered-push log rows new x site place h s b p e = record {
-  width = ap length e ∙ length-set rows site (row_at rows site ++ place ∷ []) ∙ h.width;
-  each = λ k l. ap (λ rs. row_at rs k) e ∙ at k l (cases_eq k site);
+  width = ap length e ∙ length-set rows site (places_at rows site ++ place ∷ []) ∙ h.width;
+  each = λ k l. ap (λ rs. places_at rs k) e ∙ at k l (cases_eq k site);
 }
   where
-    at : (k : ℕ) → k < 32 → (k ≡ site) ⊎ (k ≡ site → ⊥) → row_at (set rows site (row_at rows site ++ place ∷ [])) k
+    at : (k : ℕ) → k < 32 → (k ≡ site) ⊎ (k ≡ site → ⊥) → places_at (set rows site (places_at rows site ++ place ∷ [])) k
         ≡ places_of k (log ++ x ∷ [])
     at k l (inl q) =
         let wide : site < length rows = omega (arith, h.width, b) in
         let start : place ≡ 0 + length log = omega (arith, p) in
-        ap (row_at (set rows site (row_at rows site ++ place ∷ []))) q ∙ get_or-set_same rows site (row_at rows site ++ place ∷ []) [] wide
+        ap (places_at (set rows site (places_at rows site ++ place ∷ []))) q
+        ∙ get_or-set_same rows site (places_at rows site ++ place ∷ []) [] wide
         ∙ ap (λ ps. ps ++ place ∷ []) (h.each site b)
         ∙ ap (λ n. places_of site log ++ n ∷ []) start
         ∙ sym (places-push 0 site log x ∙ ap (λ t. places_of site log ++ cond t ((0 + length log) ∷ []) []) (eq-eqb x.site site (sym s)))
         ∙ ap (λ v. places_of v (log ++ x ∷ [])) (sym q)
     at k l (inr d) =
-        get_or-set_other rows site k (row_at rows site ++ place ∷ []) [] d
+        get_or-set_other rows site k (places_at rows site ++ place ∷ []) [] d
         ∙ h.each k l
         ∙ sym (places-push 0 k log x ∙ ap (λ t. places_of k log ++ cond t ((0 + length log) ∷ []) [])
         (ne_eqb x.site k (λ q. d (sym (s ∙ q)))) ∙ append-nil (places_of k log))
 
-row_at-blank : (n k : ℕ) → row_at (replicate n []) k ≡ []
+row_at-blank : (n k : ℕ) → places_at (replicate n []) k ≡ []
 row_at-blank zero k = refl
 row_at-blank (suc n) zero = refl
 row_at-blank (suc n) (suc k) = row_at-blank n k
@@ -251,12 +252,12 @@ AreNumbered-none = record { width = refl; each = λ site l. row_at-blank 32 site
 
 pub with_number-row : (log : List Operation) (rows : List (List ℕ)) (number : ℕ × ℕ) → IsLawful log → AreNumbered log rows → number.0 < 32
     → 0 < number.1
-    → with_number number log ≡ option_and_then (slice_get log) (slice_get (row_at rows number.0) (number.1 - 1))
+    → with_number number log ≡ option_and_then (slice_get log) (slice_get (places_at rows number.0) (number.1 - 1))
 with_number-row log rows number l h b p =
     let again : number.1 ≡ (number.1 - 1) + 1 = omega arith in
     ap (λ n. with_number (number.0, n) log) again ∙ with_number-found log l number.0 (number.1 - 1)
     ∙ ap (λ ps. option_and_then (slice_get log) (slice_get ps (number.1 - 1))) (sym (h.each number.0 b))
 
 pub row-within : (log : List Operation) (rows : List (List ℕ)) (site k p : ℕ) → AreNumbered log rows → site < 32
-    → Some p ≡ slice_get (row_at rows site) k → p < length log
+    → Some p ≡ slice_get (places_at rows site) k → p < length log
 row-within log rows site k p h b e = place-within site log k p (e ∙ ap (λ ps. slice_get ps k) (h.each site b))

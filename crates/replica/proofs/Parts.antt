@@ -1,11 +1,10 @@
 -- The part of a log that is told.
-use Rattle.std.proofs.Common.{◌≡◌, ℕ, ◌+◌, ◌-◌, ◌<◌, ◌≤◌, ◌⊎◌, inl, inr, false, List, [], ◌∷◌, Some, Ok, length, get_or, take, drop, ap}
+use Rattle.std.proofs.Common.{◌≡◌, ℕ, ◌+◌, ◌-◌, ◌<◌, ◌≤◌, ◌⊎◌, inl, inr, false, List, Ok, length, take, drop, ap}
 use Rattle.std.proofs.Common.{◌∙◌, sym, arith}
-use Rattle.std.specs.Prelude.{min, nat_lt, slice_get, ◌==◌, ◌||◌}
+use Rattle.std.specs.Prelude.{min, nat_lt, ◌==◌, ◌||◌}
 use Rattle.std.proofs.lemmas.Bool.{cond-false, cases_lt}
 use Rattle.std.proofs.lemmas.Bool.Decides.{nat_tests}
-use Rattle.std.proofs.lemmas.List.{length-drop, take_all, drop_more}
-use Rattle.std.proofs.lemmas.Option.{slice_get-get_or}
+use Rattle.std.proofs.lemmas.List.{length-drop, take_all}
 use Rattle.opid.specs.Operations.{Operation}
 use Rattle.replica.specs.Part.{part_of}
 
@@ -22,17 +21,3 @@ part_of_end log after max end l p m e = cond-false _ _ _ accepted ∙ ap Ok (go 
         take_all max (drop after log) (omega (arith, length-drop after log, q))
         ∙ sym (take_all (end - after) (drop after log) (omega (arith, length-drop after log, q, e)))
     go (inr q) = ap (λ k. take k (drop after log)) (omega (arith, q, e))
-
--- what a walk gives is the operation at its place, and it goes on behind it
-pub left_after : (log : List Operation) (n : ℕ) (x : Operation) (rest : List Operation) → drop n log ≡ x ∷ rest
-    → (slice_get log n ≡ Some x) × (rest ≡ drop (n + 1) log)
-left_after log n x rest e =
-    let within : n < length log = omega (arith, length-drop n log, ap (length {A = Operation}) e) in
-    let same : x ∷ rest ≡ get_or log n x ∷ drop (n + 1) log = sym e ∙ drop_more log n x within in (
-      slice_get-get_or log n x within ∙ ap (λ (y : Operation). Some y) (sym (ap (λ (l : List Operation). get_or l 0 x) same)),
-      ap (λ (l : List Operation). drop 1 l) same,
-    )
-
--- before the end of the log something is left
-pub some_left : (log : List Operation) (n : ℕ) → n < length log → drop n log ≡ [] → ⊥
-some_left log n l e = omega (arith, l, length-drop n log, ap (length {A = Operation}) e)

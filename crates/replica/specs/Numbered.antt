@@ -9,12 +9,12 @@ pub record PlacesOfOne : Type 0 where
   pub room : ℕ
 
 -- of each site the places of its operations in rising order, and for how many more there is memory
-pub record Rows : Type 0 where
+pub record AllPlaces : Type 0 where
   pub rows : List (List ℕ)
   pub room : ℕ
 
-abbrev pub row_at : List (List ℕ) → ℕ → List ℕ
-row_at rows site = slice_index_or rows site []
+abbrev pub places_at : List (List ℕ) → ℕ → List ℕ
+places_at rows site = slice_index_or rows site []
 
 -- the places of the site's operations in the log, of which the first stands at `start`
 abbrev pub places_from : ℕ → ℕ → List Operation → List ℕ
@@ -27,7 +27,7 @@ places_of site log = places_from 0 site log
 -- the rows have the places of each site's operations
 pub record AreNumbered (log : List Operation) (rows : List (List ℕ)) : Type 0 where
   pub width : length rows ≡ 32
-  pub each : (site : ℕ) → site < 32 → row_at rows site ≡ places_of site log
+  pub each : (site : ℕ) → site < 32 → places_at rows site ≡ places_of site log
 
 -- a lawful log, the places of each site's operations in it, and as much memory for these as for the log
 pub record IsLog (log : List Operation) (rows : List (List ℕ)) (log_room rows_room : ℕ) : Type 0 where

@@ -5,12 +5,11 @@ ghost use Rattle.replica.specs.Part.{part_of};
 
 use causal_clock::Op;
 use opid::{MAX_COUNT, Refusal};
-use std::alloc::Global;
 use versions::Doc;
 
-/// The operations of the log from a place on, at most `max`. Takes the steps of `Doc::ops_from` for them.
-#[tactic(auto, using(crate::proofs::Parts::part_of_end, crate::proofs::Parts::left_after, crate::proofs::Parts::some_left, opid::proofs::Gathered::gathered, opid::proofs::Gathered::gathered_all))]
-pub(crate) fn copy_part(alloc: Global, doc: &Doc, after: u32, max: u32) -> Result<Vec<Op>, Refusal>
+/// The operations of the log from a place on, at most `max`. Takes what `Doc::copy_ops` takes.
+#[tactic(auto, using(crate::proofs::Parts::part_of_end))]
+pub(crate) fn copy_part(doc: &Doc, after: u32, max: u32) -> Result<Vec<Op>, Refusal>
     ensures ok { IfOk result (λ ops. part_of doc.now.log after max ≡ Ok ops.items) }
     ensures cause { IfErr result (λ e. (part_of doc.now.log after max ≡ Err e) ⊎ (IsOk (part_of doc.now.log after max) × (e ≡ Memory))) }
 {
@@ -18,13 +17,5 @@ pub(crate) fn copy_part(alloc: Global, doc: &Doc, after: u32, max: u32) -> Resul
         return Err(Refusal::BadRange);
     }
     let end = doc.version().min(after + max);
-    let mut ops = Vec::with_capacity(alloc, (end - after) as usize)?;
-    let mut rest = doc.ops_from(after);
-    'told: for _place in after..end {
-        let Some(op) = rest.next() else {
-            unreachable!();
-        };
-        ops.push(op)?;
-    }
-    Ok(ops)
+    Ok(doc.copy_ops(after, end)?)
 }

@@ -2,7 +2,7 @@
 ghost use Rattle.std.specs.Prelude.{◌≡◌, ◌<◌, ◌≤◌, ◌-◌, ℕ, map, ◌++◌, [], ◌∷◌, max, replicate, slice_get, slice_set, OnOk, OnErr, IfErr};
 ghost use Rattle.std.specs.List.{AllByRecursion};
 ghost use Rattle.opid.specs.declared.refusal.Refusal.TheVariants.{Memory};
-ghost use Rattle.replica.specs.Numbered.{row_at};
+ghost use Rattle.replica.specs.Numbered.{places_at};
 
 use opid::{Refusal, SITES, Site};
 use std::alloc::Global;
@@ -11,12 +11,12 @@ use std::marker::Model;
 
 /// The places of one site's operations, in rising order.
 #[derive(Drop)]
-struct Row {
+struct SitePlaces {
     places: Vec<u32>,
     room: usize,
 }
 
-impl Model for Row {
+impl Model for SitePlaces {
     ghost use Rattle.std.specs.Prelude.{◌+◌, ◌≤◌, vec_len, vec_capacity};
     ghost use Rattle.replica.specs.Numbered.{PlacesOfOne};
 
@@ -27,11 +27,11 @@ impl Model for Row {
     ghost invariant = { λ r. vec_len r.places + r.room ≤ vec_capacity r.places };
 }
 
-impl Row {
-    fn new(alloc: Global) -> Row
+impl SitePlaces {
+    fn new(alloc: Global) -> SitePlaces
         ensures { result ≡ record { places = []; room = 0 } }
     {
-        Row {
+        SitePlaces {
             places: Vec::new(alloc),
             room: 0,
         }
@@ -67,16 +67,16 @@ impl Row {
 /// the next 2, and so on, so that an operation is found by its number in one step.
 #[derive(Drop)]
 pub(crate) struct Places {
-    rows: [Row; SITES],
+    rows: [SitePlaces; SITES],
     room: usize,
 }
 
 impl Model for Places {
     ghost use Rattle.std.specs.Prelude.{◌≤◌, map};
     ghost use Rattle.std.specs.List.{AllByRecursion};
-    ghost use Rattle.replica.specs.Numbered.{Rows};
+    ghost use Rattle.replica.specs.Numbered.{AllPlaces};
 
-    ghost Value = { Rows };
+    ghost Value = { AllPlaces };
 
     ghost view = { λ p. record { rows = map (λ r. r.places) p.rows; room = p.room } };
 
@@ -89,14 +89,14 @@ impl Places {
         ensures { result ≡ record { rows = replicate 32 []; room = 0 } }
     {
         Places {
-            rows: array::from_fn(|_| Row::new(alloc)),
+            rows: array::from_fn(|_| SitePlaces::new(alloc)),
             room: 0,
         }
     }
 
     /// The place of the site's operation with this index, counted from 0. Constant time.
     pub(crate) fn get(&self, site: Site, index: u32) -> Option<u32>
-        ensures value { result ≡ slice_get (row_at self.now.rows site) index }
+        ensures value { result ≡ slice_get (places_at self.now.rows site) index }
         ensures sited { site < 32 }
     {
         self.rows[usize::from(site.number())].get(index)
@@ -105,7 +105,7 @@ impl Places {
     /// Adds the place of the site's next operation, for which memory is reserved.
     pub(crate) fn push(&mut self, site: Site, place: u32)
         requires { 0 < self.old.room }
-        ensures rows { self.new.rows ≡ slice_set self.old.rows site (row_at self.old.rows site ++ place ∷ []) }
+        ensures rows { self.new.rows ≡ slice_set self.old.rows site (places_at self.old.rows site ++ place ∷ []) }
         ensures room { self.new.room ≡ self.old.room - 1 }
     {
         self.rows[usize::from(site.number())].push(place);
@@ -128,7 +128,7 @@ impl Places {
 }
 
 /// Reserves memory for `n` more places in each row.
-fn reserve_each(rows: &mut [Row], n: usize) -> Result<(), Refusal>
+fn reserve_each(rows: &mut [SitePlaces], n: usize) -> Result<(), Refusal>
     ensures same { map (λ r. r.places) rows.new ≡ map (λ r. r.places) rows.old }
     ensures kept { (room : ℕ) → AllByRecursion (λ r. room ≤ r.room) rows.old → AllByRecursion (λ r. room ≤ r.room) rows.new }
     ensures ok { OnOk result (AllByRecursion (λ r. n ≤ r.room) rows.new) }

@@ -199,7 +199,7 @@ impl Replica {
         ensures cause { IfErr result (λ e. (part_of self.now.log after max ≡ Err e)
             ⊎ (IsOk (part_of self.now.log after max) × (e ≡ Memory))) }
     {
-        copy_part(self.alloc, self.log.doc(), after, max)
+        copy_part(self.log.doc(), after, max)
     }
 
     /// Reserves memory for `n` operations, those that are held back included: while fewer are held than there is room

@@ -6,7 +6,7 @@ use Rattle.opid.specs.Lawful.{IsLawful, IsRisingAt, MayFollow}
 use Rattle.opid.proofs.Logs.{IsLawful-push}
 use Rattle.versions.specs.Document.{Document}
 use Rattle.versions.proofs.Integrated.{may_follow}
-use Rattle.replica.specs.Numbered.{Rows, AreNumbered}
+use Rattle.replica.specs.Numbered.{AllPlaces, AreNumbered}
 use Rattle.replica.proofs.Numbers.{AreNumbered-push}
 use Rattle.replica.proofs.log.Log.append.Goals as goal
 
@@ -20,7 +20,7 @@ invariant_of-self-2 c =
     let follows : MayFollow log x = may_follow log x c.site-site.ensures.kept ready rising c.in_ok-integrate.ensures.ok in
     let sited : c.site-site.result < 32 = omega (arith, c.site-site.ensures.value, c.site-site.ensures.kept.site) in
     let rows : AreNumbered log c.reserve.new.self.rows =
-    subst (λ (r : Rows). AreNumbered log r.rows) (sym c.in_ok-reserve.ensures.ok) c.self.invariant.numbered in
+    subst (λ (r : AllPlaces). AreNumbered log r.rows) (sym c.in_ok-reserve.ensures.ok) c.self.invariant.numbered in
     record {
       lawful = subst (λ (r : Document). IsLawful r.log) (sym c.in_ok-integrate.ensures.grown)
           (IsLawful-push log x c.self.invariant.lawful follows);
@@ -30,7 +30,7 @@ invariant_of-self-2 c =
       reserved = omega (
         arith,
         ap (λ (r : Document). r.room) c.in_ok-integrate.ensures.grown,
-        ap (λ (r : Rows). r.room) c.in_ok-reserve.ensures.ok,
+        ap (λ (r : AllPlaces). r.room) c.in_ok-reserve.ensures.ok,
         c.push.ensures.room,
         c.self.invariant.reserved,
       );

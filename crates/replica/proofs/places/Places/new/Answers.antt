@@ -1,7 +1,7 @@
 -- The rows are empty.
 use Rattle.std.proofs.Common.{◌≡◌, ◌<◌, ℕ, [], List, refl, ap, rules, get_or}
-use Rattle.replica.specs.Numbered.{Rows, PlacesOfOne}
-use Rattle.replica.proofs.Rows.{no_places}
+use Rattle.replica.specs.Numbered.{AllPlaces, PlacesOfOne}
+use Rattle.replica.proofs.SitePlaces.{no_places}
 use Rattle.replica.proofs.places.Places.new.Goals as goal
 
 pub returns : goal.returns
@@ -9,5 +9,5 @@ returns c =
     let blank : PlacesOfOne = record { places = []; room = 0 } in
     let made : (k : ℕ) → k < 32 → get_or c.from_fn.result k blank ≡ blank =
     λ k l. (let h = c.from_fn.ensures.items.at k blank l in search rules) in
-    ap (λ (ps : List (List ℕ)). let r : Rows = record { rows = ps; room = 0 } in r)
+    ap (λ (ps : List (List ℕ)). let r : AllPlaces = record { rows = ps; room = 0 } in r)
     (no_places c.from_fn.result 32 blank refl c.from_fn.ensures.items.long made)

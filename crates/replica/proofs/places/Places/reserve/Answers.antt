@@ -1,5 +1,5 @@
 -- Each row has room for as many.
-use Rattle.replica.proofs.Rows.{greater_room}
+use Rattle.replica.proofs.SitePlaces.{greater_room}
 use Rattle.replica.proofs.places.Places.reserve.Goals as goal
 
 pub invariant_of-self : goal.invariant_of-self
