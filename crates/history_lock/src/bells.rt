@@ -104,11 +104,13 @@ impl<T: Trailed> TicketLock<T> {
         bell.sleepers.go();
     }
 
-    // Wakes who waits for this ticket's turn, which has come, and who is the next in line behind it.
+    // Wakes who waits for this ticket's turn, which has come, and who is the next in line behind it; or, where nobody
+    // has drawn it, one of those who wait without a ticket.
     pub(crate) fn wake(&self, ticket: u64) {
         let shared = &self.table.shared;
         // Who draws the ticket after this look at the word finds it served.
         if shared.peek(NEXT) == ticket {
+            self.lobby.wake_one();
             return;
         }
         if self.first.are_there() {

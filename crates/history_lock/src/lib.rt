@@ -8,6 +8,7 @@
 
 mod bells;
 pub mod laws;
+mod lobby;
 mod lock;
 mod meets;
 mod parts;

@@ -2,6 +2,7 @@
 ghost use Rattle.std.specs.Prelude.{◌≡◌};
 
 use crate::bells::{Bells, Sleepers};
+use crate::lobby::Lobby;
 use crate::pass::Sight;
 use crate::plays::Served;
 use crate::trailed::Trailed;
@@ -25,6 +26,7 @@ pub struct TicketLock<T: Trailed> {
     pub(crate) table: Table<Option<T>, Sight<T::Entry>, Snapshot<T>, Served, Global>,
     pub(crate) first: Sleepers,
     pub(crate) bells: Bells,
+    pub(crate) lobby: Lobby,
     pub ghost two_words: { table.shared.table_id.words ≡ 2 },
     pub ghost one_slot: { table.shared.table_id.slots ≡ 1 },
 }

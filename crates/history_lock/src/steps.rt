@@ -7,6 +7,7 @@ ghost use Rattle.history_lock.specs.Turns.{LeftFor, Grows};
 ghost use Rattle.history_lock.specs.Locks.{sight, number_of, ticket_of, opening_of, IsPassOf, HasDrawn, HasHold, IsIdle};
 
 use crate::bells::{Bells, Sleepers};
+use crate::lobby::Lobby;
 use crate::lock::{Hold, NEXT, SERVED, Ticket, TicketLock, Worn};
 use crate::pass::Pass;
 use crate::plays::{Draws, Leaves, Looks};
@@ -41,6 +42,7 @@ impl<T: Trailed> TicketLock<T> {
                     table,
                     first: Sleepers::new(),
                     bells: Bells::new(),
+                    lobby: Lobby::new(),
                 },
                 Pass {
                     seat,

@@ -70,6 +70,7 @@ fn add<R: Wait>(
     done
 }
 
+// Adds x in up to 1,000 turns. Before each second one it waits until no ticket is open.
 fn add_many<R: Wait>(
     rt: &R,
     lock: &TicketLock<Journal>,
@@ -79,7 +80,10 @@ fn add_many<R: Wait>(
     requires { IsPassOf lock.now pass × IsIdle pass }
     ensures { IsPassOf lock.now result × IsIdle result }
 {
-    for _ in 0..1000 {
+    for turn in 0..1000 {
+        if turn % 2 == 1 {
+            lock.wait_until_free(rt);
+        }
         if add(rt, lock, &mut pass, x).is_err() {
             break;
         }
