@@ -7,7 +7,7 @@ use Rattle.tungstenite.specs.Socket.{Socket, Reads, Writes, content_of}
 use Rattle.tungstenite.specs.declared.message.Message.{Message}
 use Rattle.tungstenite.specs.Failure.{WriteFails}
 use Rattle.tungstenite.specs.declared.error.Error.{Error}
-use Rattle.tungstenite.specs.declared.error.Error.TheVariants.{ConnectionClosed}
+use Rattle.tungstenite.specs.declared.error.Error.TheVariants.{ConnectionClosed, OutOfMemory}
 use Rattle.tungstenite.specs.Heads.{Serves as IsOfServer}
 use Rattle.shared_room.specs.declared.pass.Pass.{Pass}
 use Rattle.ws_server.specs.declared.conn.Conn.{Conn}
@@ -24,6 +24,12 @@ data_of (binary bytes) = Some bytes
 data_of (ping bytes) = None
 data_of (pong bytes) = None
 data_of (close code) = None
+
+-- how a turn ends at a read that gave no message: well where the connection is closed, and with `Read` for all but want of memory
+abbrev pub end_of_read : Error → Result Bool ServeFault
+end_of_read ConnectionClosed = Ok false
+end_of_read OutOfMemory = Err Memory
+end_of_read why = Err Read
 
 -- an answer wasn't sent: for want of memory, which leaves the socket as it was, or since its frame couldn't be written
 abbrev pub FailsToSend : {S : Type 0} → Socket S → Socket S → List ℕ → ServeFault → Type 0
@@ -62,31 +68,31 @@ module _ {S G : Type 0} (remaining contents : S → Option (List ℕ)) (told_bef
       × Reads remaining first mid (Ok message) × (data_of (content_of message) ≡ Some bytes)
       × AnswersFrame told_before hall old bytes answer made new × FailsToSend mid socket answer why
 
-  -- a read failed, and nothing was answered
-  abbrev pub ReadsNothing : Socket S → Side G → Socket S → Side G → Type 0
-  ReadsNothing first old socket new = (why : Error) × Reads remaining first socket (Err why) × (new ≡ old)
+  -- a read gave no message, for a cause with which a turn ends so, and nothing was answered
+  abbrev pub ReadsNothing : Socket S → Side G → Socket S → Side G → Result Bool ServeFault → Type 0
+  ReadsNothing first old socket new end = (why : Error) × Reads remaining first socket (Err why) × (end_of_read why ≡ end) × (new ≡ old)
 
   -- one read gave a message, which was answered; or it told that the connection is closed. `Read` comes of a read alone, `Write` of
   -- a send alone
-  abbrev pub Serves : Socket S → Side G → Socket S → Side G → Result Bool ServeFault → Type 0
-  Serves first old socket new (Ok true) =
+  abbrev pub ServesTurn : Socket S → Side G → Socket S → Side G → Result Bool ServeFault → Type 0
+  ServesTurn first old socket new (Ok true) =
       (message : Message) × (mid : Socket S) × Reads remaining first mid (Ok message)
       × AnswersMessage (data_of (content_of message)) mid old socket new
-  Serves first old socket new (Ok false) = Reads remaining first socket (Err ConnectionClosed) × (new ≡ old)
-  Serves first old socket new (Err Read) = ReadsNothing first old socket new
-  Serves first old socket new (Err Write) = AnswersUnsent first old socket new Write
-  Serves first old socket new (Err Memory) = ReadsNothing first old socket new ⊎ AnswersUnsent first old socket new Memory
+  ServesTurn first old socket new (Ok false) = Reads remaining first socket (Err ConnectionClosed) × (new ≡ old)
+  ServesTurn first old socket new (Err Read) = ReadsNothing first old socket new (Err Read)
+  ServesTurn first old socket new (Err Write) = AnswersUnsent first old socket new Write
+  ServesTurn first old socket new (Err Memory) = ReadsNothing first old socket new (Err Memory) ⊎ AnswersUnsent first old socket new Memory
 
   -- so many messages were read and answered, one after another
   abbrev pub ServesMany : ℕ → Socket S → Side G → Socket S → Side G → Type 0
   ServesMany zero first old socket new = (socket ≡ first) × (new ≡ old)
   ServesMany (suc n) first old socket new =
-      (mid : Socket S) × (side : Side G) × ServesMany n first old mid side × Serves mid side socket new (Ok true)
+      (mid : Socket S) × (side : Side G) × ServesMany n first old mid side × ServesTurn mid side socket new (Ok true)
 
   -- some messages were answered, and then the other side had closed, or a turn ended with the fault
   abbrev pub ServesToEnd : Socket S → Side G → Side G → Result Bool ServeFault → Type 0
   ServesToEnd first old new end =
-      (n : ℕ) × (mid : Socket S) × (side : Side G) × (last : Socket S) × ServesMany n first old mid side × Serves mid side last new end
+      (n : ℕ) × (mid : Socket S) × (side : Side G) × (last : Socket S) × ServesMany n first old mid side × ServesTurn mid side last new end
 
   -- there was no handshake, and nothing was answered; or it gave a socket of a server, of which a message may have 131,072 bytes, and a
   -- connection that had opened no room was served to its end

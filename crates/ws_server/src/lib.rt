@@ -37,7 +37,7 @@ pub use protocol::Protocol;
 pub use reply_line::ReplyLine;
 pub use requests::Requests;
 pub use sink::Sink;
-pub use socket::{limits, serve_one, serve_socket};
+pub use socket::{serve_one, serve_socket};
 pub use source::Source;
 pub use taking::{FirstLine, first_line, whole_input};
 pub use through_pass::serve_through_pass;
