@@ -8,11 +8,13 @@ use Rattle.tungstenite.specs.declared.error.Error.TheVariants.{ConnectionClosed,
 use Rattle.ws_server.specs.declared.fault.ServeFault.{ServeFault}
 use Rattle.ws_server.specs.declared.fault.ServeFault.TheVariants.{Read, Write, Memory}
 use Rattle.ws_server.specs.declared.hall.Hall.{Hall}
+use Rattle.shared_room.specs.Views.{View}
 use Rattle.ws_server.specs.Frames.{Side, AnswersFrame}
 use Rattle.ws_server.specs.Serving.{data_of, FailsToSend, ServesTurn, end_of_read}
 
 -- a message was answered, and the answer wasn't sent
-pub serves_unsent : {S G : Type 0} (remaining contents : S → Option (List ℕ)) (told_before told_after : G → ℕ → G → Type 0) (hall : Hall)
+pub serves_unsent : {S G : Type 0} (remaining contents : S → Option (List ℕ)) (told_before : G → ℕ → View → G → Type 0)
+    (told_after : G → ℕ → G → Type 0) (hall : Hall)
     (first mid socket : Socket S) (old new : Side G) (message : Message) (bytes answer : List ℕ) (made : Option ℕ) (why : ServeFault)
     → Reads remaining first mid (Ok message) → data_of (content_of message) ≡ Some bytes
     → AnswersFrame told_before hall old bytes answer made new → FailsToSend mid socket answer why
@@ -27,7 +29,8 @@ serves_unsent remaining contents told_before told_after hall first mid socket ol
     inr (message, mid, bytes, answer, made, reads, taken, answers, fails)
 
 -- a read gave no message
-pub serves_nothing : {S G : Type 0} (remaining contents : S → Option (List ℕ)) (told_before told_after : G → ℕ → G → Type 0) (hall : Hall)
+pub serves_nothing : {S G : Type 0} (remaining contents : S → Option (List ℕ)) (told_before : G → ℕ → View → G → Type 0)
+    (told_after : G → ℕ → G → Type 0) (hall : Hall)
     (first socket : Socket S) (side : Side G) (why : Error) (end : Result Bool ServeFault)
     → Reads remaining first socket (Err why) → end ≡ end_of_read why
     → ServesTurn remaining contents told_before told_after hall first side socket side end

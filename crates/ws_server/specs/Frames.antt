@@ -7,7 +7,7 @@ use Rattle.wire_json.specs.Request as requests
 use Rattle.wire_json.specs.Text.{text}
 use Rattle.shared_room.specs.declared.pass.Pass.{Pass}
 use Rattle.shared_room.specs.declared.shared.SharedRoom.{SharedRoom}
-use Rattle.shared_room.specs.Views.{view, opening}
+use Rattle.shared_room.specs.Views.{View, view, opening}
 use Rattle.ws_server.specs.declared.conn.Conn.{Conn}
 use Rattle.ws_server.specs.declared.hall.Hall.{Hall}
 use Rattle.ws_server.specs.Halls.{rooms_of, place_of}
@@ -22,7 +22,7 @@ pub record Side (G : Type 0) : Type 0 where
   pub gate : G
 
 -- a message over the pass of a room, behind the gate: just what the line engine answers to these bytes as one line
-abbrev pub AnswersOver : {G : Type 0} → (G → ℕ → G → Type 0) → SharedRoom → Gated Pass G → List ℕ → List ℕ → Gated Pass G → Type 0
+abbrev pub AnswersOver : {G : Type 0} → (G → ℕ → View → G → Type 0) → SharedRoom → Gated Pass G → List ℕ → List ℕ → Gated Pass G → Type 0
 AnswersOver told_before room old bytes answer new =
     Answers (gated_step told_before (pass_step (opening room))) (gated_fault told_before pass_fault)
     (record { desk = view old.desk; calls = old.calls; gate = old.gate; made = old.made }) bytes answer
@@ -47,7 +47,7 @@ Opens hall bytes answer opened =
     OpensAsked hall (requests.opening bytes) answer opened ⊎ ((length bytes ≤ 65536) × (answer ≡ text (No Why.Memory)) × (opened ≡ None))
 
 -- the answer to a message of a connection whose room is at this place, or that has opened none
-abbrev pub AnswersAt : {G : Type 0} → (G → ℕ → G → Type 0) → Hall → Option ℕ → Side G → List ℕ → List ℕ → Option ℕ → Side G → Type 0
+abbrev pub AnswersAt : {G : Type 0} → (G → ℕ → View → G → Type 0) → Hall → Option ℕ → Side G → List ℕ → List ℕ → Option ℕ → Side G → Type 0
 AnswersAt told_before hall None old bytes answer made new =
     (new.passes ≡ old.passes) × (new.conn.calls ≡ old.conn.calls) × (new.gate ≡ old.gate) × (made ≡ None)
     × Opens hall bytes answer new.conn.opened
@@ -60,5 +60,5 @@ AnswersAt told_before hall (Some at) old bytes answer made new =
 
 -- the answer to a message, and the number of the call that it made, if it made one: until a room is opened, an opening; from then on
 -- a call of that room. The passes of the others are as before, and only a call is told to the gate and counted
-abbrev pub AnswersFrame : {G : Type 0} → (G → ℕ → G → Type 0) → Hall → Side G → List ℕ → List ℕ → Option ℕ → Side G → Type 0
+abbrev pub AnswersFrame : {G : Type 0} → (G → ℕ → View → G → Type 0) → Hall → Side G → List ℕ → List ℕ → Option ℕ → Side G → Type 0
 AnswersFrame told_before hall old bytes answer made new = AnswersAt told_before hall old.conn.opened old bytes answer made new

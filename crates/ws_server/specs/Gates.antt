@@ -1,4 +1,5 @@
--- The gate before a connection's calls, and the count of its calls. The rules are the server's own.
+-- The gate before a connection's calls, and the count of its calls. What is told before a call is told with the desk as it is then,
+-- which a call changes. The rules are the server's own.
 use Rattle.std.specs.Prelude.{◌≡◌, ℕ, ◌+◌, ◌-◌, ◌^◌, min, Option, None, Some}
 use Rattle.room.specs.declared.call.Call.{Call}
 use Rattle.room.specs.declared.reply.Reply.{Reply}
@@ -17,18 +18,18 @@ pub record Gated (S G : Type 0) : Type 0 where
   -- the number of the call that the message at hand made, if it made one
   pub made : Option ℕ
 
--- a call takes the next number, which the gate is told before
-abbrev pub TakesNumber : {S G : Type 0} → (G → ℕ → G → Type 0) → Gated S G → Gated S G → Type 0
+-- a call takes the next number, which the gate is told while the desk is as it was before the call
+abbrev pub TakesNumber : {S G : Type 0} → (G → ℕ → S → G → Type 0) → Gated S G → Gated S G → Type 0
 TakesNumber told_before old new =
-    (new.calls ≡ next_call old.calls) × (new.made ≡ Some new.calls) × told_before old.gate new.calls new.gate
+    (new.calls ≡ next_call old.calls) × (new.made ≡ Some new.calls) × told_before old.gate new.calls old.desk new.gate
 
 -- a desk's step behind the gate
-abbrev pub gated_step : {S G : Type 0} → (G → ℕ → G → Type 0) → (S → Call → Reply → S → Type 0) → Gated S G → Call → Reply → Gated S G
+abbrev pub gated_step : {S G : Type 0} → (G → ℕ → S → G → Type 0) → (S → Call → Reply → S → Type 0) → Gated S G → Call → Reply → Gated S G
     → Type 0
 gated_step told_before step old call reply new = TakesNumber told_before old new × step old.desk call reply new.desk
 
 -- a desk's fault behind the gate
-abbrev pub gated_fault : {S G : Type 0} → (G → ℕ → G → Type 0) → (S → Call → DeskFault → S → Type 0) → Gated S G → Call → DeskFault
+abbrev pub gated_fault : {S G : Type 0} → (G → ℕ → S → G → Type 0) → (S → Call → DeskFault → S → Type 0) → Gated S G → Call → DeskFault
     → Gated S G → Type 0
 gated_fault told_before fault old call why new = TakesNumber told_before old new × fault old.desk call why new.desk
 

@@ -10,6 +10,7 @@ use Rattle.tungstenite.specs.declared.error.Error.{Error}
 use Rattle.tungstenite.specs.declared.error.Error.TheVariants.{ConnectionClosed, OutOfMemory}
 use Rattle.tungstenite.specs.Heads.{Serves as IsOfServer}
 use Rattle.shared_room.specs.declared.pass.Pass.{Pass}
+use Rattle.shared_room.specs.Views.{View}
 use Rattle.ws_server.specs.declared.conn.Conn.{Conn}
 use Rattle.ws_server.specs.declared.fault.ServeFault.{ServeFault}
 use Rattle.ws_server.specs.declared.fault.ServeFault.TheVariants.{Read, Write, Memory}
@@ -52,7 +53,8 @@ abbrev pub turn_of : {T : Type 0} → Result T ServeFault → Result Bool ServeF
 turn_of (Ok done) = Ok false
 turn_of (Err why) = Err why
 
-module _ {S G : Type 0} (remaining contents : S → Option (List ℕ)) (told_before told_after : G → ℕ → G → Type 0) (hall : Hall) where
+module _ {S G : Type 0} (remaining contents : S → Option (List ℕ)) (told_before : G → ℕ → View → G → Type 0)
+    (told_after : G → ℕ → G → Type 0) (hall : Hall) where
   -- the bytes were answered, one send appended the text message of the answer, and the gate was told after it; any other message leaves
   -- the connection, the passes and the gate as before
   abbrev pub AnswersMessage : Option (List ℕ) → Socket S → Side G → Socket S → Side G → Type 0

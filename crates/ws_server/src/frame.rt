@@ -11,7 +11,7 @@ ghost use Rattle.ws_server.specs.Gates.{next_call};
 
 use crate::conn::Conn;
 use crate::fault::ServeFault;
-use crate::gate::Gate;
+use crate::gate::Witness;
 use crate::hall::{Hall, HallPass};
 use opid::Refusal;
 use room::{Call, Desk, DeskFault, Reply};
@@ -71,7 +71,7 @@ fn next_call(calls: u64) -> u64
 }
 
 // The answer over the pass of the opened room. A fault leaves what the message did.
-fn answer_over<R: Wait, G: Gate>(
+fn answer_over<R: Wait, G: Witness>(
     rt: &R,
     alloc: Global,
     room: &SharedRoom,
@@ -92,7 +92,7 @@ fn answer_over<R: Wait, G: Gate>(
         Ok(call) => {
             let n = next_call(*calls);
             *calls = n;
-            gate.before(n);
+            gate.tell_before(n, pass);
             let reply = reply_of(ask(rt, room, pass, call));
             match told(alloc, &reply) {
                 Ok(text) => Ok(Answered {
@@ -138,7 +138,7 @@ fn open(
 }
 
 // The answer to a message, as `answer_frame` tells.
-pub(crate) fn answer_message<R: Wait, G: Gate>(
+pub(crate) fn answer_message<R: Wait, G: Witness>(
     rt: &R,
     alloc: Global,
     hall: &Hall,
@@ -180,11 +180,11 @@ pub(crate) fn answer_message<R: Wait, G: Gate>(
 /// Until the connection has opened a room, an `open` (`wire_json::read_open`) is answered, and everything else is
 /// refused: an unknown room by 4. From then on the bytes are a request, as a line is for the line engine, at the opened
 /// room, and a further `open` is one of an unknown kind. Each call is counted, and the gate is told of its number before the
-/// room is asked; what is told after a call is the sender's.
+/// room is asked, when the pass is as it was; what is told after a call is the sender's.
 ///
 /// The only fault is `Memory`, where the text finds none; what the message did stays. Waits for those who drew a ticket
 /// of the room before.
-pub fn answer_frame<R: Wait, G: Gate>(
+pub fn answer_frame<R: Wait, G: Witness>(
     rt: &R,
     alloc: Global,
     hall: &Hall,

@@ -30,7 +30,7 @@ pub use counted::Counted;
 pub use engine::{serve, serve_lines};
 pub use fault::ServeFault;
 pub use frame::answer_frame;
-pub use gate::Gate;
+pub use gate::{Gate, Witness};
 pub use hall::{Hall, HallPass};
 pub use names::names_fit;
 pub use protocol::Protocol;

@@ -13,17 +13,17 @@ pub returns-in-Ok-clause-answered : goal.returns-in-Ok-clause-answered
 returns-in-Ok-clause-answered g c = (
   text (reply_of c.ask.result),
   Some c.next_call-n.result,
-  Answers-gated g.G.Gate.told_before (pass_step (opening c.args.room.now)) pass_fault
+  Answers-gated g.G.Witness.told_before (pass_step (opening c.args.room.now)) pass_fault
       (record { desk = view c.args.pass.now; calls = c.args.calls.now; gate = c.args.gate.now; made = None })
       (record {
         desk = view c.ask.new.pass;
         calls = c.next_call-n.result;
-        gate = c.before-in-Ok.new.self;
+        gate = c.tell_before.new.self;
         made =
             Some c.next_call-n.result;
       })
       c.args.bytes.now c.in-Ok.call c.ask.result c.in-Ok.ensures.asked
-      (c.next_call-n.ensures, refl, c.before-in-Ok.ensures) c.ask.ensures.answered,
+      (c.next_call-n.ensures, refl, c.tell_before.ensures) c.ask.ensures.answered,
   tt,
 )
 
@@ -31,17 +31,17 @@ pub returns-in-Ok-told-clause-answered : goal.returns-in-Ok-told-clause-answered
 returns-in-Ok-told-clause-answered g c = (
   text (reply_of c.ask.result),
   Some c.next_call-n.result,
-  Answers-gated g.G.Gate.told_before (pass_step (opening c.args.room.now)) pass_fault
+  Answers-gated g.G.Witness.told_before (pass_step (opening c.args.room.now)) pass_fault
       (record { desk = view c.args.pass.now; calls = c.args.calls.now; gate = c.args.gate.now; made = None })
       (record {
         desk = view c.ask.new.pass;
         calls = c.next_call-n.result;
-        gate = c.before-in-Ok.new.self;
+        gate = c.tell_before.new.self;
         made =
             Some c.next_call-n.result;
       })
       c.args.bytes.now c.in-Ok.call c.ask.result c.in-Ok.ensures.asked
-      (c.next_call-n.ensures, refl, c.before-in-Ok.ensures) c.ask.ensures.answered,
+      (c.next_call-n.ensures, refl, c.tell_before.ensures) c.ask.ensures.answered,
   (c.in-Ok-told.ensures.text ∙ ap text c.reply_of-reply.ensures, refl),
 )
 
@@ -49,7 +49,7 @@ pub returns-clause-answered : goal.returns-clause-answered
 returns-clause-answered g c = (
   text (No c.in-Err.refusal),
   None,
-  Answers-refused (gated_step g.G.Gate.told_before (pass_step (opening c.args.room.now))) (gated_fault g.G.Gate.told_before pass_fault)
+  Answers-refused (gated_step g.G.Witness.told_before (pass_step (opening c.args.room.now))) (gated_fault g.G.Witness.told_before pass_fault)
       (record { desk = view c.args.pass.now; calls = c.args.calls.now; gate = c.args.gate.now; made = None })
       (record { desk = view c.args.pass.now; calls = c.args.calls.now; gate = c.args.gate.now; made = None })
       c.args.bytes.now c.in-Err.refusal (Err c.in-Err.refusal)

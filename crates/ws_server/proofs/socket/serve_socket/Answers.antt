@@ -10,7 +10,7 @@ loop-preserved g c =
     let before : Side _ = record { conn = c.loop.conn; passes = c.loop.pass.passes.items; gate = c.loop.gate } in
     let after : Side _ = record { conn = c.serve_one.new.conn; passes = c.serve_one.new.pass.passes.items; gate = c.serve_one.new.gate } in
     let P : Bool → Type 0 = λ more.
-    ServesTurn g.S.Read.remaining g.S.Write.contents g.G.Gate.told_before g.G.Gate.told_after c.args.hall.now c.loop.socket before
+    ServesTurn g.S.Read.remaining g.S.Write.contents g.G.Witness.told_before g.G.Witness.told_after c.args.hall.now c.loop.socket before
     c.serve_one.new.socket after (Ok more) in (
       c.serve_one.ensures.pass,
       c.serve_one.ensures.conn,
@@ -23,7 +23,7 @@ returns-in-Ok-false-clause-served g c =
     let before : Side _ = record { conn = c.loop.conn; passes = c.loop.pass.passes.items; gate = c.loop.gate } in
     let after : Side _ = record { conn = c.serve_one.new.conn; passes = c.serve_one.new.pass.passes.items; gate = c.serve_one.new.gate } in
     let P : Bool → Type 0 = λ more.
-    ServesTurn g.S.Read.remaining g.S.Write.contents g.G.Gate.told_before g.G.Gate.told_after c.args.hall.now c.loop.socket before
+    ServesTurn g.S.Read.remaining g.S.Write.contents g.G.Witness.told_before g.G.Witness.told_after c.args.hall.now c.loop.socket before
     c.serve_one.new.socket after (Ok more) in
     let limited = c.set_config.ensures.limits in
     inr (
