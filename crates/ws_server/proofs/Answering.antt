@@ -44,7 +44,8 @@ Answers-refused {S} step fault old new line refusal asked same long (inr is) sta
 
 -- what the desk did, it did behind the gate
 gated : {S G : Type 0} (told_before : G → ℕ → S → G → Type 0) (step : S → Call → Reply → S → Type 0)
-    (fault : S → Call → DeskFault → S → Type 0) (old new : Gated S G) (call : Call) (done : Result Reply DeskFault) → TakesNumber told_before old new
+    (fault : S → Call → DeskFault → S → Type 0) (old new : Gated S G) (call : Call) (done : Result Reply DeskFault)
+    → TakesNumber told_before old new
     → MatchResult done (λ reply. step old.desk call reply new.desk) (λ why. fault old.desk call why new.desk)
     → MatchResult done (λ reply. gated_step told_before step old call reply new) (λ why. gated_fault told_before fault old call why new)
 gated told_before step fault old new call (Ok reply) takes did = (takes, did)

@@ -2,6 +2,7 @@ pub mod Lines
 pub mod Answers
 pub mod AnswerLaws
 pub mod LineBytes
+pub mod TextBytes
 pub mod ServedLines
 pub mod Calls
 pub mod Counting

@@ -55,7 +55,7 @@ fn refuse_long<W: Sink>(output: &mut Counted<W>) -> Result<(), ServeFault>
     ensures counted { Rises 0 0 output.old.failures output.new.failures result }
     ensures writes { CountsWrites W.writes output.old.inner output.old.failures output.new.inner output.new.failures }
 {
-    if output.write_all(refusal_line(Refusal::TooLong)) {
+    if output.write_all(refusal_line(Refusal::TooLong).as_bytes()) {
         Ok(())
     } else {
         Err(ServeFault::Write)

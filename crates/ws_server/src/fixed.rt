@@ -1,4 +1,4 @@
-//! The lines that tell refusals. They stand in the program, so that none needs memory.
+//! The lines and texts that tell refusals. They stand in the program, so that none needs memory.
 ghost use Rattle.std.specs.Prelude.{◌≡◌};
 ghost use Rattle.room.specs.declared.reply.Reply.TheVariants.{No};
 ghost use Rattle.wire_json.specs.Text.{text};
@@ -6,39 +6,47 @@ ghost use Rattle.ws_server.specs.Lines.{ended};
 
 use opid::Refusal;
 
+/// The text that tells a refusal: its line less the LF.
+pub(crate) fn refusal_text(why: Refusal) -> &'static str
+    ensures { result.now ≡ text (No why) }
+{
+    let line = refusal_line(why);
+    &line[..line.len() - 1]
+}
+
 /// The line that tells a refusal, with its LF.
-pub(crate) fn refusal_line(why: Refusal) -> &'static [u8]
+pub(crate) fn refusal_line(why: Refusal) -> &'static str
     ensures { result.now ≡ ended (text (No why)) }
 {
     match why {
-        Refusal::BadJson => b"{\"n\":1,\"r\":\"no\"}\n",
-        Refusal::BadField => b"{\"n\":2,\"r\":\"no\"}\n",
-        Refusal::UnknownKind => b"{\"n\":3,\"r\":\"no\"}\n",
-        Refusal::NoRoom => b"{\"n\":4,\"r\":\"no\"}\n",
-        Refusal::NoSession => b"{\"n\":5,\"r\":\"no\"}\n",
-        Refusal::TooManySessions => b"{\"n\":6,\"r\":\"no\"}\n",
-        Refusal::BadNumber => b"{\"n\":7,\"r\":\"no\"}\n",
-        Refusal::BadVersion => b"{\"n\":8,\"r\":\"no\"}\n",
-        Refusal::BadPlace => b"{\"n\":9,\"r\":\"no\"}\n",
-        Refusal::BadText => b"{\"n\":10,\"r\":\"no\"}\n",
-        Refusal::BadCount => b"{\"n\":11,\"r\":\"no\"}\n",
-        Refusal::Full => b"{\"n\":12,\"r\":\"no\"}\n",
-        Refusal::HistoryFull => b"{\"n\":13,\"r\":\"no\"}\n",
-        Refusal::BadSite => b"{\"n\":14,\"r\":\"no\"}\n",
-        Refusal::BadClock => b"{\"n\":15,\"r\":\"no\"}\n",
-        Refusal::OwnSite => b"{\"n\":16,\"r\":\"no\"}\n",
-        Refusal::Conflict => b"{\"n\":17,\"r\":\"no\"}\n",
-        Refusal::HoldFull => b"{\"n\":18,\"r\":\"no\"}\n",
-        Refusal::NotRising => b"{\"n\":19,\"r\":\"no\"}\n",
-        Refusal::UnknownElement => b"{\"n\":20,\"r\":\"no\"}\n",
-        Refusal::NotOlder => b"{\"n\":21,\"r\":\"no\"}\n",
-        Refusal::BadHave => b"{\"n\":22,\"r\":\"no\"}\n",
-        Refusal::BadRange => b"{\"n\":23,\"r\":\"no\"}\n",
-        Refusal::Busy => b"{\"n\":24,\"r\":\"no\"}\n",
-        Refusal::Worn => b"{\"n\":25,\"r\":\"no\"}\n",
-        Refusal::Memory => b"{\"n\":26,\"r\":\"no\"}\n",
-        Refusal::SiteUsed => b"{\"n\":27,\"r\":\"no\"}\n",
-        Refusal::BadSnapshot => b"{\"n\":28,\"r\":\"no\"}\n",
-        Refusal::TooLong => b"{\"n\":29,\"r\":\"no\"}\n",
+        Refusal::BadJson => "{\"n\":1,\"r\":\"no\"}\n",
+        Refusal::BadField => "{\"n\":2,\"r\":\"no\"}\n",
+        Refusal::UnknownKind => "{\"n\":3,\"r\":\"no\"}\n",
+        Refusal::NoRoom => "{\"n\":4,\"r\":\"no\"}\n",
+        Refusal::NoSession => "{\"n\":5,\"r\":\"no\"}\n",
+        Refusal::TooManySessions => "{\"n\":6,\"r\":\"no\"}\n",
+        Refusal::BadNumber => "{\"n\":7,\"r\":\"no\"}\n",
+        Refusal::BadVersion => "{\"n\":8,\"r\":\"no\"}\n",
+        Refusal::BadPlace => "{\"n\":9,\"r\":\"no\"}\n",
+        Refusal::BadText => "{\"n\":10,\"r\":\"no\"}\n",
+        Refusal::BadCount => "{\"n\":11,\"r\":\"no\"}\n",
+        Refusal::Full => "{\"n\":12,\"r\":\"no\"}\n",
+        Refusal::HistoryFull => "{\"n\":13,\"r\":\"no\"}\n",
+        Refusal::BadSite => "{\"n\":14,\"r\":\"no\"}\n",
+        Refusal::BadClock => "{\"n\":15,\"r\":\"no\"}\n",
+        Refusal::OwnSite => "{\"n\":16,\"r\":\"no\"}\n",
+        Refusal::Conflict => "{\"n\":17,\"r\":\"no\"}\n",
+        Refusal::HoldFull => "{\"n\":18,\"r\":\"no\"}\n",
+        Refusal::NotRising => "{\"n\":19,\"r\":\"no\"}\n",
+        Refusal::UnknownElement => "{\"n\":20,\"r\":\"no\"}\n",
+        Refusal::NotOlder => "{\"n\":21,\"r\":\"no\"}\n",
+        Refusal::BadHave => "{\"n\":22,\"r\":\"no\"}\n",
+        Refusal::BadRange => "{\"n\":23,\"r\":\"no\"}\n",
+        Refusal::Busy => "{\"n\":24,\"r\":\"no\"}\n",
+        Refusal::Worn => "{\"n\":25,\"r\":\"no\"}\n",
+        Refusal::Memory => "{\"n\":26,\"r\":\"no\"}\n",
+        Refusal::SiteUsed => "{\"n\":27,\"r\":\"no\"}\n",
+        Refusal::BadSnapshot => "{\"n\":28,\"r\":\"no\"}\n",
+        Refusal::TooLong => "{\"n\":29,\"r\":\"no\"}\n",
     }
 }

@@ -1,24 +1,25 @@
 //! The answer to one message.
 ghost use Rattle.std.specs.Prelude.{◌≡◌, ℕ, ◌<◌, List, Option, IfOk, IfErr, IfSome, MatchResult, None, Ok, length, string_bytes};
-ghost use Rattle.wire_json.specs.Text.{text};
 ghost use Rattle.shared_room.specs.Turns.{Answers, FaultsPass};
 ghost use Rattle.shared_room.specs.Views.{view, opening, IsPassOf};
 ghost use Rattle.ws_server.specs.declared.fault.ServeFault.TheVariants.{Memory};
-ghost use Rattle.ws_server.specs.Answers.{reply_of};
+ghost use Rattle.ws_server.specs.TextBytes.{text_bytes};
 ghost use Rattle.ws_server.specs.Halls.{rooms_of, IsHallPassOf, IsConnOf};
 ghost use Rattle.ws_server.specs.Frames.{AnswersOver, AnswersFrame, Opens};
 ghost use Rattle.ws_server.specs.Gates.{next_call};
 
+use crate::answer_text::AnswerText;
 use crate::conn::Conn;
 use crate::fault::ServeFault;
 use crate::gate::Witness;
 use crate::hall::{Hall, HallPass};
+use crate::requests::reply_of;
 use opid::Refusal;
 use room::{Call, Desk, DeskFault, Reply};
 use shared_room::{Pass, PassDesk, SharedRoom};
 use std::alloc::Global;
 use std::sync::Wait;
-use wire_json::{read_open, read_request, write_reply};
+use wire_json::{read_open, read_request};
 
 // The text that tells that a room was opened.
 const OPENED: &str = "{\"r\":\"opened\"}";
@@ -26,19 +27,8 @@ const OPENED: &str = "{\"r\":\"opened\"}";
 /// What answers a message, and the number of the call that it made, if it made one.
 #[derive(Drop)]
 pub(crate) struct Answered {
-    pub(crate) text: String,
+    pub(crate) text: AnswerText,
     pub(crate) call: Option<u64>,
-}
-
-// The text of a reply.
-fn told(alloc: Global, reply: &Reply) -> Result<String, ServeFault>
-    ensures text { IfOk result (λ made. string_bytes made ≡ text reply.now) }
-    ensures memory { IfErr result (λ why. why ≡ Memory) }
-{
-    match write_reply(alloc, reply) {
-        Ok(text) => Ok(text),
-        Err(_) => Err(ServeFault::Memory),
-    }
 }
 
 // What the room tells, through the pass, at its turn.
@@ -50,17 +40,6 @@ fn ask<R: Wait>(rt: &R, room: &SharedRoom, pass: &mut Pass, call: Call) -> Resul
 {
     let mut desk = PassDesk::new(rt, room, pass);
     desk.call(call)
-}
-
-// What a desk did, as a reply.
-fn reply_of(done: Result<Reply, DeskFault>) -> Reply
-    ensures { result ≡ reply_of done }
-{
-    match done {
-        Ok(reply) => reply,
-        Err(DeskFault::Worn) => Reply::No(Refusal::Worn),
-        Err(DeskFault::Memory) => Reply::No(Refusal::Memory),
-    }
 }
 
 // The number of the call after so many.
@@ -85,7 +64,7 @@ fn answer_over<R: Wait, G: Witness>(
     ensures answered { (answer : List ℕ) × (made : Option ℕ)
         × AnswersOver G.told_before room.now (record { desk = pass.old; calls = calls.old; gate = gate.old; made = None }) bytes.now answer
         (record { desk = pass.new; calls = calls.new; gate = gate.new; made = made })
-        × IfOk result (λ answered. (string_bytes answered.text ≡ answer) × (answered.call ≡ made)) }
+        × IfOk result (λ answered. (text_bytes answered.text ≡ answer) × (answered.call ≡ made)) }
     ensures memory { IfErr result (λ why. why ≡ Memory) }
 {
     match read_request(alloc, bytes) {
@@ -94,46 +73,37 @@ fn answer_over<R: Wait, G: Witness>(
             *calls = n;
             gate.tell_before(n, pass);
             let reply = reply_of(ask(rt, room, pass, call));
-            match told(alloc, &reply) {
+            match AnswerText::new(alloc, &reply) {
                 Ok(text) => Ok(Answered {
                     text,
                     call: Some(n),
                 }),
-                Err(why) => Err(why),
+                Err(_) => Err(ServeFault::Memory),
             }
         }
-        Err(refusal) => match told(alloc, &Reply::No(refusal)) {
-            Ok(text) => Ok(Answered { text, call: None }),
-            Err(why) => Err(why),
-        },
+        Err(refusal) => Ok(Answered {
+            text: AnswerText::refusal(refusal),
+            call: None,
+        }),
     }
 }
 
 // The answer to a message of a connection that has opened no room.
-fn open(
-    alloc: Global,
-    hall: &Hall,
-    opened: &mut Option<usize>,
-    bytes: &[u8],
-) -> Result<String, ServeFault>
+fn open(alloc: Global, hall: &Hall, opened: &mut Option<usize>, bytes: &[u8]) -> AnswerText
     requires { opened.old ≡ None }
-    ensures opened { (answer : List ℕ) × Opens hall.now bytes.now answer opened.new × IfOk result (λ made. string_bytes made ≡ answer) }
+    ensures opened { Opens hall.now bytes.now (text_bytes result) opened.new }
     ensures within { IfSome opened.new (λ at. at < length (rooms_of hall.now)) }
-    ensures memory { IfErr result (λ why. why ≡ Memory) }
 {
     let name = match read_open(alloc, bytes) {
         Ok(name) => name,
-        Err(why) => return told(alloc, &Reply::No(why)),
+        Err(why) => return AnswerText::refusal(why),
     };
     match hall.place(name.as_str()) {
         Some(at) => {
             *opened = Some(at);
-            match String::from_str(alloc, OPENED) {
-                Ok(text) => Ok(text),
-                Err(_) => Err(ServeFault::Memory),
-            }
+            AnswerText::Fixed(OPENED)
         }
-        None => told(alloc, &Reply::No(Refusal::NoRoom)),
+        None => AnswerText::refusal(Refusal::NoRoom),
     }
 }
 
@@ -155,14 +125,14 @@ pub(crate) fn answer_message<R: Wait, G: Witness>(
         × AnswersFrame G.told_before hall.now (record { conn = conn.old; passes = pass.old.passes.items; gate = gate.old })
         bytes.now answer made
         (record { conn = conn.new; passes = pass.new.passes.items; gate = gate.new })
-        × IfOk result (λ answered. (string_bytes answered.text ≡ answer) × (answered.call ≡ made)) }
+        × IfOk result (λ answered. (text_bytes answered.text ≡ answer) × (answered.call ≡ made)) }
     ensures memory { IfErr result (λ why. why ≡ Memory) }
 {
     match conn.opened {
-        None => match open(alloc, hall, &mut conn.opened, bytes) {
-            Ok(text) => Ok(Answered { text, call: None }),
-            Err(why) => Err(why),
-        },
+        None => Ok(Answered {
+            text: open(alloc, hall, &mut conn.opened, bytes),
+            call: None,
+        }),
         Some(at) => answer_over(
             rt,
             alloc,
@@ -205,5 +175,8 @@ pub fn answer_frame<R: Wait, G: Witness>(
     ensures memory { IfErr result (λ why. why ≡ Memory) }
 {
     let Answered { text, call: _ } = answer_message(rt, alloc, hall, pass, conn, bytes, gate)?;
-    Ok(text)
+    match text.into_string(alloc) {
+        Ok(text) => Ok(text),
+        Err(_) => Err(ServeFault::Memory),
+    }
 }

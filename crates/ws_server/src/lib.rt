@@ -2,6 +2,7 @@
 //! hall of rooms by name, and an answer for each message.
 #![tactic(auto)]
 
+mod answer_text;
 mod carrying;
 mod conn;
 mod counted;

@@ -40,7 +40,7 @@ impl ReplyLine {
     pub fn refusal(why: Refusal) -> ReplyLine
         ensures { line_bytes result ≡ ended (text (No why)) }
     {
-        ReplyLine::Fixed(refusal_line(why))
+        ReplyLine::Fixed(refusal_line(why).as_bytes())
     }
 
     /// The bytes. Constant time.

@@ -1,9 +1,6 @@
 //! Lines that are requests, answered by a desk.
-ghost use Rattle.std.specs.Prelude.{◌≡◌, List, ℕ, IfOk};
-ghost use Rattle.wire_json.specs.Text.{text};
-ghost use Rattle.ws_server.specs.Lines.{ended};
-ghost use Rattle.ws_server.specs.LineBytes.{line_bytes};
-ghost use Rattle.ws_server.specs.Answers.{Answers, reply_of};
+ghost use Rattle.std.specs.Prelude.{◌≡◌};
+ghost use Rattle.ws_server.specs.Answers.{reply_of};
 
 use crate::protocol::Protocol;
 use crate::reply_line::ReplyLine;
@@ -33,10 +30,7 @@ impl<D: Desk> Protocol for Requests<D> {
 
     fn answer(alloc: Global, desk: &mut D, line: &[u8]) -> Result<ReplyLine, AllocError> {
         match read_request(alloc, line) {
-            Ok(call) => {
-                let done = desk.call(call);
-                told(alloc, done)
-            }
+            Ok(call) => ReplyLine::new(alloc, &reply_of(desk.call(call))),
             Err(refusal) => Ok(ReplyLine::refusal(refusal)),
         }
     }
@@ -46,13 +40,13 @@ impl<D: Desk> Protocol for Requests<D> {
     ghost refuses_long = { λ desk line long. Answers-long D.step D.fault desk line long };
 }
 
-// The line for what the desk answered.
-fn told(alloc: Global, done: Result<Reply, DeskFault>) -> Result<ReplyLine, AllocError>
-    ensures { IfOk result (λ made. line_bytes made ≡ ended (text (reply_of done))) }
+// What a desk did, as a reply.
+pub(crate) fn reply_of(done: Result<Reply, DeskFault>) -> Reply
+    ensures { result ≡ reply_of done }
 {
     match done {
-        Ok(reply) => ReplyLine::new(alloc, &reply),
-        Err(DeskFault::Worn) => Ok(ReplyLine::refusal(Refusal::Worn)),
-        Err(DeskFault::Memory) => Ok(ReplyLine::refusal(Refusal::Memory)),
+        Ok(reply) => reply,
+        Err(DeskFault::Worn) => Reply::No(Refusal::Worn),
+        Err(DeskFault::Memory) => Reply::No(Refusal::Memory),
     }
 }

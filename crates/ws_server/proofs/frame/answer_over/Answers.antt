@@ -27,8 +27,8 @@ returns-in-Ok-clause-answered g c = (
   tt,
 )
 
-pub returns-in-Ok-told-clause-answered : goal.returns-in-Ok-told-clause-answered
-returns-in-Ok-told-clause-answered g c = (
+pub returns-in-Ok-new-clause-answered : goal.returns-in-Ok-new-clause-answered
+returns-in-Ok-new-clause-answered g c = (
   text (reply_of c.ask.result),
   Some c.next_call-n.result,
   Answers-gated g.G.Witness.told_before (pass_step (opening c.args.room.now)) pass_fault
@@ -42,17 +42,18 @@ returns-in-Ok-told-clause-answered g c = (
       })
       c.args.bytes.now c.in-Ok.call c.ask.result c.in-Ok.ensures.asked
       (c.next_call-n.ensures, refl, c.tell_before.ensures) c.ask.ensures.answered,
-  (c.in-Ok-told.ensures.text ∙ ap text c.reply_of-reply.ensures, refl),
+  (c.in-Ok-new.ensures ∙ ap text c.reply_of-reply.ensures, refl),
 )
 
 pub returns-clause-answered : goal.returns-clause-answered
 returns-clause-answered g c = (
   text (No c.in-Err.refusal),
   None,
-  Answers-refused (gated_step g.G.Witness.told_before (pass_step (opening c.args.room.now))) (gated_fault g.G.Witness.told_before pass_fault)
+  Answers-refused (gated_step g.G.Witness.told_before (pass_step (opening c.args.room.now)))
+      (gated_fault g.G.Witness.told_before pass_fault)
       (record { desk = view c.args.pass.now; calls = c.args.calls.now; gate = c.args.gate.now; made = None })
       (record { desk = view c.args.pass.now; calls = c.args.calls.now; gate = c.args.gate.now; made = None })
       c.args.bytes.now c.in-Err.refusal (Err c.in-Err.refusal)
       refl c.in-Err.ensures.too_long c.in-Err.ensures.asked refl,
-  tt,
+  (c.refusal.ensures, refl),
 )

@@ -1,17 +1,20 @@
 -- A line is answered by what the desk did, or by its refusal.
-use Rattle.std.proofs.Common.{refl, Err}
+use Rattle.std.proofs.Common.{◌≡◌, IfOk, refl, subst, Err}
 use Rattle.wire_json.specs.Text.{text}
+use Rattle.room.specs.declared.reply.Reply.{Reply}
 use Rattle.room.specs.declared.reply.Reply.TheVariants.{No}
 use Rattle.ws_server.specs.Answers.{reply_of}
+use Rattle.ws_server.specs.Lines.{ended}
+use Rattle.ws_server.specs.LineBytes.{line_bytes}
 use Rattle.ws_server.proofs.Answering.{Answers-asked, Answers-refused}
 use Rattle.ws_server.proofs.requests.RequestsProtocol.answer.Goals as goal
 
 pub returns-in-Ok-clause-answered : goal.returns-in-Ok-clause-answered
 returns-in-Ok-clause-answered g c = (
-  text (reply_of c.call-done.result),
-  Answers-asked g.D.Desk.step g.D.Desk.fault c.args.desk.now c.call-done.new.self c.args.line.now c.in-Ok.call c.call-done.result
-      c.in-Ok.ensures.asked c.call-done.ensures.answered,
-  c.told.ensures,
+  text (reply_of c.call.result),
+  Answers-asked g.D.Desk.step g.D.Desk.fault c.args.desk.now c.call.new.self c.args.line.now c.in-Ok.call c.call.result
+      c.in-Ok.ensures.asked c.call.ensures.answered,
+  subst (λ (r : Reply). IfOk c.new.result (λ made. line_bytes made ≡ ended (text r))) c.reply_of.ensures c.new.ensures,
 )
 
 pub returns-in-Err-clause-answered : goal.returns-in-Err-clause-answered
