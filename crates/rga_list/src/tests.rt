@@ -196,22 +196,6 @@ fn a_reserve_is_enough(rt: HostRuntime) -> Result<(), Fail> {
     Ok(())
 }
 
-/// Takes the memory that the two tests before it take, and fails where any of it is refused: `bin/refused_memory` refuses
-/// one allocation after another until this test passes.
-#[test]
-fn ample_memory_is_enough(rt: HostRuntime) -> Result<(), Fail> {
-    let mut rga = Rga::new(rt.alloc());
-    for n in 0..14u8 {
-        insert(&mut rga, u32::from(n) + 1, n % 3, None, 'a')?;
-    }
-    assert_eq!(rt; rga.len(), 14);
-    let mut rga = Rga::new(rt.alloc());
-    insert(&mut rga, 1, 31, None, 'a')?;
-    rga.reserve(40)?;
-    assert_eq!(rt; rga.len(), 1);
-    Ok(())
-}
-
 /// Numbers that look random, always the same.
 #[derive(Drop)]
 struct Dice(u64);
