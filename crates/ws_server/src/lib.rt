@@ -12,6 +12,8 @@ mod fixed;
 mod frame;
 mod gate;
 mod hall;
+#[cfg(test)]
+mod memory_tests;
 mod names;
 mod protocol;
 mod reply_line;

@@ -1,0 +1,180 @@
+//! Lines that lack memory, each served by an engine of its own over one desk. These tests pass whatever allocation is refused:
+//! `bin/refused_memory` refuses each of them in turn.
+use crate::counted::Counted;
+use crate::engine::serve_lines;
+use crate::fault::ServeFault;
+use opid::Site;
+use room::{Room, RoomDesk};
+use std::alloc::Global;
+use std::test::Fail;
+
+// More bytes than any answer here has.
+const MOST: usize = 256;
+
+// What became of a line.
+#[derive(Clone, Copy, Debug, PartialEq, Eq)]
+enum Served {
+    AsWithAmpleMemory,
+    // Refused for want of memory, or the engine ended before it read: nothing was done.
+    NotDone,
+    // The engine ended when its answer found no memory, and wrote nothing of it.
+    NotTold,
+    Otherwise,
+}
+
+fn serve(alloc: Global, desk: &mut RoomDesk, line: &[u8], want: &[u8]) -> Served {
+    let mut written = [0; MOST];
+    let mut input = Counted::new(line);
+    let mut output = Counted::new(&mut written[..]);
+    let end = serve_lines(alloc, desk, &mut input, &mut output);
+    let unread = input.into_inner().len();
+    let left = output.into_inner().len();
+    let told = &written[..MOST.saturating_sub(left)];
+    match end {
+        Ok(()) if told == want => Served::AsWithAmpleMemory,
+        Ok(()) if told == b"{\"n\":26,\"r\":\"no\"}\n".as_slice() => Served::NotDone,
+        Err(ServeFault::Memory) if told.is_empty() && unread == line.len() => Served::NotDone,
+        Err(ServeFault::Memory) if told.is_empty() => Served::NotTold,
+        _ => Served::Otherwise,
+    }
+}
+
+// Whether each line is answered as with ample memory, once it was sent again where it wasn't done. What was done and not told
+// ends the run; a submission is first sent again, and gets the kept reply.
+fn bears_want(alloc: Global, desk: &mut RoomDesk, lines: &[(&[u8], &[u8])]) -> bool {
+    for (line, want) in lines {
+        let mut served = serve(alloc, desk, line, want);
+        if served == Served::NotDone {
+            served = serve(alloc, desk, line, want);
+        }
+        if served == Served::NotTold {
+            let is_submission = line.starts_with(b"{\"t\":\"ins\"")
+                || line.starts_with(b"{\"t\":\"del\"");
+            return !is_submission || serve(alloc, desk, line, want) == Served::AsWithAmpleMemory;
+        }
+        if served != Served::AsWithAmpleMemory {
+            return false;
+        }
+    }
+    true
+}
+
+fn bears_want_from_an_empty_room(
+    alloc: Global,
+    lines: &[(&[u8], &[u8])],
+) -> std::result::Result<bool, Fail> {
+    let mut desk = RoomDesk::new(Room::new(alloc, Site::new(0)?));
+    Ok(bears_want(alloc, &mut desk, lines))
+}
+
+const JOIN: (&[u8], &[u8]) = (
+    b"{\"t\":\"join\"}",
+    b"{\"r\":\"joined\",\"s\":1,\"v\":0,\"x\":\"\"}\n",
+);
+
+const H: (&[u8], &[u8]) = (
+    b"{\"t\":\"ins\",\"s\":1,\"n\":1,\"v\":0,\"k\":0,\"x\":\"H\"}",
+    b"{\"from\":0,\"r\":\"ok\",\"to\":1}\n",
+);
+
+const PULLED_H: (&[u8], &[u8]) = (
+    b"{\"t\":\"pull\",\"s\":1,\"have\":0,\"max\":64}",
+    b"{\"es\":[[\"i\",0,\"H\"]],\"from\":0,\"r\":\"edits\"}\n",
+);
+
+const OPS_OF_H: (&[u8], &[u8]) = (
+    b"{\"t\":\"ops\",\"after\":0,\"max\":64}",
+    b"{\"from\":0,\"ops\":[{\"c\":[[0,1]],\"k\":\"i\",\"p\":null,\"s\":0,\"x\":\"H\"}],\"r\":\"ops\"}\n",
+);
+
+#[test]
+fn a_join_and_an_insertion(rt: HostRuntime) -> std::result::Result<(), Fail> {
+    let all = bears_want_from_an_empty_room(rt.alloc(), &[JOIN, H, PULLED_H, OPS_OF_H])?;
+    assert!(rt; all);
+    Ok(())
+}
+
+#[test]
+fn an_insertion_in_an_old_version(rt: HostRuntime) -> std::result::Result<(), Fail> {
+    let all = bears_want_from_an_empty_room(
+        rt.alloc(),
+        &[
+            JOIN,
+            (
+                b"{\"t\":\"ins\",\"s\":1,\"n\":1,\"v\":0,\"k\":0,\"x\":\"abc\"}",
+                b"{\"from\":0,\"r\":\"ok\",\"to\":3}\n",
+            ),
+            (
+                b"{\"t\":\"pull\",\"s\":1,\"have\":0,\"max\":64}",
+                b"{\"es\":[[\"i\",0,\"a\"],[\"i\",1,\"b\"],[\"i\",2,\"c\"]],\"from\":0,\"r\":\"edits\"}\n",
+            ),
+            (
+                b"{\"t\":\"del\",\"s\":1,\"n\":2,\"v\":3,\"k\":1,\"c\":1}",
+                b"{\"from\":3,\"r\":\"ok\",\"to\":4}\n",
+            ),
+            (
+                b"{\"t\":\"ins\",\"s\":1,\"n\":3,\"v\":3,\"k\":2,\"x\":\"X\"}",
+                b"{\"from\":4,\"r\":\"ok\",\"to\":5}\n",
+            ),
+            (
+                b"{\"t\":\"pull\",\"s\":1,\"have\":3,\"max\":64}",
+                b"{\"es\":[[\"d\",1],[\"i\",1,\"X\"]],\"from\":3,\"r\":\"edits\"}\n",
+            ),
+            (
+                b"{\"t\":\"read\"}",
+                b"{\"r\":\"text\",\"v\":5,\"x\":\"aXc\"}\n",
+            ),
+        ],
+    )?;
+    assert!(rt; all);
+    Ok(())
+}
+
+#[test]
+fn what_is_early_is_held_back(rt: HostRuntime) -> std::result::Result<(), Fail> {
+    let early: &[u8] =
+        b"{\"t\":\"put\",\"ops\":[{\"c\":[[1,2]],\"k\":\"i\",\"p\":[1,1],\"s\":1,\"x\":\"b\"}]}";
+    let all = bears_want_from_an_empty_room(
+        rt.alloc(),
+        &[
+            (early, b"{\"os\":[[\"kept\"]],\"r\":\"put\"}\n"),
+            (
+                b"{\"t\":\"put\",\"ops\":[{\"c\":[[1,1]],\"k\":\"i\",\"p\":null,\"s\":1,\"x\":\"a\"}]}",
+                b"{\"os\":[[\"took\",2,0]],\"r\":\"put\"}\n",
+            ),
+            (early, b"{\"os\":[[\"again\"]],\"r\":\"put\"}\n"),
+            (
+                b"{\"t\":\"read\"}",
+                b"{\"r\":\"text\",\"v\":2,\"x\":\"ab\"}\n",
+            ),
+        ],
+    )?;
+    assert!(rt; all);
+    Ok(())
+}
+
+#[test]
+fn operations_that_are_refused(rt: HostRuntime) -> std::result::Result<(), Fail> {
+    let all = bears_want_from_an_empty_room(
+        rt.alloc(),
+        &[
+            JOIN,
+            H,
+            PULLED_H,
+            (
+                b"{\"t\":\"ins\",\"s\":1,\"n\":2,\"v\":1,\"k\":1,\"x\":\"I\"}",
+                b"{\"from\":1,\"r\":\"ok\",\"to\":2}\n",
+            ),
+            (
+                b"{\"t\":\"put\",\"ops\":[{\"c\":[[1,1]],\"k\":\"i\",\"p\":[2,0],\"s\":1,\"x\":\"p\"},{\"c\":[[1,1]],\"k\":\"i\",\"p\":[9,9],\"s\":1,\"x\":\"p\"},{\"c\":[[0,1],[1,1]],\"k\":\"i\",\"p\":[1,0],\"s\":1,\"x\":\"p\"},{\"c\":[[1,2]],\"k\":\"d\",\"s\":1,\"t\":[1,0]}]}",
+                b"{\"os\":[[\"no\",21],[\"no\",20],[\"took\",1,0],[\"no\",19]],\"r\":\"put\"}\n",
+            ),
+            (
+                b"{\"t\":\"read\"}",
+                b"{\"r\":\"text\",\"v\":3,\"x\":\"HpI\"}\n",
+            ),
+        ],
+    )?;
+    assert!(rt; all);
+    Ok(())
+}
