@@ -41,7 +41,10 @@ impl SharedRoom {
     /// `Call`, is a reply too.
     ///
     /// Refused with `Worn` where the pass has no draw left, and nothing has changed then; and with `Memory`, where a turn
-    /// was taken and the call wasn't recorded. Takes the steps of `Room::call`, and waits for those who drew before.
+    /// was taken and the call wasn't recorded.
+    ///
+    /// Waits without a ticket until none is open, draws one, and then waits for those who drew before. Who of several
+    /// that wait so draws first isn't told. Takes the steps of `Room::call`.
     pub fn call<R: Wait>(&self, rt: &R, pass: &mut Pass, call: Call) -> Result<Reply, Refusal>
         requires { IsPassOf self.now pass.old }
         ensures pass { IsPassOf self.now pass.new }
@@ -51,6 +54,9 @@ impl SharedRoom {
         ensures worn_same { (result ≡ Err Why.Worn) → view pass.new ≡ view pass.old }
         ensures memory { (result ≡ Err Why.Memory) → Visits (view pass.old) (view pass.new) }
     {
+        if pass.left() > 0 {
+            self.lock.wait_until_free(rt);
+        }
         let Ok(ticket) = self.lock.draw(&mut pass.pass) else {
             return Err(Refusal::Worn);
         };
