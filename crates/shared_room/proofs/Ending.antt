@@ -15,7 +15,7 @@ use Rattle.room.specs.Machine.{State, may_record, answer}
 use Rattle.room.specs.History.{Account, state_of, mark_from, mark, called}
 use Rattle.history_lock.specs.declared.pass.Sight.{Sight}
 use Rattle.history_lock.specs.Sights.{finished, drew, took, peeked_at, won, joined, learned, longer}
-use Rattle.history_lock.specs.Turns.{LeftFor}
+use Rattle.history_lock.specs.Turns.{LeftFor, TookTurns}
 use Rattle.history_lock.proofs.Prefixes.{prefix_trans}
 use Rattle.history_lock.specs.Locks as locks
 use Rattle.shared_room.specs.declared.kept.Item.{Item}
@@ -229,9 +229,9 @@ joins_after s o n is first second = record {
 }
 
 pub meets_after : {T E : Type 0} (r : Result T E) (a b a' b' : Sight Item) → OnOk r (locks.Meets a b a' b')
-    → OnOk r (Meets (view_of a) (view_of b) (view_of a') (view_of b'))
-meets_after (Err e) a b a' b' m = tt
-meets_after (Ok done) a b a' b' m =
+    → OnOk r (TookTurns a b a' b') → OnOk r (Meets (view_of a) (view_of b) (view_of a') (view_of b'))
+meets_after (Err e) a b a' b' m took = tt
+meets_after (Ok done) a b a' b' m took =
     let second : IsPrefix b.seen b'.seen = prefix_trans b.seen a'.seen b'.seen m.second m.both in record {
       first = (
         record {
@@ -249,6 +249,7 @@ meets_after (Ok done) a b a' b' m =
         },
         record { seen = ap calls_of m.found.1; mine = ap calls_of m.mine.1 },
       );
+      order = took.order;
       told = calls_prefix b.seen a'.seen m.second;
       both = calls_prefix a'.seen b'.seen m.both;
     }
