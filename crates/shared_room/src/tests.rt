@@ -15,6 +15,8 @@ use std::test::Fail;
 use std::thread::{Threads, join, sleep};
 use std::time::{Clock, Duration};
 
+mod together;
+
 fn opened(alloc: Global) -> Result<(SharedRoom, Pass), Fail>
     ensures { IfOk result (λ r. IsPassOf r.0 r.1) }
 {
@@ -174,19 +176,14 @@ fn a_lone_pass_is_never_busy(rt: HostRuntime) -> Result<(), Fail> {
     Ok(())
 }
 
-// Whether the room reads two characters, within 400,000 calls that are 10 microseconds apart.
-fn finds_both<R: Wait + Clock>(rt: &R, room: &SharedRoom, pass: &mut Pass) -> bool
+// Waits until the room reads a text with these characters: 400,000 reads at most, 10 microseconds apart.
+fn finds<R: Wait + Clock>(rt: &R, room: &SharedRoom, pass: &mut Pass, characters: &str) -> bool
     requires { IsPassOf room.now pass.old }
     ensures { IsPassOf room.now pass.new }
 {
     for _ in 0..400_000 {
-        match room.call(rt, pass, Call::Read) {
-            Ok(Reply::Text { v, x: _ }) => {
-                if v == 2 {
-                    return true;
-                }
-            }
-            _ => return false,
+        if reads(rt, room, pass, characters) {
+            return true;
         }
         sleep(rt, Duration::from_micros(10));
     }
@@ -194,10 +191,16 @@ fn finds_both<R: Wait + Clock>(rt: &R, room: &SharedRoom, pass: &mut Pass) -> bo
 }
 
 // Inserts through its own session, and waits for the other's character.
-fn takes_part<R: Wait + Clock>(rt: &R, room: &SharedRoom, mut pass: Pass, call: Call) -> bool
+fn takes_part<R: Wait + Clock>(
+    rt: &R,
+    room: &SharedRoom,
+    mut pass: Pass,
+    call: Call,
+    other: &str,
+) -> bool
     requires { IsPassOf room.now pass }
 {
-    room.call(rt, &mut pass, call).is_ok() && finds_both(rt, room, &mut pass)
+    room.call(rt, &mut pass, call).is_ok() && finds(rt, room, &mut pass, other)
 }
 
 fn both_find<R: Threads + Wait + Clock + Sync>(
@@ -214,10 +217,10 @@ fn both_find<R: Threads + Wait + Clock + Sync>(
         rt,
         || -> bool
             requires { IsSync R.row × IsPassOf room.now a }
-        { takes_part(rt, room, a, first) },
+        { takes_part(rt, room, a, first, "b") },
         || -> bool
             requires { IsSync R.row × IsPassOf room.now b }
-        { takes_part(rt, room, b, second) },
+        { takes_part(rt, room, b, second, "a") },
     )
 }
 
