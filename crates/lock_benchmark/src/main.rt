@@ -1,5 +1,6 @@
-//! Turns at the ticket lock, and at std's `Mutex`, by 2, 8 and 64 threads: turns a second, and processor time for each turn.
-//! Then reads of a small room, alone and by 8 threads.
+//! Turns at the ticket lock and at std's `Mutex`, by 1, 2, 8 and 64 threads, and then reads of a small room by 1 and 8: how
+//! many a second, and for each the time that passed and the processor time, in nanoseconds. What is measured is each
+//! time the second of two runs.
 #![tactic(auto)]
 
 ghost use Rattle.std.specs.Prelude.{◌≤◌, [], ◌<◌};
@@ -21,6 +22,8 @@ const MOST_CALLS: u64 = 1_000_000;
 const USAGE: &str =
     "usage: lock_benchmark TURNS (how many turns the threads of a run take together)";
 
+const LOCKS: [What; 3] = [What::Tickets, What::TicketsWhenFree, What::Mutex];
+
 /// A value with no trail.
 #[derive(Drop)]
 struct Count {
@@ -35,17 +38,22 @@ impl Trailed for Count {
     ghost mark = { λ _. 0 };
 }
 
+// Draws when no ticket is open, where it waits, and else at once.
 fn take_turns<R: Wait>(
     rt: &R,
     lock: &TicketLock<Count>,
     start: &Barrier,
     mut pass: Pass<Count>,
     turns: u64,
+    waits: bool,
 )
     requires { IsPassOf lock.now pass × IsIdle pass }
 {
     start.wait(rt);
     for _ in 0..turns {
+        if waits {
+            lock.wait_until_free(rt);
+        }
         let Ok(ticket) = lock.draw(&mut pass) else {
             return;
         };
@@ -63,11 +71,12 @@ fn by_tickets<R: Threads + Wait + Sync>(
     mut pass: Pass<Count>,
     threads: u64,
     turns: u64,
+    waits: bool,
 )
     requires { IsPassOf lock.now pass × IsIdle pass }
 {
     if threads < 2 {
-        return take_turns(rt, lock, start, pass, turns);
+        return take_turns(rt, lock, start, pass, turns, waits);
     }
     let half = threads / 2;
     let draws = pass.left() / 2;
@@ -78,10 +87,10 @@ fn by_tickets<R: Threads + Wait + Sync>(
         rt,
         ||
             requires { IsSync R.row × IsPassOf lock.now pass × IsIdle pass }
-        { by_tickets(rt, lock, start, pass, half, turns) },
+        { by_tickets(rt, lock, start, pass, half, turns, waits) },
         ||
             requires { IsSync R.row × IsPassOf lock.now other × IsIdle other × (half ≤ threads) }
-        { by_tickets(rt, lock, start, other, threads - half, turns) },
+        { by_tickets(rt, lock, start, other, threads - half, turns, waits) },
     );
 }
 
@@ -115,20 +124,30 @@ fn by_mutex<R: Threads + Wait + Sync>(
     );
 }
 
+/// What the threads of a run do.
 #[derive(Clone, Copy)]
-enum By {
+enum What {
     Tickets,
+    TicketsWhenFree,
     Mutex,
+    Room,
+    SharedRoom,
+    LockedRoom,
 }
 
-impl By {
+impl What {
     fn name(self) -> &'static str {
         match self {
-            By::Tickets => "ticket lock",
-            By::Mutex => "std's Mutex",
+            What::Tickets => "turns at the ticket lock",
+            What::TicketsWhenFree => "turns at the ticket lock, drawn when it is free",
+            What::Mutex => "turns at std's Mutex",
+            What::Room => "reads at a room",
+            What::SharedRoom => "reads through a shared room",
+            What::LockedRoom => "reads of a room behind std's Mutex",
         }
     }
 
+    // Each of so many threads takes so many turns. A room is for one thread.
     fn run<R: Threads + Wait + Sync>(
         self,
         rt: &R,
@@ -138,14 +157,45 @@ impl By {
     ) -> Result<(), AllocError> {
         let start = Barrier::new(threads as usize);
         match self {
-            By::Tickets => {
+            What::Tickets | What::TicketsWhenFree => {
                 let (lock, pass) = TicketLock::new(alloc, Count { turns: 0 })?;
-                by_tickets(rt, &lock, &start, pass, threads, turns);
+                let waits = matches!(self, What::TicketsWhenFree);
+                by_tickets(rt, &lock, &start, pass, threads, turns, waits);
+                Ok(())
             }
-            By::Mutex => by_mutex(rt, &Mutex::new(0), &start, threads, turns),
+            What::Mutex => {
+                by_mutex(rt, &Mutex::new(0), &start, threads, turns);
+                Ok(())
+            }
+            What::Room => rooms::read_alone(alloc, turns),
+            What::SharedRoom => rooms::read_by_passes(rt, alloc, &start, threads, turns),
+            What::LockedRoom => rooms::read_by_mutex(rt, alloc, &start, threads, turns),
         }
-        Ok(())
     }
+}
+
+// Runs twice, and prints what the second run took: the first one's memory lies ready for it.
+fn print_run<R: Threads + Wait + Clock + CpuClock + Print + Sync>(
+    rt: &R,
+    alloc: Global,
+    what: What,
+    threads: u64,
+    turns: u64,
+) -> io::Result<()> {
+    let each = turns / threads.max(1);
+    what.run(rt, alloc, threads, each)?;
+    let begun = Instant::now(rt)?;
+    let used = rt.process_cpu_time()?;
+    what.run(rt, alloc, threads, each)?;
+    let spent = rt.process_cpu_time()?.saturating_sub(used).as_nanos();
+    let passed = begun.elapsed(rt)?.as_nanos().max(1);
+    let all = u128::from(each) * u128::from(threads);
+    let rate = all * 1_000_000_000 / passed;
+    let (time, cost) = (passed / all.max(1), spent / all.max(1));
+    let name = what.name();
+    println!(rt;
+        "threads {threads}, {name}: {rate} a second, {time} ns each, {cost} ns of processor time each"
+    )
 }
 
 fn main(rt: HostRuntime) -> io::Result<()> {
@@ -158,41 +208,16 @@ fn main(rt: HostRuntime) -> io::Result<()> {
         println!(rt; "{USAGE}")?;
         return Ok(());
     };
-    for threads in [2, 8, 64] {
-        for by in [By::Tickets, By::Mutex] {
-            let begun = Instant::now(&rt)?;
-            let used = rt.process_cpu_time()?;
-            let each = turns / threads;
-            by.run(&rt, alloc, threads, each)?;
-            let wall = begun.elapsed(&rt)?.as_nanos().max(1);
-            let spent = rt.process_cpu_time()?.saturating_sub(used).as_nanos();
-            let all = u128::from(each * threads).max(1);
-            let name = by.name();
-            let rate = all * 1_000_000_000 / wall;
-            let cost = spent / all;
-            println!(rt;
-                "{threads} threads, {name}: {rate} turns a second, {cost} ns of processor time a turn"
-            )?;
+    for threads in [1, 2, 8, 64] {
+        for what in LOCKS {
+            print_run(&rt, alloc, what, threads, turns)?;
         }
     }
-    print_reads(&rt, alloc, turns.min(MOST_CALLS))
-}
-
-// Reads of a small room, alone and by 8 threads.
-fn print_reads<R: Threads + Wait + Clock + Print + Sync>(
-    rt: &R,
-    alloc: Global,
-    calls: u64,
-) -> io::Result<()> {
-    let count = u128::from(calls).max(1);
-    let own = rooms::time_room(rt, alloc, calls)? / count;
-    let alone = rooms::time_alone(rt, alloc, calls)? / count;
-    println!(rt; "one thread: {own} ns a read at the room, {alone} ns through a shared room")?;
-    let each = calls / rooms::THREADS;
-    let all = u128::from(each) * u128::from(rooms::THREADS) * 1_000_000_000;
-    let shared = all / rooms::time_together(rt, alloc, each)?.max(1);
-    let mutex = all / rooms::time_locked(rt, alloc, each)?.max(1);
-    println!(rt;
-        "8 threads: {shared} reads a second through a shared room, {mutex} behind std's Mutex"
-    )
+    let calls = turns.min(MOST_CALLS);
+    print_run(&rt, alloc, What::Room, 1, calls)?;
+    for threads in [1, 8] {
+        print_run(&rt, alloc, What::SharedRoom, threads, calls)?;
+        print_run(&rt, alloc, What::LockedRoom, threads, calls)?;
+    }
+    Ok(())
 }

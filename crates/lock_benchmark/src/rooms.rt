@@ -1,5 +1,4 @@
-//! Reads of one small room: by one thread through a shared room and at the room itself, and by 8 threads through a shared room
-//! and behind std's `Mutex`.
+//! Reads of one small room: at the room itself, through a shared room, and behind std's `Mutex`.
 ghost use Rattle.std.specs.Prelude.{◌≡◌, ◌≤◌, [], IfOk};
 ghost use Rattle.std.specs.Thread.{IsSync};
 ghost use Rattle.shared_room.specs.Views.{IsPassOf};
@@ -9,13 +8,8 @@ use replica::Replica;
 use room::{Call, Room};
 use shared_room::{Pass, SharedRoom};
 use std::alloc::{AllocError, Global};
-use std::io;
 use std::sync::{Barrier, Mutex, Wait};
 use std::thread::{Threads, join};
-use std::time::{Clock, Instant};
-
-/// So many threads read together.
-pub(crate) const THREADS: u64 = 8;
 
 // A room of twelve characters. The only error is for want of memory.
 fn small_room(alloc: Global) -> Result<Room, AllocError>
@@ -115,82 +109,35 @@ fn by_mutex<R: Threads + Wait + Sync>(
     );
 }
 
-// Nanoseconds of so many reads at the room.
-fn time_own<R: Clock>(rt: &R, room: &mut Room, calls: u64) -> io::Result<u128> {
-    let begun = Instant::now(rt)?;
-    read_room(room, calls);
-    Ok(begun.elapsed(rt)?.as_nanos())
-}
-
-// Nanoseconds of so many reads through a shared room.
-fn time_shared<R: Wait + Clock>(
-    rt: &R,
-    room: &SharedRoom,
-    pass: &mut Pass,
-    calls: u64,
-) -> io::Result<u128>
-    requires { IsPassOf room.now pass.old }
-{
-    let begun = Instant::now(rt)?;
-    read_shared(rt, room, pass, calls);
-    Ok(begun.elapsed(rt)?.as_nanos())
-}
-
-/// Nanoseconds of so many reads by one thread at a room itself.
-pub(crate) fn time_room<R: Clock>(rt: &R, alloc: Global, calls: u64) -> io::Result<u128> {
+/// Reads so often at a room.
+pub(crate) fn read_alone(alloc: Global, calls: u64) -> Result<(), AllocError> {
     let mut room = small_room(alloc)?;
-    time_own(rt, &mut room, calls)
+    read_room(&mut room, calls);
+    Ok(())
 }
 
-/// Nanoseconds of so many reads by one thread through a shared room.
-pub(crate) fn time_alone<R: Wait + Clock>(rt: &R, alloc: Global, calls: u64) -> io::Result<u128> {
-    let (room, mut pass) = shared(alloc)?;
-    time_shared(rt, &room, &mut pass, calls)
-}
-
-// Nanoseconds of 8 threads that read so often each through a shared room.
-fn time_passes<R: Threads + Wait + Clock + Sync>(
-    rt: &R,
-    room: &SharedRoom,
-    pass: Pass,
-    each: u64,
-) -> io::Result<u128>
-    requires { IsPassOf room.now pass }
-{
-    let start = Barrier::new(THREADS as usize);
-    let begun = Instant::now(rt)?;
-    by_passes(rt, room, &start, pass, THREADS, each);
-    Ok(begun.elapsed(rt)?.as_nanos())
-}
-
-// The same behind std's `Mutex`.
-fn time_mutex<R: Threads + Wait + Clock + Sync>(
-    rt: &R,
-    room: &Mutex<Room>,
-    each: u64,
-) -> io::Result<u128> {
-    let start = Barrier::new(THREADS as usize);
-    let begun = Instant::now(rt)?;
-    by_mutex(rt, room, &start, THREADS, each);
-    Ok(begun.elapsed(rt)?.as_nanos())
-}
-
-/// Nanoseconds of 8 threads that read so often each through a shared room.
-pub(crate) fn time_together<R: Threads + Wait + Clock + Sync>(
+/// Each of so many threads reads so often through a shared room.
+pub(crate) fn read_by_passes<R: Threads + Wait + Sync>(
     rt: &R,
     alloc: Global,
-    each: u64,
-) -> io::Result<u128> {
+    start: &Barrier,
+    threads: u64,
+    calls: u64,
+) -> Result<(), AllocError> {
     let (room, pass) = shared(alloc)?;
-    time_passes(rt, &room, pass, each)
+    by_passes(rt, &room, start, pass, threads, calls);
+    Ok(())
 }
 
-/// The same of a room behind std's `Mutex`.
-pub(crate) fn time_locked<R: Threads + Wait + Clock + Sync>(
+/// Each of so many threads reads so often at a room behind std's `Mutex`.
+pub(crate) fn read_by_mutex<R: Threads + Wait + Sync>(
     rt: &R,
     alloc: Global,
-    each: u64,
-) -> io::Result<u128> {
+    start: &Barrier,
+    threads: u64,
+    calls: u64,
+) -> Result<(), AllocError> {
     let room = Mutex::new(small_room(alloc)?);
-    time_mutex(rt, &room, each)
+    by_mutex(rt, &room, start, threads, calls);
+    Ok(())
 }
