@@ -25,7 +25,8 @@ use Rattle.room.proofs.Histories.{consistent_called}
 use Rattle.replica_world.specs.World.{logs_of}
 use Rattle.replica_world.specs.Received.{is_refused, taken_of, received, got}
 use Rattle.replica_world.specs.Kept.{IsReceived, IsSiteOf, IsWorld}
-use Rattle.replica_world.proofs.Carrying.{IsAccepted, In, Carries, deliver-carries}
+use Rattle.replica_world.proofs.Settling.{In}
+use Rattle.replica_world.proofs.Carrying.{IsAccepted, Carries, deliver-carries}
 use Rattle.replica_world.proofs.Growing.{counted_others}
 use Rattle.replica_world.proofs.Rooms.{Stood}
 use Rattle.replica_world.proofs.Following.{held_of, Follows, room_there, log_there, next_is, marked_on, got_on}

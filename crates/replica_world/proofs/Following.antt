@@ -16,7 +16,7 @@ use Rattle.room.specs.History.{Account, mark_from, mark, recorded, called, IsCon
 use Rattle.replica_world.specs.World.{with_room, logs_of}
 use Rattle.replica_world.specs.Received.{received, got}
 use Rattle.replica_world.specs.Kept.{IsReceived, IsSiteOf, IsWorld}
-use Rattle.replica_world.proofs.Carrying.{site_log}
+use Rattle.replica_world.proofs.Settling.{site_log}
 use Rattle.replica_world.proofs.Growing.{Grow, Of-grown, logs-grown}
 use Rattle.replica_world.proofs.Rooms.{log_of, Stood, logs-append, got-push}
 

@@ -41,7 +41,8 @@ use Rattle.replica_world.specs.World.{room_of, logs_of, carry_of, carry_to, step
 use Rattle.replica_world.specs.Carried.{IsWithoutLoss, TellsNoLoss, TellsCarried, LosesNothing}
 use Rattle.replica_world.specs.Received.{got}
 use Rattle.replica_world.specs.Kept.{IsSiteOf, IsWorld, ReadTheSame, Converges}
-use Rattle.replica_world.proofs.Carrying.{site_log, IsCarried, Carries}
+use Rattle.replica_world.proofs.Settling.{site_log}
+use Rattle.replica_world.proofs.Carrying.{IsCarried, Carries}
 use Rattle.replica_world.proofs.Rooms.{log_of, stood}
 use Rattle.replica_world.proofs.Following.{held_of, log_there}
 use Rattle.replica_world.proofs.Delivering.{put_one, put-answer, carry-carries}

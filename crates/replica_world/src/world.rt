@@ -9,9 +9,9 @@ ghost use Rattle.room.specs.Machine.{answer, room_over};
 ghost use Rattle.room.specs.History.{Account, mark, called, account_over};
 ghost use Rattle.replica_world.specs.declared.event.Event.TheVariants as events;
 ghost use Rattle.replica_world.specs.declared.event.WorldReply.{WorldReply};
-ghost use Rattle.replica_world.specs.declared.event.WorldReply.TheVariants as replies;
+ghost use Rattle.replica_world.specs.declared.event.WorldReply.TheVariants as worlds;
 ghost use Rattle.replica_world.specs.World.{room_of, puts, empty_rooms, call_of, fork_of, step, Runs, IsPlaceOf};
-ghost use Rattle.replica_world.specs.Carried.{LosesNothing, LoseNothing};
+ghost use Rattle.replica_world.specs.Carried.{LosesNothing, NothingLost};
 ghost use Rattle.replica_world.specs.Kept.{IsWorld, Converges};
 
 use crate::event::{Event, WorldReply};
@@ -65,15 +65,16 @@ impl World {
         ensures converges { Converges self.now }
         ensures world { IsWorld self.now }
     {
-        let _ = &self.rooms;
+        // A field's use is what tells the invariant of the whole.
+        prove!(self.rooms.len() == self.rooms.as_slice().len());
     }
 
     /// One thing happens. An error is for want of memory, and changes nothing.
     ///
     /// At most 32 steps find each site. A call then takes what `Room::call` takes; what is carried, one look-up in the log
-    /// of its source, which goes at most 63 steps back, and what a `put` of one operation takes; a fork, such a look-up for
-    /// each of the first `n` operations, a copy of them, some 150 bytes each while it lasts, and the time and memory to
-    /// integrate them into a new room.
+    /// of its source, which goes at most 63 steps back, and what a `put` of one operation takes; a fork, a walk over the
+    /// first `n` operations and a copy of them (`Doc::copy_ops`), and the time and memory to integrate them into a new
+    /// room.
     pub fn step(&mut self, event: Event) -> Result<WorldReply, AllocError>
         ensures reply { IfOk result (λ r. r ≡ (step self.old event).reply) }
         ensures next { OnOk result (self.new ≡ (step self.old event).world) }
@@ -91,7 +92,7 @@ impl World {
     /// memory, the replies are those of a beginning of the events, and the world is where these leave it.
     pub fn run(&mut self, events: &[Event], replies: &mut Vec<WorldReply>) -> Result<(), AllocError>
         ensures runs { Runs self.old events.now replies.old.items result replies.new.items self.new }
-        ensures nothing_lost { (made : List WorldReply) × (replies.new.items ≡ replies.old.items ++ made) × LoseNothing events.now made }
+        ensures nothing_lost { NothingLost events.now replies.old.items replies.new.items }
         ensures converges { Converges self.new }
     {
         let result = self.run_each(events, replies);
@@ -106,7 +107,7 @@ impl World {
         replies: &mut Vec<WorldReply>,
     ) -> Result<(), AllocError>
         ensures runs { Runs self.old events.now replies.old.items result replies.new.items self.new }
-        ensures nothing_lost { (made : List WorldReply) × (replies.new.items ≡ replies.old.items ++ made) × LoseNothing events.now made }
+        ensures nothing_lost { NothingLost events.now replies.old.items replies.new.items }
     {
         for event in events {
             replies.reserve(1)?;
@@ -180,7 +181,7 @@ impl World {
         let Some(place) = self.place_of(to) else {
             return Ok(WorldReply::No(Refusal::NoRoom));
         };
-        let Some(op) = self.op_at(from, source, n) else {
+        let Some(op) = self.op_from(from, source, n) else {
             return Ok(WorldReply::No(Refusal::BadRange));
         };
         let call = put_of(self.alloc, op)?;
@@ -222,14 +223,14 @@ impl World {
         if n > doc.version() {
             return Ok(WorldReply::No(Refusal::BadRange));
         }
-        let ops = beginning(self.alloc, doc, n)?;
+        let ops = beginning(doc, n)?;
         let room = room_at(self.alloc, new, &ops)?;
         self.rooms.push(room)?;
         Ok(WorldReply::Forked)
     }
 
     /// Operation `n` of the log of the room at the place.
-    fn op_at(&self, site: Site, place: usize, n: u32) -> Option<Op>
+    fn op_from(&self, site: Site, place: usize, n: u32) -> Option<Op>
         requires { IsPlaceOf site self.now place }
         ensures { result ≡ option_and_then (λ a. slice_get a.state.log n) (room_of site self.now) }
     {
@@ -297,7 +298,7 @@ fn place_of(rooms: &[Room], site: Site) -> Option<usize>
 /// Calls the room under its next ticket.
 fn call_room(room: &mut Room, call: Call) -> Result<WorldReply, AllocError>
     requires { mark room.old.history ≤ length room.old.history }
-    ensures reply { IfOk result (λ r. r ≡ replies.Room (answer room.old.state call)) }
+    ensures reply { IfOk result (λ r. r ≡ worlds.Room (answer room.old.state call)) }
     ensures next { OnOk result (room.new ≡ called room.old (mark room.old.history) call) }
     ensures err { OnErr result (room.new ≡ room.old) }
     ensures either { (room.new ≡ room.old) ⊎ (room.new ≡ called room.old (mark room.old.history) call) }
@@ -318,15 +319,11 @@ fn put_of(alloc: Global, op: Op) -> Result<Call, AllocError>
 }
 
 /// The first operations of the document.
-fn beginning(alloc: Global, doc: &Doc, n: u32) -> Result<Vec<Op>, AllocError>
+fn beginning(doc: &Doc, n: u32) -> Result<Vec<Op>, AllocError>
     requires { n ≤ length doc.now.log }
     ensures { IfOk result (λ ops. ops.items ≡ take n doc.now.log) }
 {
-    let mut ops = Vec::new(alloc);
-    for i in 0..n {
-        ops.push(doc.op(i))?;
-    }
-    Ok(ops)
+    doc.copy_ops(0, n)
 }
 
 /// The room of the site over these operations.
