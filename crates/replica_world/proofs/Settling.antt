@@ -99,8 +99,8 @@ push_in xs x y a = elim (Among-append y xs (x ∷ []) a) [
 ]
 
 -- one more is integrated
-pub Settles-push : (logs : List SiteLog) → AreLogs logs → (site : ℕ) (log : List Operation) → Among (site_log site log) logs → (s t : Settling)
-    → Settles logs site log s → (x : Operation) → Of logs x → is_ready s.log x ≡ true
+pub Settles-push : (logs : List SiteLog) → AreLogs logs → (site : ℕ) (log : List Operation) → Among (site_log site log) logs
+    → (s t : Settling) → Settles logs site log s → (x : Operation) → Of logs x → is_ready s.log x ≡ true
     → length s.log < 131072 → t.log ≡ s.log ++ x ∷ [] → AreOf logs t.held → t.dropped ≡ 0 → Settles logs site log t
 Settles-push logs w site log i s t g x o r f e h d =
     let front : Parts log s.log = λ y a. subst (Among y) (sym g.log_is) (Among-append_left y log g.more a) in
