@@ -14,7 +14,7 @@ use wire_json::write_op;
 /// same log.
 ///
 /// Refused with `Memory`. Takes time and memory in proportion to the text: it walks the log by `Doc::ops_from`.
-#[tactic(auto, using(replica::proofs::Parts::left_after, replica::proofs::Parts::some_left))]
+#[tactic(auto, using(versions::proofs::Left::left_after, versions::proofs::Left::some_left))]
 pub fn save(alloc: Global, replica: &Replica) -> Result<String, Refusal>
     ensures text { IfOk result (λ s. string_bytes s ≡ log_text replica.now.log) }
     ensures stands { IfOk result (λ s. StandsFor (string_bytes s) replica.now.log) }
@@ -24,9 +24,7 @@ pub fn save(alloc: Global, replica: &Replica) -> Result<String, Refusal>
     let mut text = String::from_str(alloc, "{\"format\":1,\"ops\":[")?;
     let mut rest = doc.ops_from(0);
     'told: for place in 0..doc.version() {
-        let Some(op) = rest.next() else {
-            unreachable!();
-        };
+        let op = rest.next_op();
         push_op(alloc, &mut text, &op, place == 0)?;
     }
     text.push_str("]}")?;

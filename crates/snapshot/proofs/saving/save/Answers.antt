@@ -3,7 +3,7 @@ use Rattle.std.proofs.Common.{◌≡◌, ◌∙◌, ◌+◌, ◌≤◌, ◌++◌
 use Rattle.std.proofs.Common.{append_assoc, IsUtf8}
 use Rattle.std.specs.Prelude.{List, ℕ}
 use Rattle.std.proofs.lemmas.List.{map-append, length-map, length-take-le, take_all}
-use Rattle.replica.proofs.Parts.{left_after}
+use Rattle.versions.proofs.Left.{left_after}
 use Rattle.wire_json.specs.Text.{op_text, listed}
 use Rattle.snapshot.specs.Snapshot.{AreInRange}
 use Rattle.snapshot.proofs.Joined.{joined, listed-joined, next_text, one_more}
@@ -24,9 +24,8 @@ pub told-preserved : goal.told-preserved
 told-preserved c =
     let log = c.args.replica.now.log in
     let i = c.told.place in
-    let x = c.in-Some.op in
-    let steps = rw c.in-Some.is at c.next.ensures.steps in
-    let here = left_after log i x c.next.new.self (sym c.told.invariant.walk ∙ steps) in
+    let x = c.next_op-op.result in
+    let here = left_after log i x c.next_op-op.new.self (sym c.told.invariant.walk ∙ c.next_op-op.ensures) in
     let next : take (i + 1) log ≡ take i log ++ x ∷ [] = one_more log i x here.0 in
     let texts : map op_text (take (i + 1) log) ≡ map op_text (take i log) ++ op_text x ∷ [] =
     ap (map op_text) next ∙ map-append op_text (take i log) (x ∷ []) in
