@@ -4,19 +4,19 @@ So many processes put in COUNT characters together at place 0, and each keeps 64
 write their frames by themselves and take an answer for one once they see its `r`. Alone a client knows the version that
 the answer before will have sent it, and names it; of several each names the last one that it was told."""
 import multiprocessing
+import pathlib
 import re
 import socket
 import struct
 import sys
 import time
 
+sys.path.insert(0, str(pathlib.Path(__file__).resolve().parent.parent / "bin"))
+from serving import handshake
+
 PORT, COUNT, CLIENTS = map(int, sys.argv[1:])
 EACH = COUNT // CLIENTS
 FLIGHT = 64
-SHAKE = (
-    b"GET / HTTP/1.1\r\nHost: x\r\nUpgrade: websocket\r\nConnection: Upgrade\r\n"
-    b"Sec-WebSocket-Key: dGhlIHNhbXBsZSBub25jZQ==\r\nSec-WebSocket-Version: 13\r\n\r\n"
-)
 NEWS = re.compile(rb'\{"es":([^{}]*),"from":(\d+),"r":"edits"\}')
 
 
@@ -28,7 +28,7 @@ def framed(text):
 def connect():
     line = socket.create_connection(("127.0.0.1", PORT), timeout=60)
     line.setsockopt(socket.IPPROTO_TCP, socket.TCP_NODELAY, 1)
-    for request in (SHAKE, framed('{"t":"open","room":"notes"}')):
+    for request in (handshake(), framed('{"t":"open","room":"notes"}')):
         line.sendall(request)
         line.recv(4096)
     return line

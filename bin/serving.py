@@ -1,5 +1,6 @@
 """What the scripts that start a server share."""
 
+import base64
 import os
 import pathlib
 import socket
@@ -10,6 +11,15 @@ def free_port():
     with socket.socket() as it:
         it.bind(("127.0.0.1", 0))
         return it.getsockname()[1]
+
+
+def handshake(path="/"):
+    """The bytes by which a client opens a WebSocket (RFC 6455, section 4.1), with a key of its own."""
+    key = base64.b64encode(os.urandom(16)).decode()
+    return (
+        f"GET {path} HTTP/1.1\r\nHost: 127.0.0.1\r\nUpgrade: websocket\r\nConnection: Upgrade\r\n"
+        f"Sec-WebSocket-Key: {key}\r\nSec-WebSocket-Version: 13\r\n\r\n"
+    ).encode()
 
 
 def figure(process, key):
