@@ -4,6 +4,8 @@
 
 mod answer_text;
 mod carrying;
+#[cfg(test)]
+mod carrying_tests;
 mod conn;
 mod counted;
 mod engine;
@@ -18,8 +20,12 @@ mod names;
 mod protocol;
 mod reply_line;
 mod requests;
+#[cfg(test)]
+mod shared_tests;
 mod sink;
 mod socket;
+#[cfg(test)]
+mod socket_tests;
 mod source;
 mod taking;
 #[cfg(test)]

@@ -11,7 +11,7 @@ use std::test::Fail;
 
 // Gives at most `step` bytes a read, counts the reads, and fails at the read number `fails_at`, from 1 on.
 #[derive(Drop)]
-struct Slow<'a> {
+pub(crate) struct Slow<'a> {
     bytes: &'a [u8],
     step: usize,
     reads: usize,
@@ -34,8 +34,8 @@ impl Read for Slow<'_> {
 
 // Takes at most `step` bytes a write, counts the writes, and from the write number `fails_at` on takes none, or fails.
 #[derive(Drop)]
-struct Short {
-    taken: Vec<u8>,
+pub(crate) struct Short {
+    pub(crate) taken: Vec<u8>,
     step: usize,
     writes: usize,
     fails_at: usize,
@@ -73,7 +73,7 @@ struct Told<'a> {
     failed: (u64, u64),
 }
 
-fn slow_reader(bytes: &[u8], step: usize) -> Slow<'_> {
+pub(crate) fn slow_reader(bytes: &[u8], step: usize) -> Slow<'_> {
     Slow {
         bytes,
         step,
@@ -82,7 +82,7 @@ fn slow_reader(bytes: &[u8], step: usize) -> Slow<'_> {
     }
 }
 
-fn short_writer(alloc: Global, step: usize) -> Short {
+pub(crate) fn short_writer(alloc: Global, step: usize) -> Short {
     Short {
         taken: Vec::new(alloc),
         step,

@@ -1,0 +1,84 @@
+//! Two rooms of two sites that carry operations to each other.
+use crate::carrying::carry;
+use opid::Site;
+use room::{Call, Characters, Desk, DeskFault, Reply, Room, RoomDesk};
+use std::alloc::{AllocError, Global};
+use std::test::Fail;
+
+fn desk_of(alloc: Global, site: u8) -> Result<RoomDesk, Fail> {
+    Ok(RoomDesk::new(Room::new(alloc, Site::new(site)?)))
+}
+
+// The `n`-th submission of session 1, at the beginning of the empty version.
+pub(crate) fn insertion(alloc: Global, n: u32, text: &str) -> Result<Call, AllocError> {
+    Ok(Call::Ins {
+        s: 1,
+        n,
+        v: 0,
+        k: 0,
+        x: Characters::new(String::from_str(alloc, text)?),
+    })
+}
+
+fn is_accepted(answer: &Result<Reply, DeskFault>) -> bool {
+    matches!(answer, Ok(Reply::Ok { .. }))
+}
+
+fn types(alloc: Global, desk: &mut RoomDesk, n: u32, text: &str) -> bool {
+    match insertion(alloc, n, text) {
+        Ok(typed) => is_accepted(&desk.call(typed)),
+        Err(_) => false,
+    }
+}
+
+// A session is opened and types this, whole, at the beginning.
+fn begins(alloc: Global, desk: &mut RoomDesk, text: &str) -> bool {
+    desk.call(Call::Join).is_ok() && types(alloc, desk, 1, text)
+}
+
+fn reads(desk: &mut RoomDesk, want: &str) -> bool {
+    match desk.call(Call::Read) {
+        Ok(Reply::Text { v: _, x }) => x.as_str() == want,
+        _ => false,
+    }
+}
+
+fn carry_each_way(alloc: Global, a: &mut RoomDesk, b: &mut RoomDesk) -> bool {
+    let mut all = begins(alloc, a, "a") && begins(alloc, b, "b");
+    all &= carry(a, b, 0) == Ok(1);
+    all &= carry(b, a, 0) == Ok(2);
+    all && reads(a, "ba") && reads(b, "ba")
+}
+
+#[test]
+fn two_rooms_carry_to_each_other(rt: HostRuntime) -> Result<(), Fail> {
+    let alloc = rt.alloc();
+    let mut a = desk_of(alloc, 0)?;
+    let mut b = desk_of(alloc, 1)?;
+    assert!(rt; carry_each_way(alloc, &mut a, &mut b));
+    Ok(())
+}
+
+// 64 characters, and 6 more before them.
+const MANY: &str = "cccccccccccccccccccccccccccccccccccccccccccccccccccccccccccccccc";
+
+const MORE: &str = "dddddd";
+
+const ALL: &str = "ddddddcccccccccccccccccccccccccccccccccccccccccccccccccccccccccccccccc";
+
+fn carry_seventy(alloc: Global, a: &mut RoomDesk, b: &mut RoomDesk) -> bool {
+    let mut all = begins(alloc, a, MANY) && types(alloc, a, 2, MORE);
+    for (after, next) in [(0, 64), (64, 70), (70, 70), (71, 71)] {
+        all &= carry(a, b, after) == Ok(next);
+    }
+    all && reads(b, ALL)
+}
+
+#[test]
+fn a_carry_takes_at_most_64(rt: HostRuntime) -> Result<(), Fail> {
+    let alloc = rt.alloc();
+    let mut a = desk_of(alloc, 0)?;
+    let mut b = desk_of(alloc, 1)?;
+    assert!(rt; carry_seventy(alloc, &mut a, &mut b));
+    Ok(())
+}

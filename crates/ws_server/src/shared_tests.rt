@@ -1,0 +1,283 @@
+//! Rooms that threads share: lines through a pass that is lent, and two rooms that are typed in while others carry between them.
+ghost use Rattle.std.specs.Prelude.{◌≡◌, IfOk, IfSome};
+ghost use Rattle.std.specs.Thread.{IsSync};
+ghost use Rattle.shared_room.specs.Views.{IsPassOf};
+
+use crate::carrying::carry;
+use crate::carrying_tests::insertion;
+use crate::counted::Counted;
+use crate::tests::{short_writer, slow_reader};
+use crate::through_pass::serve_through_pass;
+use opid::Site;
+use room::{Call, DeskFault, Reply, Room};
+use shared_room::{Pass, PassDesk, SharedRoom};
+use std::alloc::Global;
+use std::sync::Wait;
+use std::test::Fail;
+use std::thread::{Threads, join};
+
+fn shared(alloc: Global, site: u8) -> Result<(SharedRoom, Pass), Fail>
+    ensures { IfOk result (λ r. IsPassOf r.0 r.1) }
+{
+    Ok(SharedRoom::new(alloc, Room::new(alloc, Site::new(site)?))?)
+}
+
+// Serves two lines that join.
+fn joins_once<R: Wait>(rt: &R, alloc: Global, room: &SharedRoom, pass: &mut Pass) -> bool
+    requires { IsPassOf room.now pass.old }
+{
+    let mut input = Counted::new(slow_reader(b"{\"t\":\"join\"}\n{\"t\":\"join\"}\n", 100));
+    let mut output = Counted::new(short_writer(alloc, 100));
+    let end = serve_through_pass(rt, alloc, room, pass, &mut input, &mut output);
+    let want: &[u8] = b"{\"r\":\"joined\",\"s\":1,\"v\":0,\"x\":\"\"}\n{\"n\":25,\"r\":\"no\"}\n";
+    end == Ok(()) && output.into_inner().taken.as_slice() == want
+}
+
+#[test]
+fn one_draw_answers_one_line(rt: HostRuntime) -> Result<(), Fail> {
+    let alloc = rt.alloc();
+    let (room, mut pass) = shared(alloc, 0)?;
+    let Ok(mut one) = room.split(&mut pass, 1) else {
+        return Err(Fail::from("draws"));
+    };
+    assert!(rt; joins_once(&rt, alloc, &room, &mut one));
+    Ok(())
+}
+
+// How many characters each thread types, and how often each of those that carry does.
+const TYPED: u32 = 99;
+
+const CARRIED: u32 = 64;
+
+// Two rooms that carry to each other, and a pass of each.
+#[derive(Drop)]
+struct Ends<'a> {
+    from: &'a SharedRoom,
+    to: &'a SharedRoom,
+}
+
+// Joins and types its letter, each time at the beginning of the joined version.
+fn types<R: Wait>(rt: &R, alloc: Global, room: &SharedRoom, mut pass: Pass, letter: &str) -> bool
+    requires { IsPassOf room.now pass }
+{
+    let mut all = room.call(rt, &mut pass, Call::Join).is_ok();
+    for n in 1..TYPED + 1 {
+        match insertion(alloc, n, letter) {
+            Ok(typed) => {
+                all &= matches!(&room.call(rt, &mut pass, typed), Ok(Reply::Ok { .. }));
+            }
+            Err(_) => return false,
+        }
+    }
+    all
+}
+
+// One carry over desks that are lent their passes.
+fn carry_lent<R: Wait>(
+    from: &mut PassDesk<'_, R>,
+    to: &mut PassDesk<'_, R>,
+    after: u32,
+) -> Result<u32, DeskFault>
+    requires from { IsPassOf from.old.room.now from.old.pass.now }
+    requires to { IsPassOf to.old.room.now to.old.pass.now }
+    ensures from_lent { from.new.pass.ghost_name ≡ from.old.pass.ghost_name }
+    ensures to_lent { to.new.pass.ghost_name ≡ to.old.pass.ghost_name }
+    ensures from { IsPassOf from.old.room.now from.new.pass.now }
+    ensures to { IsPassOf to.old.room.now to.new.pass.now }
+{
+    carry(from, to, after)
+}
+
+// From which number to go on, which is the same where nothing was carried.
+fn carry_once<R: Wait>(rt: &R, ends: &Ends<'_>, a: &mut Pass, b: &mut Pass, after: u32) -> u32
+    requires { IsPassOf ends.now.from.now a.old × IsPassOf ends.now.to.now b.old }
+    ensures { IsPassOf ends.now.from.now a.new × IsPassOf ends.now.to.now b.new }
+{
+    let mut from = PassDesk::new(rt, ends.from, a);
+    let mut to = PassDesk::new(rt, ends.to, b);
+    carry_lent(&mut from, &mut to, after).unwrap_or(after)
+}
+
+// Carries so often: the number from which to go on.
+fn carry_often<R: Wait>(rt: &R, ends: &Ends<'_>, a: &mut Pass, b: &mut Pass) -> u32
+    requires { IsPassOf ends.now.from.now a.old × IsPassOf ends.now.to.now b.old }
+    ensures { IsPassOf ends.now.from.now a.new × IsPassOf ends.now.to.now b.new }
+{
+    let mut after = 0;
+    for _ in 0..CARRIED {
+        after = carry_once(rt, ends, a, b, after);
+    }
+    after
+}
+
+// Carries until nothing is left, where 198 operations are at most.
+fn carry_all<R: Wait>(rt: &R, ends: &Ends<'_>, a: &mut Pass, b: &mut Pass) -> u32
+    requires { IsPassOf ends.now.from.now a.old × IsPassOf ends.now.to.now b.old }
+    ensures { IsPassOf ends.now.from.now a.new × IsPassOf ends.now.to.now b.new }
+{
+    let mut after = 0;
+    for _ in 0..5 {
+        after = carry_once(rt, ends, a, b, after);
+    }
+    after
+}
+
+// A pass of each of two rooms.
+#[derive(Drop)]
+struct Pair {
+    a: Pass,
+    b: Pass,
+}
+
+// So many draws of each.
+fn pair_of(ends: &Ends<'_>, a: &mut Pass, b: &mut Pass, draws: u64) -> Option<Pair>
+    requires { IsPassOf ends.now.from.now a.old × IsPassOf ends.now.to.now b.old }
+    ensures passes { IsPassOf ends.now.from.now a.new × IsPassOf ends.now.to.now b.new }
+    ensures pair { IfSome result (λ p. IsPassOf ends.now.from.now p.a × IsPassOf ends.now.to.now p.b) }
+{
+    let Ok(one) = ends.from.split(a, draws) else {
+        return None;
+    };
+    let Ok(other) = ends.to.split(b, draws) else {
+        return None;
+    };
+    Some(Pair { a: one, b: other })
+}
+
+fn type_in_both<R: Threads + Wait + Sync>(
+    rt: &R,
+    alloc: Global,
+    ends: &Ends<'_>,
+    pair: Pair,
+) -> bool
+    requires { IsPassOf ends.now.from.now pair.a × IsPassOf ends.now.to.now pair.b }
+{
+    let Pair { a, b } = pair;
+    let both = join(
+        rt,
+        || -> bool
+            requires { IsSync R.row × IsPassOf ends.now.from.now a }
+        { types(rt, alloc, ends.from, a, "a") },
+        || -> bool
+            requires { IsSync R.row × IsPassOf ends.now.to.now b }
+        { types(rt, alloc, ends.to, b, "b") },
+    );
+    both.0 && both.1
+}
+
+fn carry_in_thread<R: Wait>(rt: &R, ends: &Ends<'_>, mut a: Pass, mut b: Pass) -> bool
+    requires { IsPassOf ends.now.from.now a × IsPassOf ends.now.to.now b }
+{
+    carry_often(rt, ends, &mut a, &mut b) <= 2 * TYPED
+}
+
+fn carry_each_way<R: Threads + Wait + Sync>(rt: &R, ends: &Ends<'_>, mut there: Pair) -> bool
+    requires { IsPassOf ends.now.from.now there.a × IsPassOf ends.now.to.now there.b }
+{
+    let Some(back) = pair_of(ends, &mut there.a, &mut there.b, 64) else {
+        return false;
+    };
+    let turned = Ends {
+        from: ends.to,
+        to: ends.from,
+    };
+    let both = join(
+        rt,
+        || -> bool
+            requires { IsSync R.row × IsPassOf ends.now.from.now there.a × IsPassOf ends.now.to.now there.b }
+        { carry_in_thread(rt, ends, there.a, there.b) },
+        || -> bool
+            requires { IsSync R.row × IsPassOf turned.from.now back.b × IsPassOf turned.to.now back.a }
+        { carry_in_thread(rt, &turned, back.b, back.a) },
+    );
+    both.0 && both.1
+}
+
+// Two threads type, and two carry meanwhile.
+fn work<R: Threads + Wait + Sync>(
+    rt: &R,
+    alloc: Global,
+    ends: &Ends<'_>,
+    typing: Pair,
+    carrying: Pair,
+) -> bool
+    requires typing { IsPassOf ends.now.from.now typing.a × IsPassOf ends.now.to.now typing.b }
+    requires carrying { IsPassOf ends.now.from.now carrying.a × IsPassOf ends.now.to.now carrying.b }
+{
+    let both = join(
+        rt,
+        || -> bool
+            requires { IsSync R.row × IsPassOf ends.now.from.now typing.a × IsPassOf ends.now.to.now typing.b }
+        { type_in_both(rt, alloc, ends, typing) },
+        || -> bool
+            requires { IsSync R.row × IsPassOf ends.now.from.now carrying.a × IsPassOf ends.now.to.now carrying.b }
+        { carry_each_way(rt, ends, carrying) },
+    );
+    both.0 && both.1
+}
+
+fn count(text: &str, letter: char) -> usize {
+    text.chars().filter(|c| *c == letter).count()
+}
+
+// Whether both rooms read one text, in which each thread's characters all stand.
+fn read_the_same<R: Wait>(rt: &R, ends: &Ends<'_>, a: &mut Pass, b: &mut Pass) -> bool
+    requires { IsPassOf ends.now.from.now a.old × IsPassOf ends.now.to.now b.old }
+{
+    let Ok(Reply::Text { v, x }) = ends.from.call(rt, a, Call::Read) else {
+        return false;
+    };
+    let Ok(Reply::Text { v: _, x: other }) = ends.to.call(rt, b, Call::Read) else {
+        return false;
+    };
+    v == 2 * TYPED
+        && x.as_str() == other.as_str()
+        && count(x.as_str(), 'a') == 99
+        && count(x.as_str(), 'b') == 99
+}
+
+// Carries to the end, first to the one room and then to the other.
+fn carry_to_the_end<R: Wait>(rt: &R, ends: &Ends<'_>, a: &mut Pass, b: &mut Pass) -> bool
+    requires { IsPassOf ends.now.from.now a.old × IsPassOf ends.now.to.now b.old }
+    ensures { IsPassOf ends.now.from.now a.new × IsPassOf ends.now.to.now b.new }
+{
+    let turned = Ends {
+        from: ends.to,
+        to: ends.from,
+    };
+    let _ = carry_all(rt, ends, a, b);
+    carry_all(rt, &turned, b, a) == 2 * TYPED
+}
+
+fn typed_and_carried<R: Threads + Wait + Sync>(
+    rt: &R,
+    alloc: Global,
+    ends: &Ends<'_>,
+    a: &mut Pass,
+    b: &mut Pass,
+) -> bool
+    requires { IsPassOf ends.now.from.now a.old × IsPassOf ends.now.to.now b.old }
+{
+    let Some(typing) = pair_of(ends, a, b, 100) else {
+        return false;
+    };
+    let Some(carrying) = pair_of(ends, a, b, 128) else {
+        return false;
+    };
+    work(rt, alloc, ends, typing, carrying)
+        && carry_to_the_end(rt, ends, a, b)
+        && read_the_same(rt, ends, a, b)
+}
+
+#[test]
+fn rooms_that_are_typed_in_come_to_read_the_same(rt: HostRuntime) -> Result<(), Fail> {
+    let alloc = rt.alloc();
+    let (one, mut a) = shared(alloc, 0)?;
+    let (other, mut b) = shared(alloc, 1)?;
+    let ends = Ends {
+        from: &one,
+        to: &other,
+    };
+    assert!(rt; typed_and_carried(&rt, alloc, &ends, &mut a, &mut b));
+    Ok(())
+}

@@ -1,0 +1,367 @@
+//! Connections over streams that are known: two at once, and one whose calls fail in turn.
+ghost use Rattle.std.specs.Prelude.{IfOk};
+ghost use Rattle.std.specs.Thread.{IsSync};
+ghost use Rattle.ws_server.specs.Halls.{IsHallPassOf, IsConnOf};
+
+use crate::conn::Conn;
+use crate::fault::ServeFault;
+use crate::frame::answer_frame;
+use crate::gate::Gate;
+use crate::hall::{Hall, HallPass};
+use crate::socket::serve_socket;
+use opid::Site;
+use std::alloc::Global;
+use std::cell::Cell;
+use std::io;
+use std::io::{Error, ErrorKind, Read, Write};
+use std::sync::Wait;
+use std::sync::atomic::{AtomicU64, Ordering};
+use std::test::Fail;
+use std::thread::{Threads, join, sleep};
+use std::time::{Clock, Duration};
+
+// What a client sends: a head with the key of RFC 6455's example, and then frames, whose masks are zero.
+const HEAD: &[u8] =
+    b"GET / HTTP/1.1\r\nHost: here\r\nUpgrade: websocket\r\nConnection: Upgrade\r\nSec-WebSocket-Key: dGhlIHNhbXBsZSBub25jZQ==\r\nSec-WebSocket-Version: 13\r\n\r\n";
+
+const OPEN: &[u8] = b"\x81\x9b\0\0\0\0{\"t\":\"open\",\"room\":\"notes\"}";
+
+const JOIN: &[u8] = b"\x81\x8c\0\0\0\0{\"t\":\"join\"}";
+
+const TYPE_A: &[u8] =
+    b"\x81\xab\0\0\0\0{\"t\":\"ins\",\"s\":1,\"n\":1,\"v\":0,\"k\":0,\"x\":\"a\"}";
+
+const TYPE_B: &[u8] =
+    b"\x81\xab\0\0\0\0{\"t\":\"ins\",\"s\":1,\"n\":2,\"v\":0,\"k\":0,\"x\":\"b\"}";
+
+const CLOSE: &[u8] = b"\x88\x80\0\0\0\0";
+
+// How often a stream was called, how many of its parts it gave, and which call fails, from 1 on.
+#[derive(Drop)]
+struct Record {
+    calls: Cell<usize>,
+    given: Cell<usize>,
+    fails_at: usize,
+}
+
+impl Record {
+    fn new(fails_at: usize) -> Record {
+        Record {
+            calls: Cell::new(0),
+            given: Cell::new(0),
+            fails_at,
+        }
+    }
+
+    // Counts a call, and fails if it is the one that does.
+    fn call(&self) -> io::Result<()> {
+        self.calls.set(self.calls.get().saturating_add(1));
+        if self.calls.get() == self.fails_at {
+            return Err(Error::from(ErrorKind::Other));
+        }
+        Ok(())
+    }
+}
+
+// Gives a part at each read, and takes whatever is written.
+#[derive(Drop)]
+struct Script<'a> {
+    parts: &'a [&'a [u8]],
+    record: &'a Record,
+}
+
+impl Read for Script<'_> {
+    fn read(&mut self, buf: &mut [u8]) -> io::Result<usize> {
+        self.record.call()?;
+        let given = self.record.given.get();
+        let Some(part) = self.parts.get(given) else {
+            return Ok(0);
+        };
+        let n = part.len().min(buf.len());
+        buf[..n].copy_from_slice(&part[..n]);
+        self.record.given.set(given.saturating_add(1));
+        Ok(n)
+    }
+}
+
+impl Write for Script<'_> {
+    fn write(&mut self, buf: &[u8]) -> io::Result<usize> {
+        self.record.call()?;
+        Ok(buf.len())
+    }
+
+    fn flush(&mut self) -> io::Result<()> {
+        self.record.call()
+    }
+}
+
+// A gate that lets everything pass.
+#[derive(Drop)]
+struct Free;
+
+impl Gate for Free {
+    ghost told_before = { λ _ _ _. Unit {0} };
+
+    ghost told_after = { λ _ _ _. Unit {0} };
+
+    fn before(&mut self, _n: u64) {}
+
+    fn after(&mut self, _n: u64) {}
+}
+
+fn hall_of_notes(alloc: Global) -> Result<(Hall, HallPass), Fail>
+    ensures { IfOk result (λ r. IsHallPassOf r.0 r.1) }
+{
+    let site = Site::new(0)?;
+    let mut names = Vec::new(alloc);
+    names.push(String::from_str(alloc, "notes")?)?;
+    Ok(Hall::new(alloc, site, &names)?)
+}
+
+// Whether a message has this answer.
+fn asks<R: Wait>(
+    rt: &R,
+    alloc: Global,
+    hall: &Hall,
+    pass: &mut HallPass,
+    conn: &mut Conn,
+    bytes: &[u8],
+    want: &str,
+) -> bool
+    requires pass { IsHallPassOf hall.now pass.old }
+    requires conn { IsConnOf hall.now conn.old }
+    ensures pass { IsHallPassOf hall.now pass.new }
+    ensures conn { IsConnOf hall.now conn.new }
+{
+    match answer_frame(rt, alloc, hall, pass, conn, bytes, &mut Free) {
+        Ok(told) => told.as_str() == want,
+        Err(_) => false,
+    }
+}
+
+// Whether a new connection reads the text of this answer.
+fn reads<R: Wait>(rt: &R, alloc: Global, hall: &Hall, pass: &mut HallPass, want: &str) -> bool
+    requires { IsHallPassOf hall.now pass.old }
+{
+    let mut conn = Conn::new();
+    let open = b"{\"t\":\"open\",\"room\":\"notes\"}";
+    asks(rt, alloc, hall, pass, &mut conn, open, "{\"r\":\"opened\"}")
+        && asks(rt, alloc, hall, pass, &mut conn, b"{\"t\":\"read\"}", want)
+}
+
+// The answer to a read, once so many of the parts were given: the head, the open and the join come before what is typed.
+fn reading_after(given: usize) -> &'static str {
+    match given {
+        0..4 => "{\"r\":\"text\",\"v\":0,\"x\":\"\"}",
+        4 => "{\"r\":\"text\",\"v\":1,\"x\":\"a\"}",
+        _ => "{\"r\":\"text\",\"v\":2,\"x\":\"ba\"}",
+    }
+}
+
+fn serve_script<R: Wait>(
+    rt: &R,
+    alloc: Global,
+    hall: &Hall,
+    pass: &mut HallPass,
+    record: &Record,
+) -> Result<(), ServeFault>
+    requires { IsHallPassOf hall.now pass.old }
+    ensures { IsHallPassOf hall.now pass.new }
+{
+    let parts = [HEAD, OPEN, JOIN, TYPE_A, TYPE_B, CLOSE];
+    let stream = Script {
+        parts: &parts,
+        record,
+    };
+    serve_socket(rt, alloc, hall, pass, stream, &mut Free)
+}
+
+// Whether it ended well, if it ended as its record says and the room is where the calls leave it that were given whole.
+fn ends_as_told<R: Wait>(
+    rt: &R,
+    alloc: Global,
+    hall: &Hall,
+    pass: &mut HallPass,
+    fails_at: usize,
+) -> Option<bool>
+    requires { IsHallPassOf hall.now pass.old }
+{
+    let record = Record::new(fails_at);
+    let end = serve_script(rt, alloc, hall, pass, &record);
+    let has_failed = record.calls.get() >= fails_at;
+    let is_told = match end {
+        Ok(()) => !has_failed,
+        Err(ServeFault::Read | ServeFault::Write) => has_failed,
+        Err(ServeFault::Memory) => false,
+    };
+    let is_there = reads(rt, alloc, hall, pass, reading_after(record.given.get()));
+    if is_told && is_there {
+        Some(end.is_ok())
+    } else {
+        None
+    }
+}
+
+// The same in a hall of its own.
+fn ends_as_told_anew<R: Wait>(
+    rt: &R,
+    alloc: Global,
+    fails_at: usize,
+) -> Result<Option<bool>, Fail> {
+    let (hall, mut pass) = hall_of_notes(alloc)?;
+    Ok(ends_as_told(rt, alloc, &hall, &mut pass, fails_at))
+}
+
+#[test]
+fn each_call_of_a_stream_fails(rt: HostRuntime) -> Result<(), Fail> {
+    let mut all = true;
+    let mut failed = 0;
+    for fails_at in 1..100 {
+        match ends_as_told_anew(&rt, rt.alloc(), fails_at)? {
+            Some(false) => failed = fails_at,
+            Some(true) => break,
+            None => all = false,
+        }
+    }
+    assert!(rt; all && failed > 11 && failed < 99);
+    Ok(())
+}
+
+// Holds its connection's first call until the other's first was answered, for at most 1,000,000 turns.
+#[derive(Drop)]
+struct Holding<'a, R: Clock> {
+    rt: &'a R,
+    answered: &'a AtomicU64,
+    gave_up: bool,
+}
+
+impl<R: Clock> Gate for Holding<'_, R> {
+    ghost told_before = { λ _ _ _. Unit {0} };
+
+    ghost told_after = { λ _ _ _. Unit {0} };
+
+    fn before(&mut self, n: u64) {
+        if n != 1 {
+            return;
+        }
+        for _ in 0..1_000_000 {
+            if self.answered.load(Ordering::SeqCst) > 0 {
+                return;
+            }
+            sleep(self.rt, Duration::from_micros(10));
+        }
+        self.gave_up = true;
+    }
+
+    fn after(&mut self, _n: u64) {}
+}
+
+// Tells that a call was answered.
+#[derive(Drop)]
+struct Telling<'a> {
+    answered: &'a AtomicU64,
+}
+
+impl Gate for Telling<'_> {
+    ghost told_before = { λ _ _ _. Unit {0} };
+
+    ghost told_after = { λ _ _ _. Unit {0} };
+
+    fn before(&mut self, _n: u64) {}
+
+    fn after(&mut self, n: u64) {
+        self.answered.store(n, Ordering::SeqCst);
+    }
+}
+
+// A connection that opens the room, joins and closes.
+fn comes_and_goes<R: Wait, G: Gate>(
+    rt: &R,
+    alloc: Global,
+    hall: &Hall,
+    mut pass: HallPass,
+    gate: &mut G,
+) -> bool
+    requires { IsHallPassOf hall.now pass }
+{
+    let parts = [HEAD, OPEN, JOIN, CLOSE];
+    let record = Record::new(0);
+    let stream = Script {
+        parts: &parts,
+        record: &record,
+    };
+    serve_socket(rt, alloc, hall, &mut pass, stream, gate).is_ok()
+}
+
+fn is_held<R: Wait + Clock>(
+    rt: &R,
+    alloc: Global,
+    hall: &Hall,
+    pass: HallPass,
+    answered: &AtomicU64,
+) -> bool
+    requires { IsHallPassOf hall.now pass }
+{
+    let mut gate = Holding {
+        rt,
+        answered,
+        gave_up: false,
+    };
+    comes_and_goes(rt, alloc, hall, pass, &mut gate) && !gate.gave_up
+}
+
+fn one_is_held<R: Threads + Wait + Clock + Sync>(
+    rt: &R,
+    alloc: Global,
+    hall: &Hall,
+    first: HallPass,
+    second: HallPass,
+) -> (bool, bool)
+    requires { IsHallPassOf hall.now first × IsHallPassOf hall.now second }
+{
+    let answered = AtomicU64::new(0);
+    join(
+        rt,
+        || -> bool
+            requires { IsSync R.row × IsHallPassOf hall.now first }
+        { is_held(rt, alloc, hall, first, &answered) },
+        || -> bool
+            requires { IsSync R.row × IsHallPassOf hall.now second }
+        {
+            comes_and_goes(
+                rt,
+                alloc,
+                hall,
+                second,
+                &mut Telling {
+                    answered: &answered,
+                },
+            )
+        },
+    )
+}
+
+fn serve_two<R: Threads + Wait + Clock + Sync>(
+    rt: &R,
+    alloc: Global,
+    hall: &Hall,
+    pass: &mut HallPass,
+) -> bool
+    requires { IsHallPassOf hall.now pass.old }
+{
+    let Ok(first) = hall.split(alloc, pass, 8) else {
+        return false;
+    };
+    let Ok(second) = hall.split(alloc, pass, 8) else {
+        return false;
+    };
+    let both = one_is_held(rt, alloc, hall, first, second);
+    both.0 && both.1
+}
+
+#[test]
+fn a_held_connection_holds_up_no_other(rt: HostRuntime) -> Result<(), Fail> {
+    let (hall, mut pass) = hall_of_notes(rt.alloc())?;
+    assert!(rt; serve_two(&rt, rt.alloc(), &hall, &mut pass));
+    Ok(())
+}
