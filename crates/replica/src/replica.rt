@@ -71,7 +71,7 @@ impl Replica {
     }
 
     /// The replica of a site whose log is that of a document with no memory reserved, and which holds nothing back.
-    /// Takes a step for each operation. Refused with `Memory`.
+    /// Walks the log once, as `Doc::ops_from` does. Refused with `Memory`.
     pub fn over_doc(alloc: Global, site: Site, doc: Doc) -> Result<Replica, Refusal>
         requires { doc.room ≡ 0 }
         ensures ok { IfOk result (λ r. r ≡ record { site = site; log = doc.log; held = []; room = 0 }) }
@@ -193,7 +193,7 @@ impl Replica {
     }
 
     /// The operations of the log from a place on, at most `max`. Refused with `BadRange` where the place is above the
-    /// log's length, or `max` is 0 or above 64; and with `Memory`. Takes the steps of `Doc::ops_from` for each.
+    /// log's length, or `max` is 0 or above 64; and with `Memory`. Takes the steps of `Doc::copy_ops`.
     pub fn ops(&self, after: u32, max: u32) -> Result<Vec<Op>, Refusal>
         ensures ok { IfOk result (λ ops. part_of self.now.log after max ≡ Ok ops.items) }
         ensures cause { IfErr result (λ e. (part_of self.now.log after max ≡ Err e)

@@ -96,7 +96,7 @@ impl Doc {
     }
 
     /// The operations from a place of the log on, in order. The first one of each site takes the steps of `op`, each
-    /// other one a step for each entry of its clock that its site's operation before had otherwise. Takes no memory.
+    /// other one a step for each entry of its clock that is stored. Takes no memory.
     pub fn ops_from(&self, i: u32) -> Replay<'_>
         requires { i ≤ length self.now.log }
         ensures { result ≡ drop i self.now.log }
