@@ -70,7 +70,7 @@ impl Bells {
 
 impl<T: Trailed> TicketLock<T> {
     // Comes to a place, and then looks whose turn it is. Who gives the turn on after that look finds that a thread
-    // came, so no wake-up is lost; no thread comes in another way.
+    // came, so no wake-up is lost; no thread with a ticket comes in another way.
     fn come(&self, sleepers: &Sleepers) -> u64 {
         sleepers.count.fetch_add(1, SeqCst);
         self.table.shared.peek(SERVED)

@@ -50,8 +50,9 @@ impl<T: Trailed> TicketLock<T> {
     /// wait here: a thread that takes turn after turn may go before them.
     ///
     /// It looks 16 times, and then sleeps and costs no processor time. A turn that ends with no ticket open wakes one
-    /// that sleeps here, and the turn that this one takes wakes the next: who has waited has to take a turn, or others
-    /// may sleep until somebody does. Takes no memory and uses no draw.
+    /// that sleeps here, unless one was woken and hasn't come to its turn yet; the turn that this one takes wakes the
+    /// next. So who has waited has to take a turn, or others may sleep until somebody does; and a thread that waits
+    /// while a ticket of its own is open sleeps for good. Takes no memory and uses no draw.
     pub fn wait_until_free<R: Wait>(&self, rt: &R) {
         let mut woken = false;
         for _ in rt.forever() {
@@ -64,7 +65,7 @@ impl<T: Trailed> TicketLock<T> {
                 }
                 spin_loop();
             }
-            // Wants first and looks then: where a ticket is open at that look, its turn, or one behind it, ends later
+            // Wants first and looks then, in this order: where a ticket is open at that look, its turn, or one behind it, ends later
             // and finds that a wake is wanted. So none is lost.
             self.lobby.want();
             if self.is_free() {

@@ -19,8 +19,8 @@ pub(crate) const SERVED: usize = 1;
 /// A value that passes take in the order of their tickets. Threads share the lock by reference, and each brings its
 /// pass.
 ///
-/// The two words and the slot with the value stand under one rule. Sleepers and bells are no part of it: they say
-/// only who is to be woken.
+/// The two words and the slot with the value stand under one rule. Sleepers, bells and the lobby are no part of it:
+/// they say only who is to be woken.
 #[derive(Drop)]
 pub struct TicketLock<T: Trailed> {
     pub(crate) table: Table<Option<T>, Sight<T::Entry>, Snapshot<T>, Served, Global>,

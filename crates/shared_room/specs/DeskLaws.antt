@@ -1,4 +1,4 @@
--- What a desk over a pass has seen, and that it keeps the laws of desks. No public clause cites this.
+-- What a desk over a pass has seen, and that it keeps the laws of desks. `PassDesk` says by it what it has seen; the rest is its proof.
 use Rattle.std.proofs.Common.{◌≡◌, ◌≤◌, ap, sym, subst, length, ℕ, List, [], append-nil}
 use mathlib.Core.List.{IsPrefix}
 use Rattle.room.specs.declared.call.Call.{Call}

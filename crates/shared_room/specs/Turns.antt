@@ -84,6 +84,7 @@ pub record Joins (v w u : View) : Type 0 where
 pub record Meets (a b a' b' : View) : Type 0 where
   pub first : Visits a a'
   pub second : Visits b b'
+  -- the first took its turn before the second
   pub order : a'.drawn < b'.drawn
   -- the first has seen what the second had seen
   pub told : IsPrefix b.seen a'.seen

@@ -152,8 +152,8 @@ pub(crate) fn answer_message<R: Wait, G: Witness>(
 /// room, and a further `open` is one of an unknown kind. Each call is counted, and the gate is told of its number before the
 /// room is asked, when the pass is as it was; what is told after a call is the sender's.
 ///
-/// The only fault is `Memory`, where the text finds none; what the message did stays. Waits for those who drew a ticket
-/// of the room before.
+/// The only fault is `Memory`, where the text finds none; what the message did stays. Waits for its turn
+/// of the room.
 pub fn answer_frame<R: Wait, G: Witness>(
     rt: &R,
     alloc: Global,

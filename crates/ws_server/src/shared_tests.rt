@@ -49,7 +49,7 @@ const TYPED: u32 = 99;
 
 const CARRIED: u32 = 64;
 
-// Two rooms that carry to each other, and a pass of each.
+// Two rooms, of which the one carries to the other.
 #[derive(Drop)]
 struct Ends<'a> {
     from: &'a SharedRoom,

@@ -18,7 +18,7 @@ use std::alloc::Global;
 use std::sync::Wait;
 
 /// Serves requests to the input's end, as `serve_lines` does, each call at its turn of the shared room, through the pass. So
-/// the answers to the lines are replies in one legal history, one call after another. Waits for those who drew before.
+/// the answers to the lines are replies in one legal history, one call after another. Waits for its turn of the room.
 pub fn serve_through_pass<H: Wait, R: Source, W: Sink>(
     rt: &H,
     alloc: Global,
