@@ -2,7 +2,7 @@
  *   REFUSE_ALLOCATION=N   the Nth call of malloc or realloc gives nothing
  *   FAIL_READ=N           the Nth read fails
  *   FAIL_WRITE=N          the Nth write fails; with WRITE_NOTHING set, it takes 0 bytes
- *   SHORT_WRITES          each other write takes one byte
+ *   SHORT_WRITES          every write that isn't refused takes one byte
  *   TELL=FILE             a file that gets a byte once something was refused
  * Reads and writes are those of descriptors 0 and 1. */
 #define _GNU_SOURCE
