@@ -13,75 +13,58 @@
 #include <stdlib.h>
 #include <unistd.h>
 
-static atomic_long allocations, reads, writes;
+/* The C library's own function of this name. */
+#define UNDER(name) \
+    static __typeof__(&name) under; \
+    if (!under) \
+        under = dlsym(RTLD_NEXT, #name)
 
-static int is_now(atomic_long *calls, const char *name)
-{
-    const char *number = getenv(name);
-    return number && atomic_fetch_add(calls, 1) + 1 == atol(number);
-}
+static atomic_long allocations, reads, writes;
 
 static void tell(void)
 {
-    static ssize_t (*under)(int, const void *, size_t);
+    UNDER(write);
     const char *file = getenv("TELL");
     int to = file ? open(file, O_WRONLY) : -1;
-    if (!under)
-        under = dlsym(RTLD_NEXT, "write");
     if (to >= 0) {
         under(to, "x", 1);
         close(to);
     }
 }
 
+/* Counts the call, and whether it is the one to refuse: that is told, and leaves the error. */
+static int is_refused(atomic_long *calls, const char *name, int error)
+{
+    const char *number = getenv(name);
+    if (!number || atomic_fetch_add(calls, 1) + 1 != atol(number))
+        return 0;
+    tell();
+    errno = error;
+    return 1;
+}
+
 void *malloc(size_t size)
 {
-    static void *(*under)(size_t);
-    if (!under)
-        under = dlsym(RTLD_NEXT, "malloc");
-    if (is_now(&allocations, "REFUSE_ALLOCATION")) {
-        tell();
-        errno = ENOMEM;
-        return NULL;
-    }
-    return under(size);
+    UNDER(malloc);
+    return is_refused(&allocations, "REFUSE_ALLOCATION", ENOMEM) ? NULL : under(size);
 }
 
 void *realloc(void *old, size_t size)
 {
-    static void *(*under)(void *, size_t);
-    if (!under)
-        under = dlsym(RTLD_NEXT, "realloc");
-    if (is_now(&allocations, "REFUSE_ALLOCATION")) {
-        tell();
-        errno = ENOMEM;
-        return NULL;
-    }
-    return under(old, size);
+    UNDER(realloc);
+    return is_refused(&allocations, "REFUSE_ALLOCATION", ENOMEM) ? NULL : under(old, size);
 }
 
 ssize_t read(int from, void *bytes, size_t size)
 {
-    static ssize_t (*under)(int, void *, size_t);
-    if (!under)
-        under = dlsym(RTLD_NEXT, "read");
-    if (from == 0 && is_now(&reads, "FAIL_READ")) {
-        tell();
-        errno = EIO;
-        return -1;
-    }
-    return under(from, bytes, size);
+    UNDER(read);
+    return from == 0 && is_refused(&reads, "FAIL_READ", EIO) ? -1 : under(from, bytes, size);
 }
 
 ssize_t write(int to, const void *bytes, size_t size)
 {
-    static ssize_t (*under)(int, const void *, size_t);
-    if (!under)
-        under = dlsym(RTLD_NEXT, "write");
-    if (to == 1 && is_now(&writes, "FAIL_WRITE")) {
-        tell();
-        errno = EIO;
+    UNDER(write);
+    if (to == 1 && is_refused(&writes, "FAIL_WRITE", EIO))
         return getenv("WRITE_NOTHING") ? 0 : -1;
-    }
     return under(to, bytes, to == 1 && size > 1 && getenv("SHORT_WRITES") ? 1 : size);
 }
