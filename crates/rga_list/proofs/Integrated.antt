@@ -12,15 +12,15 @@ use Rattle.opid.specs.declared.stamp.Stamp.{Stamp}
 use Rattle.opid.specs.Stamps.{is_same}
 use Rattle.opid.proofs.Order.{is_same-refl}
 use Rattle.rga_list.specs.declared.links.Node.{Node}
-use Rattle.rga_list.specs.Entries.{Entry, has_stamp, elem_of, placed, elem_before, IsAboveItsSite, parent_refusal}
+use Rattle.rga_list.specs.Entries.{Entry, has_stamp, elem_of, behind, put_behind, elem_before, IsAboveItsSite, parent_refusal}
 use Rattle.rga_list.specs.SiteIds.{SiteIds, find_id}
 use Rattle.rga_list.specs.Links.{blank, node_at, order_of, entry_at, entries_of, IsLinked, AreApart, ids_at, named, AreNamed, IsList}
-use Rattle.rga_list.specs.Links.{following, Ends, Walked, last_of, put_in, first_then}
+use Rattle.rga_list.specs.Links.{following, Walked, last_of, put_in, first_then}
 use Rattle.rga_list.proofs.Identifiers.{find_id-kept, find_id-push}
 use Rattle.rga_list.proofs.Linked.{Leads-within}
 use Rattle.rga_list.proofs.Ordered.{row_same, length-entries, elem_of-found, elem_of-lacks, has_stamp-above, has_stamp-none, named-elem_of}
 use Rattle.rga_list.proofs.Refused.{accepted}
-use Rattle.rga_list.proofs.Put.{Starts, ends, Found, found, put_at_head, put_behind, last_within}
+use Rattle.rga_list.proofs.Put.{Starts, Found, found, walked-behind, put_at_head, put_at_place}
 
 abbrev pub made : Stamp → ℕ → Option ℕ → Node
 made s c next = record { stamp = s; ch = c; shown = true; next = next }
@@ -164,26 +164,21 @@ Each-left : (P : ℕ → Type 0) (xs ys : List ℕ) → Each P (xs ++ ys) → Ea
 Each-left P [] ys h = tt
 Each-left P (x ∷ xs) ys h = (h.0, Each-left P xs ys h.1)
 
-pub front-within : (nodes : List Node) (first : Option ℕ) (s : Stamp) (o : Option Stamp) (last next : Option ℕ) → IsLinked nodes first
-    → (d : Found nodes first s o last next) → Each (λ i. i < length nodes) d.front
-front-within nodes first s o last next l d =
+front-within : (nodes : List Node) (first last next : Option ℕ) → IsLinked nodes first
+    → (d : Found nodes first last next) → Each (λ i. i < length nodes) d.front
+front-within nodes first last next l d =
     Each-left (λ i. i < length nodes) d.front d.back (subst (Each (λ i. i < length nodes)) d.is
     (Leads-within nodes first None (order_of nodes first) l.leads))
 
-pub last-within : (nodes : List Node) (first : Option ℕ) (s : Stamp) (o : Option Stamp) (last next : Option ℕ) → IsLinked nodes first
-    → Found nodes first s o last next → IfSome last (λ k. k < length nodes)
-last-within nodes first s o None next l d = tt
-last-within nodes first s o (Some p) next l d = last_within nodes first s o p next l d
-
 -- the links after the insertion
-put : (nodes : List Node) (first : Option ℕ) (s : Stamp) (o : Option Stamp) (last next : Option ℕ) (v : Node) → IsLinked nodes first
-    → v.next ≡ next → (d : Found nodes first s o last next)
+put : (nodes : List Node) (first last next : Option ℕ) (v : Node) → IsLinked nodes first
+    → v.next ≡ next → (d : Found nodes first last next)
     → IsLinked (put_in nodes v last) (first_then nodes first last)
     × (entries_of (put_in nodes v last) (first_then nodes first last)
     ≡ map (entry_at nodes) d.front ++ entry_at (put_in nodes v last) (length nodes) ∷ map (entry_at nodes) d.back)
-put nodes first s o None next v l e d = put_at_head nodes first s o next v l e d
-put nodes first s o (Some p) next v l e d =
-    put_behind nodes first s o p next v (linked_to (node_at nodes p) (length nodes)) l e d refl (refl, refl, refl)
+put nodes first None next v l e d = put_at_head nodes first next v l e d
+put nodes first (Some p) next v l e d =
+    put_at_place nodes first p next v (linked_to (node_at nodes p) (length nodes)) l e d refl (refl, refl, refl)
 
 -- where the walk starts
 pub starts_at : (nodes : List Node) (first : Option ℕ) (rows : List SiteIds) (s : Stamp) (o : Option Stamp) (before at : Option ℕ)
@@ -204,12 +199,13 @@ starts_at nodes first rows s (Some p) before at h a e f = go (elem_of p (entries
         absurd (both_ways (has_stamp (entries_of nodes first) p) unknown known)
 
 -- the parent's element is there
-pub parent-within : (nodes : List Node) (first : Option ℕ) (rows : List SiteIds) (o : Option Stamp) (before : Option ℕ)
-    → IsList nodes first rows
-    → before ≡ option_and_then (λ p. elem_of p (entries_of nodes first)) o → IfSome before (λ k. k < length nodes)
-parent-within nodes first rows o None h e = tt
-parent-within nodes first rows None (Some k) h e = cc
-parent-within nodes first rows (Some p) (Some k) h e = (elem_of-found nodes first rows p k h (sym e)).0
+pub parent-within : (nodes : List Node) (first : Option ℕ) (rows : List SiteIds) (o : Option Stamp) (before : Option ℕ) (xs : List Entry)
+    → IsList nodes first rows → entries_of nodes first ≡ xs
+    → before ≡ option_and_then (λ p. elem_of p xs) o → IfSome before (λ k. k < length nodes)
+parent-within nodes first rows o None xs h shows e = tt
+parent-within nodes first rows None (Some k) xs h shows e = cc
+parent-within nodes first rows (Some p) (Some k) xs h shows e =
+    (elem_of-found nodes first rows p k h (ap (elem_of p) shows ∙ sym e)).0
 
 -- no element has a stamp that is above every stamp of its site
 named-above : (nodes : List Node) (first : Option ℕ) (rows : List SiteIds) (s : Stamp) → IsList nodes first rows
@@ -217,26 +213,23 @@ named-above : (nodes : List Node) (first : Option ℕ) (rows : List SiteIds) (s 
 named-above nodes first rows s h above =
     named-elem_of nodes first rows s h ∙ elem_of-lacks s (entries_of nodes first) (has_stamp-above (entries_of nodes first) s above)
 
--- The insertion keeps what holds of the list, and its entries are those of the walk.
-pub record After (nodes : List Node) (first : Option ℕ) (rows : List SiteIds) (s : Stamp) (o : Option Stamp) (c : ℕ) (last next : Option ℕ)
-    (r : SiteIds) : Type 0 where
-  pub list : IsList (put_in nodes (made s c next) last) (first_then nodes first last) (set rows s.site r)
-  pub entries : entries_of (put_in nodes (made s c next) last) (first_then nodes first last)
-      ≡ placed o (record { elem = length nodes; stamp = s; ch = c; shown = true }) (entries_of nodes first)
-  pub before : last ≡ elem_before (length nodes) None (entries_of (put_in nodes (made s c next) last) (first_then nodes first last))
+-- The insertion keeps what holds of the list, and its entries are those before with a further one.
+pub record After (nodes : List Node) (first : Option ℕ) (rows : List SiteIds) (v : Node) (last : Option ℕ) (r : SiteIds) : Type 0 where
+  pub list : IsList (put_in nodes v last) (first_then nodes first last) (set rows v.stamp.site r)
+  pub entries : entries_of (put_in nodes v last) (first_then nodes first last)
+      ≡ put_behind last (record { elem = length nodes; stamp = v.stamp; ch = v.ch; shown = v.shown }) (entries_of nodes first)
+  pub before : last ≡ elem_before (length nodes) None (entries_of (put_in nodes v last) (first_then nodes first last))
 
-pub integrated : (nodes : List Node) (first : Option ℕ) (rows : List SiteIds) (s : Stamp) (o : Option Stamp) (c : ℕ)
-    (before at last next : Option ℕ) (r : SiteIds)
-    → IsList nodes first rows → length nodes < 131072 → s.site < 32 → IsAboveItsSite (entries_of nodes first) s
-    → Starts nodes first s o before at → Walked nodes s before at last next
-    → r.ids ≡ (ids_at rows s.site).ids ++ (s.sum, length nodes) ∷ []
-    → After nodes first rows s o c last next r
-integrated nodes first rows s o c before at last next r h few site above starts walked ids =
-    let d : Found nodes first s o last next = found nodes first s o before at last next h.linked h.apart starts walked in
-    let v : Node = made s c next in
-    let within : IfSome last (λ k. k < length nodes) = last-within nodes first s o last next h.linked d in
+integrated : (nodes : List Node) (first : Option ℕ) (rows : List SiteIds) (v : Node) (last : Option ℕ) (r : SiteIds)
+    → IsList nodes first rows → length nodes < 131072 → v.stamp.site < 32 → IsAboveItsSite (entries_of nodes first) v.stamp
+    → IfSome last (λ k. k < length nodes) → v.next ≡ following nodes first last
+    → r.ids ≡ (ids_at rows v.stamp.site).ids ++ (v.stamp.sum, length nodes) ∷ []
+    → After nodes first rows v last r
+integrated nodes first rows v last r h few site above within next ids =
+    let s : Stamp = v.stamp in
+    let d : Found nodes first last (following nodes first last) = found nodes first last h.linked within in
     let new : List Node = put_in nodes v last in
-    let p = put nodes first s o last next v h.linked refl d in
+    let p = put nodes first last (following nodes first last) v h.linked next d in
     let at_end : node_at new (length nodes) ≡ v = put_in-new nodes v last within in
     let lacks : named rows s ≡ None = named-above nodes first rows s h above in
     let grows : Grows nodes new s = record {
@@ -245,7 +238,7 @@ integrated nodes first rows s o c before at last next r h few site above starts 
       here = ap (λ (n : Node). n.stamp) at_end;
       fresh = λ i l e. (let q : None ≡ Some i = sym lacks ∙ ap (named rows) (sym e) ∙ h.are_named.each i l in cc);
     } in
-    let entry : entry_at new (length nodes) ≡ record { elem = length nodes; stamp = s; ch = c; shown = true } =
+    let entry : entry_at new (length nodes) ≡ record { elem = length nodes; stamp = s; ch = v.ch; shown = v.shown } =
     ap (λ (n : Node). let e : Entry = record { elem = length nodes; stamp = n.stamp; ch = n.ch; shown = n.shown } in e) at_end in
     record {
       list = record {
@@ -256,63 +249,56 @@ integrated nodes first rows s o c before at last next r h few site above starts 
         width = length-set rows s.site r ∙ h.width;
       };
       entries = p.1 ∙ ap (λ (e : Entry). map (entry_at nodes) d.front ++ e ∷ map (entry_at nodes) d.back) entry
-          ∙ sym (d.places (record { elem = length nodes; stamp = s; ch = c; shown = true }) refl);
+          ∙ sym (d.puts (record { elem = length nodes; stamp = s; ch = v.ch; shown = v.shown }));
       before = d.last_is
           ∙ before-front nodes d.front (length nodes) (entry_at new (length nodes)) (map (entry_at nodes) d.back) None
-          (front-within nodes first s o last next h.linked d) refl
+          (front-within nodes first last (following nodes first last) h.linked d) refl
           ∙ ap (elem_before (length nodes) None) (sym p.1);
     }
 
 -- The same, for what the code has read and written.
 pub inserted : (nodes new : List Node) (first f : Option ℕ) (rows : List SiteIds) (site : ℕ) (d row r : SiteIds) (s : Stamp)
-    (o : Option Stamp) (c : ℕ) (before at last next : Option ℕ) (m : ℕ) (xs : List Entry)
+    (c : ℕ) (last next : Option ℕ) (m : ℕ) (xs : List Entry)
     → IsList nodes first rows → entries_of nodes first ≡ xs → length nodes < 131072 → IsAboveItsSite xs s
-    → parent_refusal xs o s ≡ None → before ≡ option_and_then (λ p. elem_of p xs) o → at ≡ following nodes first before
-    → Walked nodes s before at last next
+    → IfSome last (λ k. k < length nodes) → next ≡ following nodes first last
     → site ≡ s.site → site < 32 → row ≡ get_or rows site d → m ≡ length nodes → r.ids ≡ row.ids ++ (s.sum, m) ∷ []
     → new ≡ put_in nodes (made s c next) last → f ≡ first_then nodes first last
-    → IsList new f (set rows site r) × (entries_of new f ≡ placed o (record { elem = length xs; stamp = s; ch = c; shown = true }) xs)
+    → IsList new f (set rows site r) × (entries_of new f ≡ put_behind last (record { elem = length xs; stamp = s; ch = c; shown = true }) xs)
     × (last ≡ elem_before m None (entries_of new f))
-inserted nodes new first f rows site d row r s o c before at last next m xs list shows few above refusal parent follows walked here bound
-    read size ids put_new put_first =
+inserted nodes new first f rows site d row r s c last next m xs list shows few above within follows here bound read size ids put_new put_first =
     let width : site < length rows = omega (arith, list.width) in
     let at_site : row.ids ≡ (ids_at rows s.site).ids = ap (λ (v : SiteIds). v.ids) (read ∙ row_same rows site s.site d here width) in
-    let starts : Starts nodes first s o before at = starts_at nodes first rows s o before at list
-    (subst (λ v. parent_refusal v o s ≡ None) (sym shows) refusal)
-    (subst (λ v. before ≡ option_and_then (λ p. elem_of p v) o) (sym shows) parent) follows in
-    let a : After nodes first rows s o c last next r =
-    integrated nodes first rows s o c before at last next r list few (subst (λ v. v < 32) here bound)
-    (subst (λ v. IsAboveItsSite v s) (sym shows) above) starts walked
+    let v : Node = made s c next in
+    let a : After nodes first rows v last r =
+    integrated nodes first rows v last r list few (subst (λ v. v < 32) here bound)
+    (subst (λ v. IsAboveItsSite v s) (sym shows) above) within follows
     (ids ∙ ap₂ (λ (u : List (ℕ × ℕ)) (v : ℕ). u ++ (s.sum, v) ∷ []) at_site size) in
     let count : length nodes ≡ length xs = sym (length-entries nodes first list.linked) ∙ ap length shows in
     let P : List Node → Option ℕ → Type 0 = λ n g. IsList n g (set rows site r)
-    × (entries_of n g ≡ placed o (record { elem = length xs; stamp = s; ch = c; shown = true }) xs)
+    × (entries_of n g ≡ put_behind last (record { elem = length xs; stamp = s; ch = c; shown = true }) xs)
     × (last ≡ elem_before m None (entries_of n g)) in
-    subst (λ n. P n f) (sym put_new) (subst (λ g. P (put_in nodes (made s c next) last) g) (sym put_first) (
-      subst (λ k. IsList (put_in nodes (made s c next) last) (first_then nodes first last) (set rows k r)) (sym here) a.list,
-      a.entries ∙ ap₂ (λ (k : ℕ) (v : List Entry). placed o (record { elem = k; stamp = s; ch = c; shown = true }) v) count shows,
-      a.before ∙ ap (λ k. elem_before k None (entries_of (put_in nodes (made s c next) last) (first_then nodes first last))) (sym size),
+    subst (λ n. P n f) (sym put_new) (subst (λ g. P (put_in nodes v last) g) (sym put_first) (
+      subst (λ k. IsList (put_in nodes v last) (first_then nodes first last) (set rows k r)) (sym here) a.list,
+      a.entries ∙ ap₂ (λ (k : ℕ) (w : List Entry). put_behind last (record { elem = k; stamp = s; ch = c; shown = true }) w) count shows,
+      a.before ∙ ap (λ k. elem_before k None (entries_of (put_in nodes v last) (first_then nodes first last))) (sym size),
     ))
 
--- what the walk needs of where it starts
-pub walk-ends : (nodes : List Node) (first : Option ℕ) (rows : List SiteIds) (s : Stamp) (o : Option Stamp) (before at : Option ℕ)
-    (xs : List Entry)
-    → IsList nodes first rows → entries_of nodes first ≡ xs → parent_refusal xs o s ≡ None → before ≡ option_and_then (λ p. elem_of p xs) o
-    → at ≡ following nodes first before → Ends nodes at
-walk-ends nodes first rows s o before at xs list shows refusal parent follows =
-    ends nodes first s o before at list.linked (starts_at nodes first rows s o before at list
-    (subst (λ v. parent_refusal v o s ≡ None) (sym shows) refusal)
-    (subst (λ v. before ≡ option_and_then (λ p. elem_of p v) o) (sym shows) parent) follows)
+last_of-within : (n : ℕ) (b : Option ℕ) (xs : List ℕ) → IfSome b (λ k. k < n) → Each (λ i. i < n) xs → IfSome (last_of b xs) (λ k. k < n)
+last_of-within n b [] h w = h
+last_of-within n b (x ∷ xs) h w = last_of-within n (Some x) xs w.0 w.1
 
--- and where it stops
-pub walk-last : (nodes : List Node) (first : Option ℕ) (rows : List SiteIds) (s : Stamp) (o : Option Stamp) (before at last next : Option ℕ)
-    (xs : List Entry)
-    → IsList nodes first rows → entries_of nodes first ≡ xs → parent_refusal xs o s ≡ None → before ≡ option_and_then (λ p. elem_of p xs) o
-    → at ≡ following nodes first before
-    → Walked nodes s before at last next → IfSome last (λ k. k < length nodes)
-walk-last nodes first rows s o before at last next xs list shows refusal parent follows walked =
-    last-within nodes first s o last next list.linked (found nodes first s o before at last next list.linked list.apart
-    (starts_at nodes first rows s o before at list
+-- where the walk from the parent ends
+pub walk-ended : (nodes : List Node) (first : Option ℕ) (rows : List SiteIds) (s : Stamp) (o : Option Stamp) (before at last : Option ℕ)
+    (xs : List Entry) → IsList nodes first rows → entries_of nodes first ≡ xs → parent_refusal xs o s ≡ None
+    → before ≡ option_and_then (λ p. elem_of p xs) o → at ≡ following nodes first before → Walked nodes s before at last
+    → (last ≡ behind o s xs) × IfSome last (λ k. k < length xs)
+walk-ended nodes first rows s o before at last xs list shows refusal parent follows (next, over, back, w, stops) =
+    let size : length nodes ≡ length xs = sym (length-entries nodes first list.linked) ∙ ap length shows in
+    let starts : Starts nodes first s o before at = starts_at nodes first rows s o before at list
     (subst (λ v. parent_refusal v o s ≡ None) (sym shows) refusal)
-    (subst (λ v. before ≡ option_and_then (λ p. elem_of p v) o) (sym shows) parent) follows)
-    walked)
+    (subst (λ v. before ≡ option_and_then (λ p. elem_of p v) o) (sym shows) parent) follows in (
+      walked-behind nodes first s o before at last list.linked list.apart starts (next, over, back, w, stops) ∙ ap (behind o s) shows,
+      subst (λ n. IfSome last (λ k. k < n)) size (subst (λ v. IfSome v (λ k. k < length nodes)) (sym w.last_is)
+          (last_of-within (length nodes) before over (parent-within nodes first rows o before xs list shows parent)
+          (Leads-within nodes at next over w.over))),
+    )

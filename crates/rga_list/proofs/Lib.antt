@@ -4,6 +4,7 @@ pub mod Ordered
 pub mod Refused
 pub mod Reserved
 pub mod Put
+pub mod Behind
 pub mod Integrated
 pub mod Shown
 pub mod Deleted

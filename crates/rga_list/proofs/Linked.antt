@@ -247,16 +247,16 @@ Walking-place nodes s before at last None w = tt
 Walking-place nodes s before at last (Some i) w = Walking-within nodes s before at last i w
 
 pub Walked-stop : (nodes : List Node) (s : Stamp) (before at last : Option ℕ) (i : ℕ) → Walking nodes s before at last (Some i)
-    → is_before s (node_at nodes i).stamp ≡ false → Walked nodes s before at last (Some i)
-Walked-stop nodes s before at last i (passed, rest, w, l) g = (passed, rest, w, go rest w.on)
+    → is_before s (node_at nodes i).stamp ≡ false → Walked nodes s before at last
+Walked-stop nodes s before at last i (passed, rest, w, l) g = (Some i, passed, rest, w, go rest w.on)
   where
     go : (r : List ℕ) → Leads nodes (Some i) r None → StopsAt nodes s r
     go [] h = tt
     go (j ∷ js) h = let same : i ≡ j = cc (h.0) in subst (λ v. is_before s (node_at nodes v).stamp ≡ false) same g
 
 pub Walked-end : (nodes : List Node) (s : Stamp) (before at last : Option ℕ) → Walking nodes s before at last None
-    → Walked nodes s before at last None
-Walked-end nodes s before at last (passed, rest, w, l) = (passed, rest, w, go rest w.on)
+    → Walked nodes s before at last
+Walked-end nodes s before at last (passed, rest, w, l) = (None, passed, rest, w, go rest w.on)
   where
     go : (r : List ℕ) → Leads nodes None r None → StopsAt nodes s r
     go [] h = tt

@@ -1,6 +1,6 @@
--- A new element put in by the links stands where the walk stopped.
+-- Where the walk along the links ends, and what a new element put in by them does to the order.
 use Rattle.std.proofs.Common.{◌≡◌, ◌≢◌, ℕ, ◌<◌, Bool, true, false, Option, Some, None, List, [], ◌∷◌, ◌++◌, map, length, set, refl, ap, ◌∙◌}
-use Rattle.std.proofs.Common.{sym, subst, inl, inr, ◌⊎◌, arith, append_assoc, length-append, length-set}
+use Rattle.std.proofs.Common.{sym, subst, inl, inr, ◌⊎◌, arith, append_assoc, length-append, length-set, eqb, eqb-true, eq-eqb, IfSome}
 use mathlib.Core.Path.{ap₂}
 use Rattle.std.specs.List.{AllByRecursion as Each}
 use Rattle.std.proofs.lemmas.Bool.{cond-true, cond-false, cases_eq, false_from_ne_true}
@@ -9,10 +9,10 @@ use Rattle.opid.specs.declared.stamp.Stamp.{Stamp}
 use Rattle.opid.specs.Stamps.{is_before, is_same}
 use Rattle.opid.proofs.Order.{is_same-eq, is_same-sym}
 use Rattle.rga_list.specs.declared.links.Node.{Node}
-use Rattle.rga_list.specs.Entries.{Entry, stand, stand_after, placed}
+use Rattle.rga_list.specs.Entries.{Entry, passed, behind, put_behind}
 use Rattle.rga_list.specs.Links.{blank, node_at, order_of, entry_at, entries_of, Leads, AreOnce, IsOneOf, IsLinked, AreApart, Walked}
-use Rattle.rga_list.specs.Links.{StopsAt, Ends, last_of}
-use Rattle.rga_list.proofs.Linked.{Leads-join, Leads-split, Leads-within, Leads-at_head, Leads-behind, put_between, map-append}
+use Rattle.rga_list.specs.Links.{StopsAt, Ends, last_of, following}
+use Rattle.rga_list.proofs.Linked.{Leads-join, Leads-split, Leads-within, Leads-at_head, Leads-behind, put_between}
 
 -- where the walk starts: at the head, or behind the parent, which has a smaller stamp
 abbrev pub Starts : List Node → Option ℕ → Stamp → Option Stamp → Option ℕ → Option ℕ → Type 0
@@ -59,118 +59,107 @@ split_at i [] h = absurd h
 split_at i (x ∷ xs) (inl e) = ([], xs, ap (λ v. v ∷ xs) (sym e))
 split_at i (x ∷ xs) (inr h) = let r = split_at i xs h in (x ∷ r.0, r.1, ap (λ v. x ∷ v) r.2)
 
--- what comes before the walk
-abbrev pub Before : List Node → Option ℕ → Option ℕ → Option ℕ → List ℕ → List ℕ → Type 0
-Before nodes head before at front rest = (order_of nodes head ≡ front ++ rest) × Leads nodes at rest None × (before ≡ last_of None front)
-
 last_of-snoc : (b : Option ℕ) (f : List ℕ) (k : ℕ) → Some k ≡ last_of b (f ++ k ∷ [])
 last_of-snoc b [] k = refl
 last_of-snoc b (x ∷ xs) k = last_of-snoc (Some x) xs k
 
--- the walk starts at the head, or behind a part of the order that ends with the parent
-pub starts : (nodes : List Node) (head : Option ℕ) (s : Stamp) (o : Option Stamp) (before at : Option ℕ) → IsLinked nodes head
-    → Starts nodes head s o before at
-    → (front rest : List ℕ) × Before nodes head before at front rest
-starts nodes head s None before at l h =
-    ([], order_of nodes head, (refl, subst (λ v. Leads nodes v (order_of nodes head) None) (sym h.1) l.leads, h.0))
-starts nodes head s (Some p) before at l (k, b, e, isk, isat) =
-    let parts = split_at k (order_of nodes head) (l.covers k b) in
-    let halves = Leads-split nodes head None parts.0 (k ∷ parts.1) (subst (λ v. Leads nodes head v None) parts.2 l.leads) in (
-      parts.0 ++ k ∷ [],
-      parts.1,
-      (
-        parts.2 ∙ sym (append_assoc parts.0 (k ∷ []) parts.1),
-        subst (λ v. Leads nodes v parts.1 None) (sym isat) halves.2.2,
-        isk ∙ last_of-snoc None parts.0 k,
-      ),
-    )
+-- an element put in among the entries, behind one of the places
+put_behind-split : (x : Entry) (nodes : List Node) (f : List ℕ) (k : ℕ) (back : List ℕ) → AreOnce (f ++ k ∷ back)
+    → put_behind (Some k) x (map (entry_at nodes) (f ++ k ∷ back)) ≡ map (entry_at nodes) (f ++ k ∷ []) ++ x ∷ map (entry_at nodes) back
+put_behind-split x nodes [] k back o = cond-true _ _ _ (eq-eqb k k refl)
+put_behind-split x nodes (i ∷ is) k back o =
+    cond-false _ _ _ (false_from_ne_true (eqb i k) (λ q. among is o.0 (sym (eqb-true i k q))))
+    ∙ ap (λ v. entry_at nodes i ∷ v) (put_behind-split x nodes is k back o.1)
+  where
+    among : (js : List ℕ) → Each (λ j. j ≢ i) (js ++ k ∷ back) → k ≢ i
+    among [] h = h.0
+    among (j ∷ js) h = among js h.1
 
-pub ends : (nodes : List Node) (head : Option ℕ) (s : Stamp) (o : Option Stamp) (before at : Option ℕ) → IsLinked nodes head
-    → Starts nodes head s o before at → Ends nodes at
-ends nodes head s o before at l h =
-    let r = starts nodes head s o before at l h in
-    (r.1, r.2.1, omega (arith, ap length r.2.0, length-append r.0 r.1, l.each))
+-- the two parts of the order between which an element goes
+pub record Found (nodes : List Node) (head last next : Option ℕ) : Type 0 where
+  pub front : List ℕ
+  pub back : List ℕ
+  pub is : order_of nodes head ≡ front ++ back
+  pub on : Leads nodes next back None
+  pub last_is : last ≡ last_of None front
+  pub puts : (x : Entry) → put_behind last x (entries_of nodes head) ≡ map (entry_at nodes) front ++ x ∷ map (entry_at nodes) back
+
+pub found : (nodes : List Node) (head last : Option ℕ) → IsLinked nodes head → IfSome last (λ k. k < length nodes)
+    → Found nodes head last (following nodes head last)
+found nodes head None l b =
+    record { front = []; back = order_of nodes head; is = refl; on = l.leads; last_is = refl; puts = λ x. refl }
+found nodes head (Some k) l b =
+    let parts = split_at k (order_of nodes head) (l.covers k b) in
+    let halves = Leads-split nodes head None parts.0 (k ∷ parts.1) (subst (λ v. Leads nodes head v None) parts.2 l.leads) in
+    record {
+      front = parts.0 ++ k ∷ [];
+      back = parts.1;
+      is = parts.2 ∙ sym (append_assoc parts.0 (k ∷ []) parts.1);
+      on = halves.2.2;
+      last_is = last_of-snoc None parts.0 k;
+      puts = λ x. ap (λ v. put_behind (Some k) x (map (entry_at nodes) v)) parts.2
+          ∙ put_behind-split x nodes parts.0 k parts.1 (subst AreOnce parts.2 l.once);
+    }
+
+-- the links lead on from any place to the end
+pub ends : (nodes : List Node) (head before : Option ℕ) → IsLinked nodes head → IfSome before (λ k. k < length nodes)
+    → Ends nodes (following nodes head before)
+ends nodes head before l b =
+    let d = found nodes head before l b in
+    (d.back, d.on, omega (arith, ap length d.is, length-append d.front d.back, l.each))
+
+-- and to a place, if they lead on
+pub next_within : (nodes : List Node) (head before : Option ℕ) → IsLinked nodes head → IfSome before (λ k. k < length nodes)
+    → (i : ℕ) → following nodes head before ≡ Some i → i < length nodes
+next_within nodes head before l b i e = let d = found nodes head before l b in go d.back d.on
+  where
+    go : (xs : List ℕ) → Leads nodes (following nodes head before) xs None → i < length nodes
+    go [] h = cc
+    go (x ∷ xs) h = let same : x ≡ i = cc (e, h.0) in subst (λ v. v < length nodes) same h.1
 
 -- the walk among the entries
-stand-walked : (x : Entry) (nodes : List Node) (passed back : List ℕ) → Each (λ i. is_before x.stamp (node_at nodes i).stamp ≡ true) passed
-    → StopsAt nodes x.stamp back
-    → stand x (map (entry_at nodes) (passed ++ back)) ≡ map (entry_at nodes) passed ++ x ∷ map (entry_at nodes) back
-stand-walked x nodes [] [] g s = refl
-stand-walked x nodes [] (i ∷ is) g s = cond-false _ _ _ s
-stand-walked x nodes (i ∷ is) back g s = cond-true _ _ _ g.0 ∙ ap (λ r. entry_at nodes i ∷ r) (stand-walked x nodes is back g.1 s)
+passed-walked : (s : Stamp) (nodes : List Node) (b : Option ℕ) (over back : List ℕ)
+    → Each (λ i. is_before s (node_at nodes i).stamp ≡ true) over → StopsAt nodes s back
+    → passed s b (map (entry_at nodes) (over ++ back)) ≡ last_of b over
+passed-walked s nodes b [] [] g h = refl
+passed-walked s nodes b [] (i ∷ is) g h = cond-false _ _ _ h
+passed-walked s nodes b (i ∷ is) back g h = cond-true _ _ _ g.0 ∙ passed-walked s nodes (Some i) is back g.1 h
 
 missed : (s : Stamp) (nodes : List Node) (f : List ℕ) (k : ℕ) (r : List ℕ) → Misses s (map (entry_at nodes) (f ++ k ∷ r))
     → is_same s (node_at nodes k).stamp ≡ false
 missed s nodes [] k r h = h.0
 missed s nodes (i ∷ is) k r h = missed s nodes is k r h.1
 
-stand_after-found : (p : Stamp) (x : Entry) (nodes : List Node) (f : List ℕ) (k : ℕ) (r : List ℕ)
+behind-found : (p s : Stamp) (nodes : List Node) (f : List ℕ) (k : ℕ) (r : List ℕ)
     → AreSeparate (map (entry_at nodes) (f ++ k ∷ r)) → is_same p (node_at nodes k).stamp ≡ true
-    → stand_after p x (map (entry_at nodes) (f ++ k ∷ r)) ≡ map (entry_at nodes) (f ++ k ∷ []) ++ stand x (map (entry_at nodes) r)
-stand_after-found p x nodes [] k r a e = cond-true _ _ _ e
-stand_after-found p x nodes (i ∷ is) k r a e =
+    → behind (Some p) s (map (entry_at nodes) (f ++ k ∷ r)) ≡ passed s (Some k) (map (entry_at nodes) r)
+behind-found p s nodes [] k r a e = cond-true _ _ _ e
+behind-found p s nodes (i ∷ is) k r a e =
     cond-false _ _ _ (subst (λ v. is_same v (node_at nodes i).stamp ≡ false) (sym (is_same-eq p (node_at nodes k).stamp e))
     (is_same-sym (node_at nodes k).stamp (node_at nodes i).stamp ∙ missed (node_at nodes i).stamp nodes is k r a.0))
-    ∙ ap (λ v. entry_at nodes i ∷ v) (stand_after-found p x nodes is k r a.1 e)
+    ∙ behind-found p s nodes is k r a.1 e
 
-last_of-append : (b : Option ℕ) (xs ys : List ℕ) → last_of b (xs ++ ys) ≡ last_of (last_of b xs) ys
-last_of-append b [] ys = refl
-last_of-append b (x ∷ xs) ys = last_of-append (Some x) xs ys
-
--- the two parts of the order between which the element goes
-pub record Found (nodes : List Node) (head : Option ℕ) (s : Stamp) (o : Option Stamp) (last next : Option ℕ) : Type 0 where
-  pub front : List ℕ
-  pub back : List ℕ
-  pub is : order_of nodes head ≡ front ++ back
-  pub on : Leads nodes next back None
-  pub last_is : last ≡ last_of None front
-  pub places : (x : Entry) → x.stamp ≡ s → placed o x (entries_of nodes head) ≡ map (entry_at nodes) front ++ x ∷ map (entry_at nodes) back
-
-pub found : (nodes : List Node) (head : Option ℕ) (s : Stamp) (o : Option Stamp) (before at last next : Option ℕ) → IsLinked nodes head
-    → AreApart nodes
-    → Starts nodes head s o before at → Walked nodes s before at last next → Found nodes head s o last next
-found nodes head s None before at last next l apart h (passed, back, w, stops) =
-    let whole : Leads nodes at (passed ++ back) None = Leads-join nodes at next None passed back w.over w.on in
-    let is : order_of nodes head ≡ passed ++ back = Leads-unique nodes head (order_of nodes head) (passed ++ back) l.leads
-    (subst (λ v. Leads nodes v (passed ++ back) None) h.1 whole) in
-    record {
-      front = passed;
-      back = back;
-      is = is;
-      on = w.on;
-      last_is = w.last_is ∙ ap (λ v. last_of v passed) h.0;
-      places = λ x e. ap (λ v. stand x (map (entry_at nodes) v)) is
-          ∙ stand-walked x nodes passed back (subst (λ v. Each (λ i. is_before v (node_at nodes i).stamp ≡ true) passed) (sym e) w.greater)
-          (subst (λ v. StopsAt nodes v back) (sym e) stops);
-    }
-found nodes head s (Some p) before at last next l apart (k, b, same, isk, isat) (passed, back, w, stops) =
+-- the walk along the links ends where that among the entries does
+pub walked-behind : (nodes : List Node) (head : Option ℕ) (s : Stamp) (o : Option Stamp) (before at last : Option ℕ) → IsLinked nodes head
+    → AreApart nodes → Starts nodes head s o before at → Walked nodes s before at last → last ≡ behind o s (entries_of nodes head)
+walked-behind nodes head s None before at last l apart h (next, over, back, w, stops) =
+    let whole : Leads nodes at (over ++ back) None = Leads-join nodes at next None over back w.over w.on in
+    let is : order_of nodes head ≡ over ++ back = Leads-unique nodes head (order_of nodes head) (over ++ back) l.leads
+    (subst (λ v. Leads nodes v (over ++ back) None) h.1 whole) in
+    w.last_is ∙ ap (λ v. last_of v over) h.0 ∙ sym (ap (λ v. passed s None (map (entry_at nodes) v)) is
+    ∙ passed-walked s nodes None over back w.greater stops)
+walked-behind nodes head s (Some p) before at last l apart (k, b, same, isk, isat) (next, over, back, w, stops) =
     let parts = split_at k (order_of nodes head) (l.covers k b) in
     let halves = Leads-split nodes head None parts.0 (k ∷ parts.1) (subst (λ v. Leads nodes head v None) parts.2 l.leads) in
-    let whole : Leads nodes at (passed ++ back) None = Leads-join nodes at next None passed back w.over w.on in
-    let rest : parts.1 ≡ passed ++ back = Leads-unique nodes (node_at nodes k).next parts.1 (passed ++ back) halves.2.2
-    (subst (λ v. Leads nodes v (passed ++ back) None) isat whole) in
-    let is : order_of nodes head ≡ parts.0 ++ k ∷ (passed ++ back) = parts.2 ∙ ap (λ v. parts.0 ++ k ∷ v) rest in
-    let regrouped : parts.0 ++ k ∷ (passed ++ back) ≡ ((parts.0 ++ k ∷ []) ++ passed) ++ back =
-    sym (append_assoc (parts.0 ++ k ∷ []) passed back ∙ append_assoc parts.0 (k ∷ []) (passed ++ back)) in
-    let separate : AreSeparate (map (entry_at nodes) (parts.0 ++ k ∷ (passed ++ back))) =
+    let whole : Leads nodes at (over ++ back) None = Leads-join nodes at next None over back w.over w.on in
+    let rest : parts.1 ≡ over ++ back = Leads-unique nodes (node_at nodes k).next parts.1 (over ++ back) halves.2.2
+    (subst (λ v. Leads nodes v (over ++ back) None) isat whole) in
+    let is : order_of nodes head ≡ parts.0 ++ k ∷ (over ++ back) = parts.2 ∙ ap (λ v. parts.0 ++ k ∷ v) rest in
+    let separate : AreSeparate (map (entry_at nodes) (parts.0 ++ k ∷ (over ++ back))) =
     subst (λ v. AreSeparate (map (entry_at nodes) v)) is (AreSeparate-once nodes (order_of nodes head) apart
     (Leads-within nodes head None (order_of nodes head) l.leads) l.once) in
-    record {
-      front = (parts.0 ++ k ∷ []) ++ passed;
-      back = back;
-      is = is ∙ regrouped;
-      on = w.on;
-      last_is = w.last_is ∙ ap (λ v. last_of v passed) (isk ∙ last_of-snoc None parts.0 k)
-          ∙ sym (last_of-append None (parts.0 ++ k ∷ []) passed);
-      places = λ x e.
-          ap (λ v. stand_after p x (map (entry_at nodes) v)) is
-          ∙ stand_after-found p x nodes parts.0 k (passed ++ back) separate same
-          ∙ ap (λ v. map (entry_at nodes) (parts.0 ++ k ∷ []) ++ v)
-          (stand-walked x nodes passed back (subst (λ v. Each (λ i. is_before v (node_at nodes i).stamp ≡ true) passed)
-          (sym e) w.greater) (subst (λ v. StopsAt nodes v back) (sym e) stops))
-          ∙ sym (append_assoc (map (entry_at nodes) (parts.0 ++ k ∷ [])) (map (entry_at nodes) passed) (x ∷ map (entry_at nodes) back))
-          ∙ ap (λ v. v ++ x ∷ map (entry_at nodes) back) (sym (map-append (entry_at nodes) (parts.0 ++ k ∷ []) passed));
-    }
+    w.last_is ∙ ap (λ v. last_of v over) isk ∙ sym (ap (λ v. behind (Some p) s (map (entry_at nodes) v)) is
+    ∙ behind-found p s nodes parts.0 k (over ++ back) separate same ∙ passed-walked s nodes (Some k) over back w.greater stops)
 
 -- nothing was passed, or something last
 some_last : (x : ℕ) (xs : List ℕ) → (f : List ℕ) × (p : ℕ) × (last_of (Some x) xs ≡ Some p) × (x ∷ xs ≡ f ++ p ∷ [])
@@ -195,11 +184,11 @@ same-prefix nodes v (x ∷ xs) = (
 )
 
 -- put in at the head
-pub put_at_head : (nodes : List Node) (head : Option ℕ) (s : Stamp) (o : Option Stamp) (next : Option ℕ) (v : Node) → IsLinked nodes head
-    → v.next ≡ next → (d : Found nodes head s o None next)
+pub put_at_head : (nodes : List Node) (head next : Option ℕ) (v : Node) → IsLinked nodes head
+    → v.next ≡ next → (d : Found nodes head None next)
     → IsLinked (nodes ++ v ∷ []) (Some (length nodes)) × (entries_of (nodes ++ v ∷ []) (Some (length nodes))
     ≡ map (entry_at nodes) d.front ++ entry_at (nodes ++ v ∷ []) (length nodes) ∷ map (entry_at nodes) d.back)
-put_at_head nodes head s o next v l e d =
+put_at_head nodes head next v l e d =
     let none : d.front ≡ [] = front-none d.front d.last_is in
     put_between nodes (nodes ++ v ∷ []) head (Some (length nodes)) d.front d.back (length nodes) refl
     (omega (arith, length-append nodes (v ∷ []))) d.is l
@@ -227,14 +216,14 @@ same-behind nodes v w p b same (x ∷ xs) = ((λ l. go (cases_eq x p) l), same-b
         ap (λ (n : Node). let r : Entry = record { elem = x; stamp = n.stamp; ch = n.ch; shown = n.shown } in r)
         (get_or-set_other (nodes ++ v ∷ []) p x w blank d ∙ get_or_append_left nodes (v ∷ []) blank x l)
 
--- put in behind the last one passed
-pub put_behind : (nodes : List Node) (head : Option ℕ) (s : Stamp) (o : Option Stamp) (p : ℕ) (next : Option ℕ) (v w : Node)
-    → IsLinked nodes head → v.next ≡ next → (d : Found nodes head s o (Some p) next)
+-- put in behind another one
+pub put_at_place : (nodes : List Node) (head : Option ℕ) (p : ℕ) (next : Option ℕ) (v w : Node)
+    → IsLinked nodes head → v.next ≡ next → (d : Found nodes head (Some p) next)
     → w.next ≡ Some (length nodes) → (w.stamp ≡ (node_at nodes p).stamp) × (w.ch ≡ (node_at nodes p).ch)
     × (w.shown ≡ (node_at nodes p).shown)
     → IsLinked (set (nodes ++ v ∷ []) p w) head × (entries_of (set (nodes ++ v ∷ []) p w) head
     ≡ map (entry_at nodes) d.front ++ entry_at (set (nodes ++ v ∷ []) p w) (length nodes) ∷ map (entry_at nodes) d.back)
-put_behind nodes head s o p next v w l e d link same =
+put_at_place nodes head p next v w l e d link same =
     let split : (f : List ℕ) × (d.front ≡ f ++ p ∷ []) = front-some d.front p d.last_is in
     let is : order_of nodes head ≡ split.0 ++ p ∷ d.back = d.is ∙ ap (λ f. f ++ d.back) split.1 ∙ append_assoc split.0 (p ∷ []) d.back in
     let leads : Leads nodes head (split.0 ++ p ∷ d.back) None = subst (λ v. Leads nodes head v None) is l.leads in
@@ -250,10 +239,3 @@ put_behind nodes head s o p next v w l e d link same =
     one_way : (x y : Option ℕ) (r : List ℕ) → Leads nodes x r None → Leads nodes y r None → x ≡ y
     one_way x y [] h k = h ∙ sym k
     one_way x y (i ∷ is) h k = h.0 ∙ sym k.0
-
-pub last_within : (nodes : List Node) (head : Option ℕ) (s : Stamp) (o : Option Stamp) (p : ℕ) (next : Option ℕ) → IsLinked nodes head
-    → Found nodes head s o (Some p) next → p < length nodes
-last_within nodes head s o p next l d =
-    let split : (f : List ℕ) × (d.front ≡ f ++ p ∷ []) = front-some d.front p d.last_is in
-    let is : order_of nodes head ≡ split.0 ++ p ∷ d.back = d.is ∙ ap (λ f. f ++ d.back) split.1 ∙ append_assoc split.0 (p ∷ []) d.back in
-    (Leads-split nodes head None split.0 (p ∷ d.back) (subst (λ v. Leads nodes head v None) is l.leads)).2.1

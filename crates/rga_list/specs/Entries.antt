@@ -34,6 +34,24 @@ abbrev pub placed : Option Stamp → Entry → List Entry → List Entry
 placed None x entries = stand x entries
 placed (Some p) x entries = stand_after p x entries
 
+-- the last element that the way right passes, past those with a stamp greater than s; `last` was passed before them
+abbrev pub passed : Stamp → Option ℕ → List Entry → Option ℕ
+passed s last [] = last
+passed s last (y ∷ ys) = if is_before s y.stamp then passed s (Some y.elem) ys else last
+
+-- the element right behind which an insertion with the stamp s stands (None: before all others): on the way from behind its parent (None:
+-- from the head)
+abbrev pub behind : Option Stamp → Stamp → List Entry → Option ℕ
+behind None s entries = passed s None entries
+behind (Some p) s [] = None
+behind (Some p) s (y ∷ ys) = if is_same p y.stamp then passed s (Some y.elem) ys else behind (Some p) s ys
+
+-- the list with x put in right behind an element (None: before all others)
+abbrev pub put_behind : Option ℕ → Entry → List Entry → List Entry
+put_behind None x entries = x ∷ entries
+put_behind (Some k) x [] = []
+put_behind (Some k) x (y ∷ ys) = if y.elem == k then y ∷ x ∷ ys else (y ∷ put_behind (Some k) x ys)
+
 -- an element has the stamp
 abbrev pub has_stamp : List Entry → Stamp → Bool
 has_stamp entries s = list_any (λ e. is_same s e.stamp) entries

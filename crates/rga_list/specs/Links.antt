@@ -110,8 +110,9 @@ pub record Walks (nodes : List Node) (s : Stamp) (before at : Option ℕ) (last 
 abbrev pub Ends : List Node → Option ℕ → Type 0
 Ends nodes at = (rest : List ℕ) × Leads nodes at rest None × (length rest ≤ length nodes)
 
-abbrev pub Walked : List Node → Stamp → Option ℕ → Option ℕ → Option ℕ → Option ℕ → Type 0
-Walked nodes s before at last next = (passed rest : List ℕ) × Walks nodes s before at last next passed rest × StopsAt nodes s rest
+abbrev pub Walked : List Node → Stamp → Option ℕ → Option ℕ → Option ℕ → Type 0
+Walked nodes s before at last =
+    (next : Option ℕ) × (passed rest : List ℕ) × Walks nodes s before at last next passed rest × StopsAt nodes s rest
 
 abbrev pub Walking : List Node → Stamp → Option ℕ → Option ℕ → Option ℕ → Option ℕ → Type 0
 Walking nodes s before at last next = (passed rest : List ℕ) × Walks nodes s before at last next passed rest × (length rest ≤ length nodes)

@@ -29,28 +29,28 @@ pub fn after(nodes: &[PackedNode], first: Option<Elem>, before: Option<Elem>) ->
     }
 }
 
-/// From `at`, which comes after `before`, past every greater stamp: the last element passed, and the one
-/// that it stops before. Takes a step for each element passed.
+/// From `at`, which comes after `before`, past every greater stamp: the last element passed. Takes a step for each
+/// element passed.
 pub fn walk(
     nodes: &[PackedNode],
     before: Option<Elem>,
     at: Option<Elem>,
     stamp: &Stamp,
-) -> (Option<Elem>, Option<Elem>)
+) -> Option<Elem>
     requires { Ends nodes.now at }
-    ensures { Walked nodes.now stamp.now before at result.0 result.1 }
+    ensures { Walked nodes.now stamp.now before at result }
 {
     let mut last = before;
     let mut next = at;
     while let Some(elem) = next {
         let node = nodes[elem as usize].get();
         if !(*stamp < node.stamp) {
-            return (last, next);
+            return last;
         }
         last = next;
         next = node.next;
     }
-    (last, next)
+    last
 }
 
 /// Adds a node, which names the element after it already, and links it behind `last` (`None`: at the head).

@@ -7,8 +7,8 @@ ghost use Rattle.opid.specs.declared.refusal.Refusal.TheVariants.{UnknownElement
 ghost use Rattle.opid.specs.declared.stamp.Stamp.{Stamp};
 ghost use Rattle.opid.specs.Operations.{Operation, stamp_of};
 ghost use Rattle.opid.specs.Lawful.{IsSound};
-ghost use Rattle.rga_list.specs.Entries.{Entry, LinkedElements, placed, elem_of, entry_of, next_of, elem_before, has_stamp, IsAboveItsSite};
-ghost use Rattle.rga_list.specs.Entries.{IsGreatestOf, parent_refusal, refusal_of, hidden, is_shown, AreOfOwn};
+ghost use Rattle.rga_list.specs.Entries.{Entry, LinkedElements, placed, behind, put_behind, elem_of, entry_of, next_of, elem_before};
+ghost use Rattle.rga_list.specs.Entries.{has_stamp, IsAboveItsSite, IsGreatestOf, parent_refusal, refusal_of, hidden, is_shown, AreOfOwn};
 ghost use Rattle.rga_list.specs.Links.{ids_at};
 ghost use Rattle.rga_list.specs.Listed.{listed};
 
@@ -176,7 +176,47 @@ impl Rga {
         }
         let before = self.parent_of(&stamp, parent)?;
         let at = after(self.nodes.as_slice(), self.first, before);
-        let (last, next) = walk(self.nodes.as_slice(), before, at, &stamp);
+        let last = walk(self.nodes.as_slice(), before, at, &stamp);
+        let elem = self.insert_behind(stamp, ch, last)?;
+        Ok(Place { elem, before: last })
+    }
+
+    /// Puts in an element that is shown, right behind another one (`None`: before all others): what `integrate_ins` does
+    /// once its walk has ended, for who knows where that is. Takes steps of the order of log n.
+    ///
+    /// Refused with `Memory`, only where nothing is reserved.
+    pub fn insert_behind(
+        &mut self,
+        stamp: Stamp,
+        ch: char,
+        before: Option<Elem>,
+    ) -> Result<Elem, Refusal>
+        requires above { IsAboveItsSite self.old.entries stamp }
+        requires few { length self.old.entries < LIMIT }
+        requires there { IfSome before (λ k. k < length self.old.entries) }
+        ensures list { OnOk result (self.new ≡ record {
+          entries = put_behind before (record { elem = length self.old.entries; stamp = stamp; ch = ch; shown = true }) self.old.entries;
+          room = self.old.room - 1;
+        }) }
+        ensures elem { IfOk result (λ elem. elem ≡ length self.old.entries) }
+        ensures grown { OnOk result (length self.new.entries ≡ length self.old.entries + 1) }
+        ensures before { IfOk result (λ elem. before ≡ elem_before elem None self.new.entries) }
+
+        // Where the walk from a parent ends there, it is that parent's child.
+        ensures placed { OnOk result ((parent : Option Stamp) → parent_refusal self.old.entries parent stamp ≡ None
+            → before ≡ behind parent stamp self.old.entries → self.new.entries ≡ placed parent
+            (record { elem = length self.old.entries; stamp = stamp; ch = ch; shown = true }) self.old.entries) }
+
+        // Where the list shows operations, it then shows them with that insertion, which may follow them.
+        ensures shows { OnOk result ((parent : Option Stamp) → parent_refusal self.old.entries parent stamp ≡ None
+            → before ≡ behind parent stamp self.old.entries → (ops : List Operation) (x : Operation) → IsSound ops → stamp_of x ≡ stamp
+            → x.kind ≡ kinds.Ins parent ch
+            → self.old.entries ≡ listed ops → IsSound (ops ++ x ∷ []) × (self.new.entries ≡ listed (ops ++ x ∷ []))) }
+
+        ensures memory { IfErr result (λ e. (e ≡ Memory) × (self.old.room ≡ 0)) }
+        ensures err { OnErr result (self.new ≡ self.old) }
+    {
+        let next = after(self.nodes.as_slice(), self.first, before);
         self.nodes.reserve(1)?;
         let elem = self.nodes.len() as Elem;
         let site = usize::from(stamp.site.number());
@@ -187,9 +227,9 @@ impl Rga {
             shown: true,
             next,
         };
-        link(&mut self.nodes, &mut self.first, node, last);
+        link(&mut self.nodes, &mut self.first, node, before);
         self.room = self.room.saturating_sub(1);
-        Ok(Place { elem, before: last })
+        Ok(elem)
     }
 
     /// Hides the element with the stamp, which stays in the linked order, and says whether it was shown. Takes

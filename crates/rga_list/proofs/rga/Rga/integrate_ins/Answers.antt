@@ -1,145 +1,56 @@
--- An insertion links the element in where the walk stopped.
-use Rattle.std.proofs.Common.{◌≡◌, ◌∙◌, ◌<◌, ◌≤◌, ◌-◌, ℕ, true, None, List, IfSome, refl, ap, subst, sym, rules, arith, length, vec_len}
-use Rattle.std.proofs.Common.{get_or, set}
-use mathlib.Core.Path.{ap₂}
-use Rattle.std.specs.Prelude.{option_and_then}
-use Rattle.std.specs.List.{AllByRecursion as Each}
+-- An insertion stands where the walk ends.
+use Rattle.std.proofs.Common.{◌≡◌, ◌∙◌, ◌-◌, List, ap, subst, sym}
 use Rattle.rga_list.specs.declared.links.Node.{Node}
-use Rattle.rga_list.specs.Entries.{LinkedElements, Entry, elem_of, elem_before, placed, parent_refusal, IsAboveItsSite}
-use Rattle.rga_list.specs.SiteIds.{SiteIds}
-use Rattle.rga_list.specs.Links.{entries_of, ids_at, IsList, following, Ends, Walked, put_in, first_then}
-use Rattle.rga_list.proofs.Ordered.{length-entries, row_same, row-below}
-use Rattle.rga_list.proofs.Reserved.{room-pushed}
-use Rattle.rga_list.proofs.Integrated.{made, parent-within, walk-ends, walk-last, inserted}
-use Rattle.rga_list.proofs.Shown.{listed-insertion}
+use Rattle.rga_list.specs.Entries.{LinkedElements, Entry, behind}
+use Rattle.rga_list.specs.Links.{Ends, Walked, following}
+use Rattle.rga_list.proofs.Put.{ends}
+use Rattle.rga_list.proofs.Integrated.{parent-within, walk-ended}
 use Rattle.rga_list.proofs.rga.Rga.integrate_ins.Goals as goal
+use Rattle.rga_list.proofs.rga.Rga.integrate_ins.Goals.{In_ok-elem}
 
 pub after-at-requires : goal.after-at-requires
-after-at-requires c =
-    let shows : entries_of c.self.inside.nodes.items c.self.inside.first ≡ c.args.self.now.entries =
-    ap (λ (r : LinkedElements). r.entries) c.self.view_is in
-    rw c.as_slice.ensures.value
-    (parent-within c.self.inside.nodes.items c.self.inside.first c.self.inside.tables c.args.parent c.in_ok-before.before c.self.invariant.0
-    (subst (λ v. c.in_ok-before.before ≡ option_and_then (λ p. elem_of p v) c.args.parent) (sym shows) c.in_ok-before.ensures.elem))
+after-at-requires c = rw c.as_slice.ensures.value
+    (parent-within c.self.inside.nodes.items c.self.inside.first c.self.inside.tables c.args.parent c.in_ok-before.before
+    c.args.self.now.entries c.self.invariant.0 (ap (λ (r : LinkedElements). r.entries) c.self.view_is) c.in_ok-before.ensures.elem)
 
 pub walk-last-requires : goal.walk-last-requires
 walk-last-requires c =
-    let shows : entries_of c.self.inside.nodes.items c.self.inside.first ≡ c.args.self.now.entries =
-    ap (λ (r : LinkedElements). r.entries) c.self.view_is in
+    let follows : c.after-at.result ≡ following c.self.inside.nodes.items c.self.inside.first c.in_ok-before.before =
+    subst (λ (v : List Node). c.after-at.result ≡ following v c.self.inside.first c.in_ok-before.before) c.as_slice.ensures.value
+    c.after-at.ensures in
     subst (λ (v : List Node). Ends v c.after-at.result) (sym c.as_slice-2.ensures.value)
-    (walk-ends c.self.inside.nodes.items c.self.inside.first c.self.inside.tables c.args.stamp c.args.parent c.in_ok-before.before
-    c.after-at.result c.args.self.now.entries
-    c.self.invariant.0 shows c.in_ok-before.ensures.ok c.in_ok-before.ensures.elem
-    (subst (λ (v : List Node). c.after-at.result ≡ following v c.self.inside.first c.in_ok-before.before) c.as_slice.ensures.value
-    c.after-at.ensures))
+    (subst (Ends c.self.inside.nodes.items) (sym follows)
+    (ends c.self.inside.nodes.items c.self.inside.first c.in_ok-before.before c.self.invariant.0.linked
+    (parent-within c.self.inside.nodes.items c.self.inside.first c.self.inside.tables c.args.parent c.in_ok-before.before
+    c.args.self.now.entries c.self.invariant.0 (ap (λ (r : LinkedElements). r.entries) c.self.view_is) c.in_ok-before.ensures.elem)))
 
-pub push-requires : goal.push-requires
-push-requires c =
-    let shows : entries_of c.self.inside.nodes.items c.self.inside.first ≡ c.args.self.now.entries =
-    ap (λ (r : LinkedElements). r.entries) c.self.view_is in
-    let place : c.from-site.result ≡ c.args.stamp.site = c.from-site.ensures ∙ c.number.ensures.value in
-    let row : get_or c.self.inside.tables c.from-site.result c.index-self-site.result ≡ ids_at c.self.inside.tables c.args.stamp.site =
-    row_same c.self.inside.tables c.from-site.result c.args.stamp.site c.index-self-site.result place
-    (omega (arith, c.from-site.ensures, c.number.ensures.range, c.self.invariant.0.width)) in
-    subst (λ (r : SiteIds). Each (λ id. id.0 < c.args.stamp.sum) r.ids) (sym row)
-    (row-below c.self.inside.nodes.items c.self.inside.first c.self.inside.tables c.args.stamp c.self.invariant.0
-    (subst (λ v. IsAboveItsSite v c.args.stamp) (sym shows) c.requires))
-
-pub link-requires-clause-within : goal.link-requires-clause-within
-link-requires-clause-within c =
-    let shows : entries_of c.self.inside.nodes.items c.self.inside.first ≡ c.args.self.now.entries =
-    ap (λ (r : LinkedElements). r.entries) c.self.view_is in
-    let size : length c.self.inside.nodes.items ≡ vec_len c.reserve.new.self = omega (arith, c.reserve.ensures.len) in
-    subst (λ n. IfSome c.walk-last.result.0 (λ k. k < n)) size
-    (walk-last c.self.inside.nodes.items c.self.inside.first c.self.inside.tables c.args.stamp c.args.parent c.in_ok-before.before
-    c.after-at.result c.walk-last.result.0 c.walk-last.result.1 c.args.self.now.entries
-    c.self.invariant.0 shows c.in_ok-before.ensures.ok c.in_ok-before.ensures.elem
+pub insert_behind-requires-clause-there : goal.insert_behind-requires-clause-there
+insert_behind-requires-clause-there c =
+    (walk-ended c.self.inside.nodes.items c.self.inside.first c.self.inside.tables c.args.stamp c.args.parent c.in_ok-before.before
+    c.after-at.result c.walk-last.result c.args.self.now.entries c.self.invariant.0
+    (ap (λ (r : LinkedElements). r.entries) c.self.view_is) c.in_ok-before.ensures.ok c.in_ok-before.ensures.elem
     (subst (λ (v : List Node). c.after-at.result ≡ following v c.self.inside.first c.in_ok-before.before) c.as_slice.ensures.value
     c.after-at.ensures)
-    (subst (λ (v : List Node). Walked v c.args.stamp c.in_ok-before.before c.after-at.result c.walk-last.result.0 c.walk-last.result.1)
-    c.as_slice-2.ensures.value c.walk-last.ensures))
+    (subst (λ (v : List Node). Walked v c.args.stamp c.in_ok-before.before c.after-at.result c.walk-last.result)
+    c.as_slice-2.ensures.value c.walk-last.ensures)).1
 
--- what holds once the element is linked
-after : (c : goal.After-self-1) → IsList c.link.new.nodes.items c.link.new.first
-    (set c.self.inside.tables c.from-site.result c.push.new.self)
-    × (entries_of c.link.new.nodes.items c.link.new.first ≡ placed c.args.parent
-    (record { elem = length c.args.self.now.entries; stamp = c.args.stamp; ch = c.args.ch; shown = true }) c.args.self.now.entries)
-    × (c.walk-last.result.0 ≡ elem_before c.len-elem.result None (entries_of c.link.new.nodes.items c.link.new.first))
-after c =
-    let shows : entries_of c.self.inside.nodes.items c.self.inside.first ≡ c.args.self.now.entries =
-    ap (λ (r : LinkedElements). r.entries) c.self.view_is in
-    let few : length c.self.inside.nodes.items < 131072 = search rules in
-    let size : c.len-elem.result ≡ length c.self.inside.nodes.items = omega (arith, c.len-elem.ensures, c.reserve.ensures.len) in
-    inserted c.self.inside.nodes.items c.link.new.nodes.items c.self.inside.first c.link.new.first c.self.inside.tables c.from-site.result
-    c.index-self-site.result (get_or c.self.inside.tables c.from-site.result c.index-self-site.result) c.push.new.self
-    c.args.stamp c.args.parent c.args.ch c.in_ok-before.before c.after-at.result c.walk-last.result.0 c.walk-last.result.1 c.len-elem.result
-    c.args.self.now.entries
-    c.self.invariant.0 shows few c.requires c.in_ok-before.ensures.ok c.in_ok-before.ensures.elem
+-- the walk ended where the insertion stands
+ended : (c : In_ok-elem) → c.walk-last.result ≡ behind c.args.parent c.args.stamp c.args.self.now.entries
+ended c =
+    (walk-ended c.self.inside.nodes.items c.self.inside.first c.self.inside.tables c.args.stamp c.args.parent c.in_ok-before.before
+    c.after-at.result c.walk-last.result c.args.self.now.entries c.self.invariant.0
+    (ap (λ (r : LinkedElements). r.entries) c.self.view_is) c.in_ok-before.ensures.ok c.in_ok-before.ensures.elem
     (subst (λ (v : List Node). c.after-at.result ≡ following v c.self.inside.first c.in_ok-before.before) c.as_slice.ensures.value
     c.after-at.ensures)
-    (subst (λ (v : List Node). Walked v c.args.stamp c.in_ok-before.before c.after-at.result c.walk-last.result.0 c.walk-last.result.1)
-    c.as_slice-2.ensures.value c.walk-last.ensures)
-    (c.from-site.ensures ∙ c.number.ensures.value)
-    (omega (arith, c.from-site.ensures, c.number.ensures.range))
-    refl size
-    (ap (λ (r : SiteIds). r.ids) c.in_ok-push.ensures.ok)
-    (c.link.ensures.nodes ∙ ap (λ (v : List Node). put_in v (made c.args.stamp c.args.ch c.walk-last.result.1) c.walk-last.result.0)
-    c.reserve.ensures.items)
-    (c.link.ensures.first ∙ ap (λ (v : List Node). first_then v c.self.inside.first c.walk-last.result.0) c.reserve.ensures.items)
-
-pub invariant_of-self-2 : goal.invariant_of-self-2
-invariant_of-self-2 c =
-    let width : c.from-site.result < length c.self.inside.tables =
-    omega (arith, c.from-site.ensures, c.number.ensures.range, c.self.invariant.0.width) in
-    let room : c.saturating_sub-self-inside.result ≡ c.self.inside.room - 1 = c.saturating_sub-self-inside.ensures in
-    let row : c.push.new.self.room ≡ (ids_at c.self.inside.tables c.from-site.result).room - 1 =
-    ap (λ (r : SiteIds). r.room) c.in_ok-push.ensures.ok
-    ∙ ap (λ (r : SiteIds). r.room - 1) (row_same c.self.inside.tables c.from-site.result c.from-site.result c.index-self-site.result
-    refl width) in (
-      (after c).0,
-      record {
-        elements = omega (
-          arith,
-          room,
-          c.link.ensures.len,
-          c.link.ensures.capacity,
-          c.reserve.ensures.len,
-          c.in_ok-reserve.ensures.ok,
-          c.reserve.ensures.capacity,
-          c.self.invariant.1.elements,
-        );
-        ids = λ k l. subst (λ n. n ≤ (ids_at (set c.self.inside.tables c.from-site.result c.push.new.self) k).room) (sym room)
-            (room-pushed c.self.inside.tables c.from-site.result k c.self.inside.room c.push.new.self width row c.self.invariant.1.ids l
-            (omega (arith, c.from-site.ensures, c.number.ensures.range)));
-      },
-    )
+    (subst (λ (v : List Node). Walked v c.args.stamp c.in_ok-before.before c.after-at.result c.walk-last.result)
+    c.as_slice-2.ensures.value c.walk-last.ensures)).0
 
 pub returns-clause-list : goal.returns-clause-list
 returns-clause-list c =
-    ap₂ (λ (e : List Entry) (n : ℕ). let r : LinkedElements = record { entries = e; room = n } in r)
-    (after c).1
-    (c.saturating_sub-self-inside.ensures ∙ ap (λ (r : LinkedElements). r.room - 1) c.self.view_is)
-
-pub returns-clause-before : goal.returns-clause-before
-returns-clause-before c = (after c).2
+    let is = c.in_ok-elem.ensures.list in
+    let stands = c.in_ok-elem.ensures.placed c.args.parent c.in_ok-before.ensures.ok (ended c) in
+    is ∙ ap (λ (es : List Entry). let r : LinkedElements = record { entries = es; room = c.args.self.now.room - 1 } in r)
+    (sym (ap (λ (r : LinkedElements). r.entries) is) ∙ stands)
 
 pub returns-clause-shows : goal.returns-clause-shows
-returns-clause-shows c ops x sound stamp kind is =
-    let list = listed-insertion ops x c.args.stamp c.args.parent c.args.ch sound stamp kind
-    (subst (λ v. IsAboveItsSite v c.args.stamp) is c.requires)
-    (subst (λ v. parent_refusal v c.args.parent c.args.stamp ≡ None) is c.in_ok-before.ensures.ok) in (
-      list.0,
-      (after c).1
-          ∙ ap (λ (v : List Entry). placed c.args.parent (record
-          { elem = length v; stamp = c.args.stamp; ch = c.args.ch; shown = true }) v) is
-          ∙ list.1,
-    )
-
-pub returns-clause-grown : goal.returns-clause-grown
-returns-clause-grown c =
-    let new : length (entries_of c.link.new.nodes.items c.link.new.first) ≡ length c.link.new.nodes.items =
-    length-entries c.link.new.nodes.items c.link.new.first (after c).0.linked in
-    let old : length c.args.self.now.entries ≡ length c.self.inside.nodes.items =
-    sym (ap (λ (r : LinkedElements). length r.entries) c.self.view_is)
-    ∙ length-entries c.self.inside.nodes.items c.self.inside.first c.self.invariant.0.linked in
-    omega (arith, new, old, c.link.ensures.len, c.reserve.ensures.len)
+returns-clause-shows c = c.in_ok-elem.ensures.shows c.args.parent c.in_ok-before.ensures.ok (ended c)
