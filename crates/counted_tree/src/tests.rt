@@ -1,4 +1,5 @@
 //! A worked tree, and a random one beside a scan of all elements.
+use crate::entry::KEYS;
 use crate::plain::Plain;
 use crate::{Steps, VersionTree};
 use std::alloc::AllocError;
@@ -28,8 +29,9 @@ fn insert(
     tree: &mut VersionTree,
     plain: &mut Plain,
     before: Option<u32>,
+    key: u32,
 ) -> Result<(), AllocError> {
-    if tree.room() == 0 {
+    if tree.room() == 0 || key >= KEYS {
         return Ok(());
     }
     let n = tree.elements();
@@ -37,9 +39,9 @@ fn insert(
         if e as usize >= n {
             return Ok(());
         }
-        tree.insert_after(Some(e), n as u32);
+        tree.insert_after(Some(e), n as u32, key);
     } else {
-        tree.insert_after(None, n as u32);
+        tree.insert_after(None, n as u32, key);
     }
     plain.insert_after(before, n as u32, tree.newest())
 }
@@ -58,6 +60,7 @@ fn hide(tree: &mut VersionTree, plain: &mut Plain, k: usize) {
 
 fn step(tree: &mut VersionTree, plain: &mut Plain, seed: &mut u64) -> Result<(), AllocError> {
     let n = tree.elements() as u32;
+    let key = next(seed, 9);
     match next(seed, 10) {
         0 => {
             if tree.room() > 0 {
@@ -65,13 +68,13 @@ fn step(tree: &mut VersionTree, plain: &mut Plain, seed: &mut u64) -> Result<(),
             }
             Ok(())
         }
-        1 => insert(tree, plain, None),
+        1 => insert(tree, plain, None, key),
         2 | 3 | 4 => {
             hide(tree, plain, next(seed, n) as usize);
             Ok(())
         }
-        5 | 6 => insert(tree, plain, n.checked_sub(1)),
-        _ => insert(tree, plain, Some(next(seed, n))),
+        5 | 6 => insert(tree, plain, n.checked_sub(1), key),
+        _ => insert(tree, plain, Some(next(seed, n)), key),
     }
 }
 
@@ -97,11 +100,11 @@ fn agrees_with_a_scan(rt: HostRuntime) -> Result<(), Fail> {
 fn worked_versions(rt: HostRuntime) -> Result<(), Fail> {
     let mut tree = VersionTree::new(rt.alloc());
     tree.reserve(5)?;
-    tree.insert_after(None, 0);
-    tree.insert_after(Some(0), 1);
+    tree.insert_after(None, 0, 7);
+    tree.insert_after(Some(0), 1, 5);
     tree.hide(0);
     tree.mark();
-    tree.insert_after(Some(0), 2);
+    tree.insert_after(Some(0), 2, 6);
     let mut steps = Steps::new();
     assert_eq!(rt; tree.find(2, 0, &mut steps), Some(0));
     assert_eq!(rt; tree.find(3, 0, &mut steps), Some(1));
@@ -124,9 +127,9 @@ fn append(tree: &mut VersionTree, first: bool) {
     }
     let n = tree.elements();
     if first || n == 0 {
-        tree.insert_after(None, n as u32);
+        tree.insert_after(None, n as u32, n as u32);
     } else {
-        tree.insert_after(Some(n as u32 - 1), n as u32);
+        tree.insert_after(Some(n as u32 - 1), n as u32, n as u32);
     }
 }
 

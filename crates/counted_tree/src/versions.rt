@@ -1,6 +1,6 @@
 //! The version tree: one root for each version over nodes that all versions share (a persistent tree by copies of the
 //! path, Driscoll, Sarnak, Sleator, Tarjan 1989; balanced as by Adelson-Velsky and Landis 1962).
-ghost use Rattle.std.specs.Prelude.{◌≡◌, ℕ, ◌+◌, ◌*◌, ◌<◌, ◌≤◌, [], ◌∷◌, ◌++◌, length, slice_get, true, max, IfSome, OnOk, OnErr};
+ghost use Rattle.std.specs.Prelude.{◌≡◌, ℕ, ◌+◌, ◌*◌, ◌<◌, ◌≤◌, ◌^◌, [], ◌∷◌, ◌++◌, length, slice_get, true, max, IfSome, OnOk, OnErr};
 ghost use Rattle.counted_tree.specs.Digits.{digits};
 ghost use Rattle.counted_tree.specs.Entry.{visible};
 ghost use Rattle.counted_tree.specs.Versions.{version_list, newest, newest_list, newest_root, root_at};
@@ -158,19 +158,21 @@ impl VersionTree {
         Ok(())
     }
 
-    /// Adds a version with a further element, shown, right after another one, or before all others. Takes memory from the
-    /// reserve alone, and a logarithmic number of steps and nodes.
-    pub fn insert_after(&mut self, before: Option<u32>, elem: u32)
+    /// Adds a version with a further element, shown, right after another one, or before all others. Its key
+    /// stays with it for good. Takes memory from the reserve alone, and a logarithmic number of steps and nodes.
+    pub fn insert_after(&mut self, before: Option<u32>, elem: u32, key: u32)
         requires room { 1 ≤ self.old.room }
         requires there { IfSome before (λ e. Lists e (newest_list self.old)) }
         requires number { elem ≡ length (newest_list self.old) }
-        ensures lists { self.new.lists ≡ self.old.lists ++ put before (record { elem = elem; shown = true }) (newest_list self.old) ∷ [] }
+        requires key { key < 2 ^ 23 }
+        ensures lists { self.new.lists
+            ≡ self.old.lists ++ put before (record { elem = elem; shown = true; key = key }) (newest_list self.old) ∷ [] }
         ensures nodes { self.new.nodes ≤ self.old.nodes + (2 * digits (length (newest_list self.new)) + 4) }
         ensures at_most { self.new.nodes ≤ self.old.nodes + 40 }
         ensures room { self.new.room + 1 ≡ self.old.room }
     {
         let root = last_root(self.roots.as_slice());
-        let top = insert(&mut self.nodes, &mut self.table, root, before, elem);
+        let top = insert(&mut self.nodes, &mut self.table, root, before, elem, key);
         self.room -= 1;
         self.roots.push_reserved(Link::new(Some(top)));
     }
