@@ -5,12 +5,13 @@ ghost use Rattle.counted_tree.specs.Digits.{digits};
 ghost use Rattle.counted_tree.specs.Entry.{visible};
 ghost use Rattle.counted_tree.specs.Versions.{version_list, newest, newest_list, newest_root, root_at};
 ghost use Rattle.counted_tree.specs.Changed.{Lists, Shows, put, hidden, before as entries_before};
+ghost use Rattle.counted_tree.specs.Greater.{last_above};
 ghost use Rattle.counted_tree.specs.Tree.{entries};
 ghost use Rattle.counted_tree.specs.Arena.{IsLinkBelow, AreSound};
 ghost use Rattle.counted_tree.specs.Change.{tree_in};
 
 use crate::build::summary_of;
-use crate::change::{hide, insert, rank_in};
+use crate::change::{hide, insert, last_above_in, rank_in};
 use crate::link::Link;
 use crate::nodes::Nodes;
 use crate::packed_above::PackedAbove;
@@ -138,6 +139,18 @@ impl VersionTree {
     {
         let root = last_root(self.roots.as_slice());
         rank_in(&self.nodes, self.table.as_slice(), root, elem, steps)
+    }
+
+    /// The last element that one passes in the newest version, going right from an element, or from before all others, as
+    /// long as the keys are greater than the given one: where none is passed, the element itself, or none. Takes no memory,
+    /// and at most six times as many steps as the number of elements has binary digits, however many are passed.
+    pub fn last_above(&self, before: Option<u32>, key: u32, steps: &mut Steps) -> Option<u32>
+        requires there { IfSome before (λ e. Lists e (newest_list self.now)) }
+        ensures last { result ≡ last_above before key (newest_list self.now) }
+        ensures cost { steps.new ≤ steps.old + 6 * digits (length (newest_list self.now)) }
+    {
+        let root = last_root(self.roots.as_slice());
+        last_above_in(&self.nodes, self.table.as_slice(), root, before, key, steps)
     }
 
     /// Reserves `n` versions, if fewer are reserved: for each 41 nodes and a row of the table, some 1,000 bytes of which

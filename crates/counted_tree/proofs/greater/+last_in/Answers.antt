@@ -1,0 +1,13 @@
+use Rattle.std.proofs.Common.{ap, sym, ◌∙◌}
+use Rattle.counted_tree.specs.Tree.{entries}
+use Rattle.counted_tree.specs.Change.{tree_in}
+use Rattle.counted_tree.specs.Greater.{last_of}
+use Rattle.counted_tree.proofs.Passing.{last_of-append}
+use Rattle.counted_tree.proofs.greater.+last_in.Goals as goal
+
+pub returns-clause-last : goal.returns-clause-last
+returns-clause-last t c =
+    let a = c.args.nodes.now in
+    let n = c.open-node.result in
+    let whole = ap (λ u. last_of c.args.last (entries u)) (ap (tree_in a) c.in-Some.is ∙ c.open-node.ensures.tree) in
+    c.last_in.ensures.last ∙ sym (whole ∙ last_of-append c.args.last (entries (tree_in a n.left)) (entries (tree_in a n.right)) n.entry)

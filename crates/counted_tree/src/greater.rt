@@ -1,0 +1,116 @@
+//! How far one comes past entries with a greater key: by the least keys of whole subtrees.
+ghost use Rattle.std.specs.Prelude.{◌≡◌, ◌+◌, ◌*◌, ◌≤◌, length, true, None, IsSome};
+ghost use Rattle.counted_tree.specs.Tree.{entries, height};
+ghost use Rattle.counted_tree.specs.Arena.{IsLinkBelow, AreSound};
+ghost use Rattle.counted_tree.specs.Change.{tree_in};
+ghost use Rattle.counted_tree.specs.Along.{entry_at, after_at, elem_at};
+ghost use Rattle.counted_tree.specs.Greater.{all_above, above, last_of, stop};
+
+use crate::build::open;
+use crate::nodes::Nodes;
+use crate::side::Side;
+use crate::steps::Steps;
+
+/// Whether each entry of the tree has a greater key. One step.
+fn are_above(nodes: &Nodes, link: Option<u32>, key: u32, steps: &mut Steps) -> bool
+    requires sound { AreSound nodes.now.0 }
+    requires link { IsLinkBelow (length nodes.now.0) link }
+    ensures above { result ≡ all_above key (entries (tree_in nodes.now link)) }
+    ensures cost { steps.new ≤ steps.old + 1 }
+{
+    match link {
+        None => true,
+        Some(at) => key < open(nodes, at, steps).least,
+    }
+}
+
+/// The last element of the tree, or the given one where the tree is empty.
+pub fn last_in(
+    nodes: &Nodes,
+    link: Option<u32>,
+    last: Option<u32>,
+    steps: &mut Steps,
+) -> Option<u32>
+    requires sound { AreSound nodes.now.0 }
+    requires link { IsLinkBelow (length nodes.now.0) link }
+    ensures last { result ≡ last_of last (entries (tree_in nodes.now link)) }
+    ensures cost { steps.new ≤ steps.old + height (tree_in nodes.now link) }
+{
+    let Some(at) = link else { return last };
+    let node = open(nodes, at, steps);
+    last_in(nodes, node.right, Some(node.entry.elem), steps)
+}
+
+/// The last element that one passes in the tree, from its first entry on, as long as the keys are greater; the given one
+/// where there is none.
+pub fn above_in(
+    nodes: &Nodes,
+    link: Option<u32>,
+    key: u32,
+    last: Option<u32>,
+    steps: &mut Steps,
+) -> Option<u32>
+    requires sound { AreSound nodes.now.0 }
+    requires link { IsLinkBelow (length nodes.now.0) link }
+    ensures last { result ≡ above key last (entries (tree_in nodes.now link)) }
+    ensures cost { steps.new ≤ steps.old + 2 * height (tree_in nodes.now link) }
+{
+    let Some(at) = link else { return last };
+    let node = open(nodes, at, steps);
+    if !are_above(nodes, node.left, key, steps) {
+        above_in(nodes, node.left, key, last, steps)
+    } else if node.entry.key <= key {
+        last_in(nodes, node.left, last, steps)
+    } else {
+        above_in(nodes, node.right, key, Some(node.entry.elem), steps)
+    }
+}
+
+/// The last element that one passes in the tree before one stops there, if one does.
+fn stop_in(
+    nodes: &Nodes,
+    link: Option<u32>,
+    key: u32,
+    last: Option<u32>,
+    steps: &mut Steps,
+) -> Option<u32>
+    requires sound { AreSound nodes.now.0 }
+    requires link { IsLinkBelow (length nodes.now.0) link }
+    ensures last { result ≡ stop key last (entries (tree_in nodes.now link)) }
+    ensures cost { steps.new ≤ steps.old + 2 * height (tree_in nodes.now link) + 1 }
+    ensures passed { all_above key (entries (tree_in nodes.now link)) ≡ true → steps.new ≤ steps.old + 1 }
+{
+    if are_above(nodes, link, key, steps) {
+        None
+    } else {
+        above_in(nodes, link, key, last, steps)
+    }
+}
+
+/// The last element that one passes from the entry on that the path leads to, before one stops in the tree, if one does.
+pub fn stop_at(
+    nodes: &Nodes,
+    link: Option<u32>,
+    path: &[Side],
+    key: u32,
+    steps: &mut Steps,
+) -> Option<u32>
+    requires sound { AreSound nodes.now.0 }
+    requires link { IsLinkBelow (length nodes.now.0) link }
+    requires there { IsSome (entry_at (tree_in nodes.now link) path.now) }
+    ensures last { result ≡ stop key (elem_at (tree_in nodes.now link) path.now) (after_at (tree_in nodes.now link) path.now) }
+    ensures cost { steps.new ≤ steps.old + 4 * height (tree_in nodes.now link) }
+    ensures passed { result ≡ None → steps.new ≤ steps.old + 2 * height (tree_in nodes.now link) }
+{
+    let Some(at) = link else { unreachable!() };
+    let node = open(nodes, at, steps);
+    match path.split_first() {
+        None => stop_in(nodes, node.right, key, Some(node.entry.elem), steps),
+        Some((Side::Right, rest)) => stop_at(nodes, node.right, rest, key, steps),
+        Some((Side::Left, rest)) => match stop_at(nodes, node.left, rest, key, steps) {
+            Some(last) => Some(last),
+            None if node.entry.key <= key => last_in(nodes, node.left, None, steps),
+            None => stop_in(nodes, node.right, key, Some(node.entry.elem), steps),
+        },
+    }
+}
