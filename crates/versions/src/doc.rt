@@ -148,8 +148,8 @@ impl Doc {
         Ok(())
     }
 
-    /// Adds an operation to the log, and gives its edit: what it does to the text. Takes logarithmic steps, and in the
-    /// linked order one for each element with a greater stamp that an insertion has to pass.
+    /// Adds an operation to the log, and gives its edit: what it does to the text. Takes logarithmic steps, however many
+    /// elements with a greater stamp an insertion has to pass.
     ///
     /// Refused, in this order: `Full` with 131,072 operations, `UnknownElement` where the parent or target is no
     /// element, `NotOlder` where the parent's stamp isn't smaller, `Memory` only where nothing is reserved.
