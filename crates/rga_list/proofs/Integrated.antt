@@ -263,9 +263,11 @@ pub inserted : (nodes new : List Node) (first f : Option ℕ) (rows : List SiteI
     → IfSome last (λ k. k < length nodes) → next ≡ following nodes first last
     → site ≡ s.site → site < 32 → row ≡ get_or rows site d → m ≡ length nodes → r.ids ≡ row.ids ++ (s.sum, m) ∷ []
     → new ≡ put_in nodes (made s c next) last → f ≡ first_then nodes first last
-    → IsList new f (set rows site r) × (entries_of new f ≡ put_behind last (record { elem = length xs; stamp = s; ch = c; shown = true }) xs)
+    → IsList new f (set rows site r)
+    × (entries_of new f ≡ put_behind last (record { elem = length xs; stamp = s; ch = c; shown = true }) xs)
     × (last ≡ elem_before m None (entries_of new f))
-inserted nodes new first f rows site d row r s c last next m xs list shows few above within follows here bound read size ids put_new put_first =
+inserted nodes new first f rows site d row r s c last next m xs list shows few above within follows here bound read size ids put_new
+    put_first =
     let width : site < length rows = omega (arith, list.width) in
     let at_site : row.ids ≡ (ids_at rows s.site).ids = ap (λ (v : SiteIds). v.ids) (read ∙ row_same rows site s.site d here width) in
     let v : Node = made s c next in

@@ -1,6 +1,6 @@
 -- Stamps as numbers: the tree's way past greater keys is the list's way past greater stamps.
-use Rattle.std.proofs.Common.{◌≡◌, ℕ, ◌<◌, ◌≤◌, ◌⊎◌, inl, inr, ◌&&◌, Bool, true, false, cond, eqb, eqb-true, eq-eqb, Option, Some, None, List, [], ◌∷◌}
-use Rattle.std.proofs.Common.{map, length, refl, ap, ◌∙◌, sym, subst, arith, IfSome}
+use Rattle.std.proofs.Common.{◌≡◌, ℕ, ◌<◌, ◌≤◌, ◌⊎◌, inl, inr, ◌&&◌, Bool, true, false, cond, eqb, eqb-true, eq-eqb, Option, Some, None}
+use Rattle.std.proofs.Common.{List, [], ◌∷◌, map, length, refl, ap, ◌∙◌, sym, subst, arith, IfSome}
 use Rattle.std.specs.Prelude.{option_and_then}
 use Rattle.std.specs.Cmp.Derive.{both_true}
 use Rattle.std.proofs.Math.Dec.{ltb}
@@ -70,7 +70,8 @@ above-after p s k (y ∷ ys) b h n =
 last_above-behind : (o : Option Stamp) (s : Stamp) (from : Option ℕ) (es : List rga.Entry) → s.site < 32
     → AllByRecursion (λ e. e.stamp.site < 32) es → rga.parent_refusal es o s ≡ None
     → from ≡ option_and_then (λ p. rga.elem_of p es) o
-    → ((p : Stamp) (k : ℕ) → o ≡ Some p → rga.elem_of p es ≡ Some k → AllByRecursion (λ (y : rga.Entry). is_same p y.stamp ≡ eqb y.elem k) es)
+    → ((p : Stamp) (k : ℕ) → o ≡ Some p → rga.elem_of p es ≡ Some k
+    → AllByRecursion (λ (y : rga.Entry). is_same p y.stamp ≡ eqb y.elem k) es)
     → last_above from (key_of s) (map plain es) ≡ rga.behind o s es
 last_above-behind None s from es b h a f n = ap (λ v. last_above v (key_of s) (map plain es)) f ∙ above-passed s None es b h
 last_above-behind (Some p) s from es b h a f n = go (rga.elem_of p es) refl
