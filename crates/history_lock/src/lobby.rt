@@ -1,6 +1,11 @@
-//! Waiting without a ticket until no ticket is open. Nothing here is a step of the lock.
+//! Drawing where no ticket is open, and waiting without a ticket until then. Waiting is no step of the lock.
+ghost use Rattle.std.specs.Prelude.{◌≡◌, ◌+◌, ◌^◌, ◌≤◌, ◌↔◌, IfOk, IsErr, OnErr};
+ghost use Rattle.history_lock.specs.Sights.{drew};
+ghost use Rattle.history_lock.specs.Turns.{Grows};
+ghost use Rattle.history_lock.specs.Locks.{sight, number_of, IsPassOf, IsIdle};
 
-use crate::lock::{NEXT, SERVED, TicketLock};
+use crate::lock::{NEXT, SERVED, Ticket, TicketLock, Worn};
+use crate::pass::Pass;
 use crate::trailed::Trailed;
 use std::hint::spin_loop;
 use std::sync::Wait;
@@ -45,15 +50,34 @@ impl<T: Trailed> TicketLock<T> {
         shared.peek(NEXT) == served
     }
 
-    /// Waits until no ticket is open, and draws none. Whoever draws at once then mostly has its turn at once; where
-    /// others draw at the same moment, the order of tickets decides, as ever. No order is promised among those who
-    /// wait here: a thread that takes turn after turn may go before them.
+    /// Waits without a ticket until none is open, and then draws one as `draw` does, so that its turn mostly comes at
+    /// once. Where others draw at the same moment, the order of tickets decides, as ever. No order is promised among
+    /// those who wait: a thread that takes turn after turn may go before them. `Worn` where the pass has no draw
+    /// left; it doesn't wait then.
     ///
     /// It looks 16 times, and then sleeps and costs no processor time. A turn that ends with no ticket open wakes one
     /// that sleeps here, unless one was woken and hasn't come to its turn yet; the turn that this one takes wakes the
-    /// next. So who has waited has to take a turn, or others may sleep until somebody does; and a thread that waits
-    /// while a ticket of its own is open sleeps for good. Takes no memory and uses no draw.
-    pub fn wait_until_free<R: Wait>(&self, rt: &R) {
+    /// next. A thread that waits while a ticket of its own is open, drawn with another pass, sleeps for good. Takes no
+    /// memory.
+    pub fn draw_when_free<R: Wait>(&self, rt: &R, pass: &mut Pass<T>) -> Result<Ticket, Worn>
+        requires pass { IsPassOf self.now pass.old }
+        requires idle { IsIdle pass.old }
+        ensures pass { IsPassOf self.now pass.new }
+        ensures ok { IfOk result (λ t. sight pass.new ≡ drew (sight pass.old) (number_of t)) }
+        ensures grows { Grows (sight pass.old) (sight pass.new) }
+        ensures below { IfOk result (λ t. number_of t + (sight pass.old).left ≤ 2 ^ 62) }
+        ensures worn { IsErr result ↔ ((sight pass.old).left ≡ 0) }
+        ensures worn_same { OnErr result (sight pass.new ≡ sight pass.old) }
+    {
+        if pass.left > 0 {
+            self.wait_until_free(rt);
+        }
+        self.draw(pass)
+    }
+
+    // Waits until no ticket is open, and draws none. Who was woken has the turn that it takes then wake the next; without
+    // that turn others may sleep until somebody takes one.
+    fn wait_until_free<R: Wait>(&self, rt: &R) {
         let mut woken = false;
         for _ in rt.forever() {
             for _ in 0..LOOKS {

@@ -48,19 +48,26 @@ fn opened(alloc: Global, room: usize) -> Result<(TicketLock<Journal>, Pass<Journ
     TicketLock::new(alloc, Journal { entries, turns: 0 })
 }
 
-// Adds x in one turn. An `Err` may mean that the pass has no draw left.
+// Adds x in one turn, whose ticket is drawn when none is open, where it waits, and else at once. An `Err` may mean
+// that the pass has no draw left.
 fn add<R: Wait>(
     rt: &R,
     lock: &TicketLock<Journal>,
     pass: &mut Pass<Journal>,
     x: u64,
+    waits: bool,
 ) -> Result<(), AllocError>
     requires { IsPassOf lock.now pass.old × IsIdle pass.old }
     ensures pass { IsPassOf lock.now pass.new × IsIdle pass.new }
     ensures added { OnOk result ((sight pass.new).seen ≡ (sight pass.new).found ++ x ∷ []) }
     ensures seen { IsPrefix (sight pass.old).seen (sight pass.new).seen }
 {
-    let Ok(ticket) = lock.draw(pass) else {
+    let drawn = if waits {
+        lock.draw_when_free(rt, pass)
+    } else {
+        lock.draw(pass)
+    };
+    let Ok(ticket) = drawn else {
         return Err(AllocError);
     };
     let mut hold = lock.enter(rt, ticket, pass);
@@ -70,7 +77,7 @@ fn add<R: Wait>(
     done
 }
 
-// Adds x in up to 1,000 turns. Before each second one it waits until no ticket is open.
+// Adds x in up to 1,000 turns. For each second one it waits until no ticket is open.
 fn add_many<R: Wait>(
     rt: &R,
     lock: &TicketLock<Journal>,
@@ -81,10 +88,7 @@ fn add_many<R: Wait>(
     ensures { IsPassOf lock.now result × IsIdle result }
 {
     for turn in 0..1000 {
-        if turn % 2 == 1 {
-            lock.wait_until_free(rt);
-        }
-        if add(rt, lock, &mut pass, x).is_err() {
+        if add(rt, lock, &mut pass, x, turn % 2 == 1).is_err() {
             break;
         }
     }
@@ -240,7 +244,7 @@ fn eight_threads_use_up_their_draws(rt: HostRuntime) -> Result<(), Fail> {
     };
     let mut pool = add_together(&rt, &lock, pool, 8);
     assert!(rt; pool.left() == 0);
-    assert!(rt; add(&rt, &lock, &mut pool, 7).is_err());
+    assert!(rt; add(&rt, &lock, &mut pool, 7, true).is_err());
     lock.join(&mut first, pool);
     assert!(rt; first.left() == (1 << 62) - 800);
     let Ok(journal) = lock.close(first) else {
@@ -270,7 +274,7 @@ fn a_try_is_lost_while_another_pass_holds(rt: HostRuntime) -> Result<(), Fail> {
     assert!(rt; second.left() == 1);
     assert!(rt; !is_busy(&lock, &mut second));
     assert!(rt; second.left() == 0);
-    assert!(rt; add(&rt, &lock, &mut second, 1).is_err());
+    assert!(rt; add(&rt, &lock, &mut second, 1, false).is_err());
     Ok(())
 }
 
@@ -288,7 +292,7 @@ fn a_lock_with_an_open_ticket_is_not_closed(rt: HostRuntime) -> Result<(), Fail>
         Err((lock, second)) => {
             let hold = lock.enter(&rt, ticket, &mut first);
             lock.leave(hold, &mut first);
-            assert!(rt; add(&rt, &lock, &mut first, 5).is_ok());
+            assert!(rt; add(&rt, &lock, &mut first, 5, false).is_ok());
             assert!(rt; second.left() == 2);
             let Ok(journal) = lock.close(second) else {
                 return Err(Fail::from("closed"));
@@ -311,7 +315,7 @@ fn a_split_hands_over_no_more_than_is_left(rt: HostRuntime) -> Result<(), Fail> 
         return Err(Fail::from("no draws"));
     };
     assert!(rt; third.left() == 0 && second.left() == 3);
-    assert!(rt; add(&rt, &lock, &mut third, 1).is_err());
+    assert!(rt; add(&rt, &lock, &mut third, 1, true).is_err());
     Ok(())
 }
 
@@ -355,7 +359,7 @@ fn a_meeting_needs_a_draw_of_each(rt: HostRuntime) -> Result<(), Fail> {
     let Ok(mut second) = lock.split(&mut first, 1) else {
         return Err(Fail::from("draws"));
     };
-    assert!(rt; add(&rt, &lock, &mut first, 3).is_ok());
+    assert!(rt; add(&rt, &lock, &mut first, 3, false).is_ok());
     let left = first.left();
     assert!(rt; lock.meet(&rt, &mut first, &mut second).is_ok());
     assert!(rt; second.left() == 0 && first.left() == left - 1);

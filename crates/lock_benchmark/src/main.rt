@@ -53,10 +53,12 @@ fn take_turns<R: Wait>(
 {
     start.wait(rt);
     for _ in 0..turns {
-        if waits {
-            lock.wait_until_free(rt);
-        }
-        let Ok(ticket) = lock.draw(&mut pass) else {
+        let drawn = if waits {
+            lock.draw_when_free(rt, &mut pass)
+        } else {
+            lock.draw(&mut pass)
+        };
+        let Ok(ticket) = drawn else {
             return;
         };
         let mut hold = lock.enter(rt, ticket, &mut pass);

@@ -54,10 +54,7 @@ impl SharedRoom {
         ensures worn_same { (result ≡ Err Why.Worn) → view pass.new ≡ view pass.old }
         ensures memory { (result ≡ Err Why.Memory) → Visits (view pass.old) (view pass.new) }
     {
-        if pass.left() > 0 {
-            self.lock.wait_until_free(rt);
-        }
-        let Ok(ticket) = self.lock.draw(&mut pass.pass) else {
+        let Ok(ticket) = self.lock.draw_when_free(rt, &mut pass.pass) else {
             return Err(Refusal::Worn);
         };
         let hold = self.lock.enter(rt, ticket, &mut pass.pass);
