@@ -124,6 +124,11 @@ closes_exact trail mark v w m n t x f below all left =
     let P : ℕ → Type 0 = λ k. LeftFor w k (trail x) in
     left_once w w w n (trail x) t (grows_self w) (grows_self w) (subst P same f.left) stays
 
+-- and its mark is at most the number of draws that the pass hasn't
+pub closes_marked : {T E : Type 0} (trail : T → List E) (mark : T → ℕ) (v w : Sight E) (m : ℕ) (x : T)
+    → Finds trail mark v w m x → m + v.left ≤ 2 ^ 62 → mark x + v.left ≤ 2 ^ 62
+closes_marked trail mark v w m x f below = let marked = f.marked in omega arith
+
 module _ {E : Type 0} where
   -- a turn whose pass leaves what it found
   pub took_turn : (d e w : Sight E) (n : ℕ) (t : List E) → d.drawn ≡ n → e ≡ took d e.ends t → length e.ends ≡ n → LeftFor e n t

@@ -62,7 +62,7 @@ impl<T: Trailed> TicketLock<T> {
     /// takes memory.
     ///
     /// A pass that has all draws but those of the finished turns that it knows of gets just what the last of these
-    /// left.
+    /// left. The value's mark is at most the number of draws that the pass hasn't.
     ///
     /// Where a ticket is open the try is lost, and the lock and the pass come back, the pass with one lost try more.
     pub fn close(self, mut pass: Pass<T>) -> Result<T, (TicketLock<T>, Pass<T>)>
@@ -74,6 +74,7 @@ impl<T: Trailed> TicketLock<T> {
         ensures closed { IfOk result (λ x. IsPrefix (sight pass).seen (T.trail x)) }
         ensures exact { IfOk result (λ x. (n : ℕ) (trail : List T.Entry) → n + (sight pass).left ≡ 2 ^ 62
             → LeftFor (sight pass) n trail → T.trail x ≡ trail) }
+        ensures marked { IfOk result (λ x. T.mark x + (sight pass).left ≤ 2 ^ 62) }
         ensures lock { IfErr result (λ r. (r.0 ≡ self) × IsPassOf self r.1) }
         ensures lost { IfErr result (λ r. (n : ℕ) × (sight r.1 ≡ gave_up (peeked_at (sight pass) n))) }
     {

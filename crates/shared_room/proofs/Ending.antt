@@ -1,5 +1,5 @@
 -- What a turn with a call leaves.
-use Rattle.std.proofs.Common.{◌≡◌, ◌≢◌, ℕ, zero, suc, ◌+◌, ◌-◌, ◌<◌, ◌≤◌, ◌↔◌, Bool, true, false, nat_lt, List, [], ◌∷◌, ◌++◌}
+use Rattle.std.proofs.Common.{◌≡◌, ◌≢◌, ℕ, zero, suc, ◌+◌, ◌-◌, ◌^◌, ◌<◌, ◌≤◌, ◌↔◌, Bool, true, false, nat_lt, List, [], ◌∷◌, ◌++◌}
 use Rattle.std.proofs.Common.{length, map, drop, Result, Ok, Err, OnOk, OnErr, IfOk, refl, ap, sym, subst, ◌∙◌, arith}
 use Rattle.std.proofs.Common.{append-nil, ltb, ⊎_elim, inl, inr, ◌⊎◌}
 use Rattle.std.specs.Prelude.{if◌then◌else◌}
@@ -12,7 +12,7 @@ use Rattle.room.specs.declared.call.Call.{Call}
 use Rattle.room.specs.declared.reply.Reply.{Reply}
 use Rattle.room.specs.declared.reply.Reply.TheVariants as replies
 use Rattle.room.specs.Machine.{State, may_record, answer}
-use Rattle.room.specs.History.{Account, state_of, mark_from, mark, called}
+use Rattle.room.specs.History.{Account, AreRisingFrom, state_of, mark_from, mark, called}
 use Rattle.history_lock.specs.declared.pass.Sight.{Sight}
 use Rattle.history_lock.specs.Sights.{finished, drew, took, peeked_at, won, joined, learned, longer}
 use Rattle.history_lock.specs.Turns.{LeftFor, TookTurns}
@@ -253,6 +253,25 @@ meets_after (Ok done) a b a' b' m took =
       told = calls_prefix b.seen a'.seen m.second;
       both = calls_prefix a'.seen b'.seen m.both;
     }
+
+mark_least : (t : ℕ) (h : List (ℕ × Call)) → AreRisingFrom t h → t ≤ mark_from t h
+mark_least t [] r = omega arith
+mark_least t (e ∷ es) r = let a = r.0 in let b = mark_least (e.0 + 1) es r.2 in omega arith
+
+-- calls with rising tickets are no more than those that begin them, where they are marked no higher
+no_more : (t : ℕ) (h more : List (ℕ × Call)) → AreRisingFrom t (h ++ more) → mark_from t (h ++ more) ≤ mark_from t h → h ++ more ≡ h
+no_more t [] [] r le = refl
+no_more t [] (e ∷ es) r le = let a = r.0 in let b = mark_least (e.0 + 1) es r.2 in absurd (omega arith)
+no_more t (e ∷ es) more r le = ap (λ (l : List (ℕ × Call)). e ∷ l) (no_more (e.0 + 1) es more r.2 le)
+
+-- so a history that begins with what was seen is just that
+pub closed_exactly : (R room : Account) (seen : List (ℕ × Call)) (left : ℕ) → room ≡ R → IsPrefix seen room.history
+    → AreRisingFrom 0 R.history → mark R.history + left ≤ 2 ^ 62 → mark seen + left ≡ 2 ^ 62 → room.history ≡ seen
+closed_exactly R room seen left same (more, is) rising below all =
+    let history : R.history ≡ seen ++ more = ap (λ (a : Account). a.history) (sym same) ∙ sym is in
+    let r = subst (AreRisingFrom 0) history rising in
+    let b = subst (λ (h : List (ℕ × Call)). mark h + left ≤ 2 ^ 62) history below in
+    sym is ∙ no_more 0 seen more r (omega arith)
 
 pub closed_after : (K R room : Account) (s : Sight Item) → LeftFor s 0 (trail_of K) → IsPrefix s.seen (trail_of R) → room ≡ R
     → IsPrefix (calls_of s.seen) room.history × (room.opening ≡ K.opening)

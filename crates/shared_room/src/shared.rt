@@ -128,11 +128,15 @@ impl SharedRoom {
     /// Ends the sharing by one try: the room, whose history begins with all that the pass has seen. It neither waits nor
     /// takes memory.
     ///
+    /// The history is just what the pass has seen, where it has all draws but those of the turns up to the last call that
+    /// it has seen: nobody else can have made a call behind that one.
+    ///
     /// Where a ticket is open the try is lost, and the room and the pass come back, the pass with one lost try more.
     pub fn close(self, pass: Pass) -> Result<Room, (SharedRoom, Pass)>
         requires pass { IsPassOf self pass }
         requires left { 0 < (view pass).left }
         ensures closed { IfOk result (λ room. IsPrefix (view pass).seen room.history × (room.opening ≡ opening self)) }
+        ensures exact { mark (view pass).seen + (view pass).left ≡ 2 ^ 62 → IfOk result (λ room. room.history ≡ (view pass).seen) }
         ensures lost { IfErr result (λ r. (r.0 ≡ self) × IsPassOf r.0 r.1 × Loses (view pass) (view r.1)) }
     {
         let SharedRoom { lock } = self;
