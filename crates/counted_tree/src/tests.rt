@@ -7,6 +7,8 @@ use std::test::Fail;
 
 const OPERATIONS: usize = 120;
 
+const ELEMENTS: usize = 400;
+
 fn next(seed: &mut u64, n: u32) -> u32 {
     let x = seed
         .wrapping_mul(6_364_136_223_846_793_005)
@@ -22,6 +24,19 @@ fn found(tree: &VersionTree, version: usize, k: usize) -> Option<u32> {
     }
     let mut steps = Steps::new();
     tree.find(version, k, &mut steps)
+}
+
+/// The last element that one passes from one on, if it is there, or from before all others, as long as the keys are greater.
+fn last_above(tree: &VersionTree, before: Option<u32>, key: u32) -> Option<u32> {
+    let mut steps = Steps::new();
+    if let Some(e) = before {
+        if e as usize >= tree.elements() {
+            return None;
+        }
+        tree.last_above(Some(e), key, &mut steps)
+    } else {
+        tree.last_above(None, key, &mut steps)
+    }
 }
 
 /// Puts the next element in, if the one before is there.
@@ -43,7 +58,7 @@ fn insert(
     } else {
         tree.insert_after(None, n as u32, key);
     }
-    plain.insert_after(before, n as u32, tree.newest())
+    plain.insert_after(before, n as u32, key, tree.newest())
 }
 
 /// Hides the element at the place, if there is one.
@@ -93,6 +108,42 @@ fn agrees_with_a_scan(rt: HostRuntime) -> Result<(), Fail> {
             assert_eq!(rt; found(&tree, version, k), plain.find(version, k));
         }
     }
+    for key in 0..10 {
+        assert_eq!(rt; last_above(&tree, None, key), plain.last_above(None, key));
+        for elem in 0..tree.elements() as u32 {
+            assert_eq!(rt;
+                last_above(&tree, Some(elem), key),
+                plain.last_above(Some(elem), key)
+            );
+        }
+    }
+    Ok(())
+}
+
+/// Few small keys among great ones, so that ways are long.
+#[test]
+fn long_ways_agree_with_a_scan(rt: HostRuntime) -> Result<(), Fail> {
+    let mut tree = VersionTree::new(rt.alloc());
+    let mut plain = Plain::new(rt.alloc());
+    tree.reserve(ELEMENTS)?;
+    let mut seed = 5;
+    for n in 0..ELEMENTS as u32 {
+        let key = match next(&mut seed, 40) {
+            0 => next(&mut seed, 1000),
+            _ => next(&mut seed, 1000).saturating_add(1000),
+        };
+        let before = next(&mut seed, n + 1).checked_sub(1);
+        insert(&mut tree, &mut plain, before, key)?;
+    }
+    for key in [0, 500, 999, 1000, 1998, 1999, 2000, u32::MAX] {
+        assert_eq!(rt; last_above(&tree, None, key), plain.last_above(None, key));
+        for elem in 0..ELEMENTS as u32 {
+            assert_eq!(rt;
+                last_above(&tree, Some(elem), key),
+                plain.last_above(Some(elem), key)
+            );
+        }
+    }
     Ok(())
 }
 
@@ -115,6 +166,12 @@ fn worked_versions(rt: HostRuntime) -> Result<(), Fail> {
     assert_eq!(rt; tree.rank(2, &mut steps), 0);
     assert_eq!(rt; tree.rank(1, &mut steps), 1);
     assert_eq!(rt; steps.count(), 13);
+    assert_eq!(rt; tree.last_above(None, 7, &mut steps), None);
+    assert_eq!(rt; tree.last_above(None, 6, &mut steps), Some(0));
+    assert_eq!(rt; tree.last_above(Some(0), 6, &mut steps), Some(0));
+    assert_eq!(rt; tree.last_above(Some(0), 5, &mut steps), Some(2));
+    assert_eq!(rt; tree.last_above(Some(0), 4, &mut steps), Some(1));
+    assert_eq!(rt; tree.last_above(Some(1), 0, &mut steps), Some(1));
     assert_eq!(rt; tree.shown(0), 0);
     assert_eq!(rt; tree.shown(5), 2);
     Ok(())
@@ -142,6 +199,15 @@ fn is_found_soon(tree: &VersionTree, version: usize, k: usize) -> bool {
     tree.find(version, k, &mut steps).is_some() && steps.count() <= 36
 }
 
+/// Whether the way from the element past greater keys ends within 108 steps.
+fn is_passed_soon(tree: &VersionTree, elem: u32, key: u32) -> bool {
+    if elem as usize >= tree.elements() {
+        return false;
+    }
+    let mut steps = Steps::new();
+    tree.last_above(Some(elem), key, &mut steps).is_some() && steps.count() <= 108
+}
+
 #[test]
 fn the_longest_log_stays_within_its_bounds(rt: HostRuntime) -> Result<(), Fail> {
     let mut tree = VersionTree::new(rt.alloc());
@@ -155,6 +221,9 @@ fn the_longest_log_stays_within_its_bounds(rt: HostRuntime) -> Result<(), Fail> 
     for version in 1..131_073u32 {
         let place = next(&mut seed, version) as usize;
         assert!(rt; is_found_soon(&tree, version as usize, place));
+    }
+    for elem in 1..131_072u32 {
+        assert!(rt; is_passed_soon(&tree, elem, next(&mut seed, elem)));
     }
     Ok(())
 }
