@@ -36,7 +36,7 @@ least_of_fork t l r x e h =
     rw e (omega (arith, least-fork (entries l) (entries r) x))
 
 -- where each is above
-pub above_all : (key : ℕ) (last : Option ℕ) (xs : List Entry) → all_above key xs ≡ true → above key last xs ≡ last_of last xs
+above_all : (key : ℕ) (last : Option ℕ) (xs : List Entry) → all_above key xs ≡ true → above key last xs ≡ last_of last xs
 above_all key last [] h = refl
 above_all key last (x ∷ xs) h = elim (cases_lt key x.key) [
   | inl lt ↦ let e = rw (lt-ltb key x.key lt) at h in rw (lt-ltb key x.key lt) (above_all key (Some x.elem) xs e)
@@ -59,14 +59,14 @@ above_within key last (x ∷ xs) ys h = elim (cases_lt key x.key) [
   | inr le ↦ rw (le-ltb key x.key le) refl
 ]
 
-pub all_above-past : (key : ℕ) (xs ys : List Entry) → all_above key xs ≡ true → all_above key (xs ++ ys) ≡ all_above key ys
+all_above-past : (key : ℕ) (xs ys : List Entry) → all_above key xs ≡ true → all_above key (xs ++ ys) ≡ all_above key ys
 all_above-past key [] ys h = refl
 all_above-past key (x ∷ xs) ys h = elim (cases_lt key x.key) [
   | inl lt ↦ let e = rw (lt-ltb key x.key lt) at h in rw (lt-ltb key x.key lt) (all_above-past key xs ys e)
   | inr le ↦ let e = rw (le-ltb key x.key le) at h in absurd (cc)
 ]
 
-pub all_above-within : (key : ℕ) (xs ys : List Entry) → all_above key xs ≡ false → all_above key (xs ++ ys) ≡ false
+all_above-within : (key : ℕ) (xs ys : List Entry) → all_above key xs ≡ false → all_above key (xs ++ ys) ≡ false
 all_above-within key [] ys h = absurd (cc)
 all_above-within key (x ∷ xs) ys h = elim (cases_lt key x.key) [
   | inl lt ↦ let e = rw (lt-ltb key x.key lt) at h in rw (lt-ltb key x.key lt) (all_above-within key xs ys e)
