@@ -1,7 +1,8 @@
--- What a turn at a WebSocket that ended with a fault has done, and the socket that a handshake gave.
-use Rattle.std.proofs.Common.{◌≡◌, ℕ, List, Option, Some, Result, Ok, Err, Bool, inl, inr, refl, sym, ap, subst, ◌∙◌}
+-- What a turn that ended with a fault has done, and the socket that a handshake gave.
+use Rattle.std.proofs.Common.{◌≡◌, ℕ, List, Option, Some, Result, Ok, Err, Bool, false, inl, inr, refl, sym, ap, subst, ◌∙◌}
+use Rattle.tungstenite.specs.Content.{Content}
 use Rattle.tungstenite.specs.Heads.{Serves as IsOfServer}
-use Rattle.tungstenite.specs.Socket.{Socket, Reads, content_of}
+use Rattle.tungstenite.specs.Socket.{Socket, content_of}
 use Rattle.tungstenite.specs.declared.message.Message.{Message}
 use Rattle.tungstenite.specs.declared.error.Error.{Error}
 use Rattle.tungstenite.specs.declared.error.Error.TheVariants.{ConnectionClosed, OutOfMemory}
@@ -10,52 +11,66 @@ use Rattle.ws_server.specs.declared.fault.ServeFault.TheVariants.{Read, Write, M
 use Rattle.ws_server.specs.declared.hall.Hall.{Hall}
 use Rattle.shared_room.specs.Views.{View}
 use Rattle.ws_server.specs.Frames.{Side, AnswersFrame}
-use Rattle.ws_server.specs.Serving.{data_of, FailsToSend, ServesTurn, end_of_read}
+use Rattle.ws_server.specs.Serving.{data_of, FailsToSend, ServesTurn, end_of_read, fault_of_send}
+use Rattle.ws_server.specs.Sockets.{IsHandedOver}
+
+-- not the fault of a read
+abbrev IsNotRead : ServeFault → Type 0
+IsNotRead Read = ⊥
+IsNotRead why = Unit {0}
+
+-- no send ends a turn with `Read`
+no_read : (cause : Error) → IsNotRead (fault_of_send cause)
+no_read OutOfMemory = tt
+no_read cause = tt
 
 -- a message was answered, and the answer wasn't sent
-pub serves_unsent : {S G : Type 0} (remaining contents : S → Option (List ℕ)) (told_before : G → ℕ → View → G → Type 0)
+pub serves_unsent : {C G : Type 0} (reads : C → Result Message Error → C → Type 0)
+    (sends : C → Content → Result (Unit {0}) Error → C → Type 0) (told_before : G → ℕ → View → G → Type 0)
     (told_after : G → ℕ → G → Type 0) (hall : Hall)
-    (first mid socket : Socket S) (old new : Side G) (message : Message) (bytes answer : List ℕ) (made : Option ℕ) (why : ServeFault)
-    → Reads remaining first mid (Ok message) → data_of (content_of message) ≡ Some bytes
-    → AnswersFrame told_before hall old bytes answer made new → FailsToSend mid socket answer why
-    → ServesTurn remaining contents told_before told_after hall first old socket new (Err why)
-serves_unsent remaining contents told_before told_after hall first mid socket old new message bytes answer made Read reads taken answers
-    fails = absurd fails
-serves_unsent remaining contents told_before told_after hall first mid socket old new message bytes answer made Write reads taken answers
-    fails =
-    (message, mid, bytes, answer, made, reads, taken, answers, fails)
-serves_unsent remaining contents told_before told_after hall first mid socket old new message bytes answer made Memory reads taken answers
-    fails =
-    inr (message, mid, bytes, answer, made, reads, taken, answers, fails)
+    (first mid last : C) (old new : Side G) (message : Message) (bytes answer : List ℕ) (made : Option ℕ) (why : ServeFault)
+    → reads first (Ok message) mid → data_of (content_of message) ≡ Some bytes
+    → AnswersFrame told_before hall old bytes answer made new → FailsToSend sends mid answer last why
+    → ServesTurn reads sends told_before told_after hall first old last new (Err why)
+serves_unsent reads sends told_before told_after hall first mid last old new message bytes answer made Read read taken answers (inl fails) =
+    absurd (subst IsNotRead (sym fails.0) tt)
+serves_unsent reads sends told_before told_after hall first mid last old new message bytes answer made Read read taken answers (inr fails) =
+    absurd (subst IsNotRead fails.2 (no_read fails.0))
+serves_unsent reads sends told_before told_after hall first mid last old new message bytes answer made Write read taken answers fails =
+    (message, mid, bytes, answer, made, read, taken, answers, fails)
+serves_unsent reads sends told_before told_after hall first mid last old new message bytes answer made Memory read taken answers fails =
+    inr (message, mid, bytes, answer, made, read, taken, answers, fails)
 
 -- a read gave no message
-pub serves_nothing : {S G : Type 0} (remaining contents : S → Option (List ℕ)) (told_before : G → ℕ → View → G → Type 0)
+pub serves_nothing : {C G : Type 0} (reads : C → Result Message Error → C → Type 0)
+    (sends : C → Content → Result (Unit {0}) Error → C → Type 0) (told_before : G → ℕ → View → G → Type 0)
     (told_after : G → ℕ → G → Type 0) (hall : Hall)
-    (first socket : Socket S) (side : Side G) (why : Error) (end : Result Bool ServeFault)
-    → Reads remaining first socket (Err why) → end ≡ end_of_read why
-    → ServesTurn remaining contents told_before told_after hall first side socket side end
-serves_nothing remaining contents told_before told_after hall first socket side ConnectionClosed end reads is =
-    subst (λ e. ServesTurn remaining contents told_before told_after hall first side socket side e) (sym is) (reads, refl)
-serves_nothing remaining contents told_before told_after hall first socket side OutOfMemory end reads is =
-    subst (λ e. ServesTurn remaining contents told_before told_after hall first side socket side e) (sym is)
-    (inl (OutOfMemory, reads, refl, refl))
-serves_nothing remaining contents told_before told_after hall first socket side why end reads is =
-    subst (λ e. ServesTurn remaining contents told_before told_after hall first side socket side e) (sym is) (why, reads, refl, refl)
+    (first last : C) (side : Side G) (why : Error) (end : Result Bool ServeFault)
+    → reads first (Err why) last → end ≡ end_of_read why
+    → ServesTurn reads sends told_before told_after hall first side last side end
+serves_nothing reads sends told_before told_after hall first last side ConnectionClosed end read is =
+    subst (λ e. ServesTurn reads sends told_before told_after hall first side last side e) (sym is) (read, refl)
+serves_nothing reads sends told_before told_after hall first last side OutOfMemory end read is =
+    subst (λ e. ServesTurn reads sends told_before told_after hall first side last side e) (sym is) (inl (OutOfMemory, read, refl, refl))
+serves_nothing reads sends told_before told_after hall first last side why end read is =
+    subst (λ e. ServesTurn reads sends told_before told_after hall first side last side e) (sym is) (why, read, refl, refl)
 
--- a socket of a server is one still after its limits were set
-pub configured : {S : Type 0} (given limited : Socket S) → IsOfServer given
-    → limited ≡ record given { conn = record given.conn { config = limited.conn.config } } → IsOfServer limited
-configured given limited (heard, (stream, fresh)) is = (
-  heard,
-  (
-    stream,
-    record {
-      on_stream = ap (λ s. s.stream) is ∙ fresh.on_stream;
-      nothing_read = ap (λ s. s.input) is ∙ fresh.nothing_read;
-      nothing_waits = ap (λ s. s.output) is ∙ fresh.nothing_waits;
-      has_role = ap (λ s. s.conn.role) is ∙ fresh.has_role;
-      is_active = ap (λ s. s.conn.state) is ∙ fresh.is_active;
-      no_fragments = ap (λ s. s.conn.fragments) is ∙ fresh.no_fragments;
-    },
-  ),
-)
+-- the socket of a handshake, once its limits were set
+pub handed_over : {S : Type 0} (given limited : Socket S) → IsOfServer given
+    → limited ≡ record given { conn = record given.conn { config = limited.conn.config } }
+    → limited.conn.config.max_message_size ≡ Some 131072 → limited.conn.config.max_frame_size ≡ Some 131072
+    → limited.conn.config.accept_unmasked_frames ≡ false → IsHandedOver limited
+handed_over {S} given limited handshake is message frame masked =
+    let with_message : Option ℕ → Socket S = λ m.
+    record given { conn = record given.conn { config = record limited.conn.config { max_message_size = m } } } in
+    let with_frame : Option ℕ → Socket S = λ f.
+    record given {
+      conn = record given.conn { config = record limited.conn.config { max_message_size = Some 131072; max_frame_size = f } };
+    } in
+    let with_masks : Bool → Socket S = λ a.
+    record given {
+      conn = record given.conn {
+        config = record limited.conn.config { max_message_size = Some 131072; max_frame_size = Some 131072; accept_unmasked_frames = a };
+      };
+    } in
+    (given, handshake, is ∙ ap with_message message ∙ ap with_frame frame ∙ ap with_masks masked)

@@ -11,6 +11,7 @@ pub mod PassSteps
 pub mod Halls
 pub mod Gates
 pub mod Frames
+pub mod Sockets
 pub mod Serving
 pub mod Names
 pub mod Carrying

@@ -6,6 +6,7 @@ mod answer_text;
 mod carrying;
 #[cfg(test)]
 mod carrying_tests;
+mod channel;
 mod conn;
 mod counted;
 mod engine;
@@ -34,6 +35,7 @@ mod through_pass;
 mod window;
 
 pub use carrying::carry;
+pub use channel::Channel;
 pub use conn::Conn;
 pub use counted::Counted;
 pub use engine::{serve, serve_lines};
@@ -46,7 +48,7 @@ pub use protocol::Protocol;
 pub use reply_line::ReplyLine;
 pub use requests::Requests;
 pub use sink::Sink;
-pub use socket::{serve_one, serve_socket};
+pub use socket::{serve_channel, serve_one, serve_socket};
 pub use source::Source;
 pub use taking::{FirstLine, first_line, whole_input};
 pub use through_pass::serve_through_pass;
