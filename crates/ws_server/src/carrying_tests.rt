@@ -43,19 +43,25 @@ fn reads(desk: &mut RoomDesk, want: &str) -> bool {
     }
 }
 
-fn carry_each_way(alloc: Global, a: &mut RoomDesk, b: &mut RoomDesk) -> bool {
+fn carry_each_way(alloc: Global, a: &mut RoomDesk, b: &mut RoomDesk, want: &str) -> bool {
     let mut all = begins(alloc, a, "a") && begins(alloc, b, "b");
     all &= carry(a, b, 0) == Ok(1);
     all &= carry(b, a, 0) == Ok(2);
-    all && reads(a, "ba") && reads(b, "ba")
+    all && reads(a, want) && reads(b, want)
+}
+
+// Two rooms of these sites, of which the first is carried from first.
+fn rooms_carry(alloc: Global, first: u8, second: u8, want: &str) -> Result<bool, Fail> {
+    let mut a = desk_of(alloc, first)?;
+    let mut b = desk_of(alloc, second)?;
+    Ok(carry_each_way(alloc, &mut a, &mut b, want))
 }
 
 #[test]
 fn two_rooms_carry_to_each_other(rt: HostRuntime) -> Result<(), Fail> {
-    let alloc = rt.alloc();
-    let mut a = desk_of(alloc, 0)?;
-    let mut b = desk_of(alloc, 1)?;
-    assert!(rt; carry_each_way(alloc, &mut a, &mut b));
+    let mut all = rooms_carry(rt.alloc(), 0, 1, "ba")?;
+    all &= rooms_carry(rt.alloc(), 1, 0, "ab")?;
+    assert!(rt; all);
     Ok(())
 }
 
@@ -74,11 +80,16 @@ fn carry_seventy(alloc: Global, a: &mut RoomDesk, b: &mut RoomDesk) -> bool {
     all && reads(b, ALL)
 }
 
+fn rooms_carry_seventy(alloc: Global, first: u8, second: u8) -> Result<bool, Fail> {
+    let mut a = desk_of(alloc, first)?;
+    let mut b = desk_of(alloc, second)?;
+    Ok(carry_seventy(alloc, &mut a, &mut b))
+}
+
 #[test]
 fn a_carry_takes_at_most_64(rt: HostRuntime) -> Result<(), Fail> {
-    let alloc = rt.alloc();
-    let mut a = desk_of(alloc, 0)?;
-    let mut b = desk_of(alloc, 1)?;
-    assert!(rt; carry_seventy(alloc, &mut a, &mut b));
+    let mut all = rooms_carry_seventy(rt.alloc(), 0, 1)?;
+    all &= rooms_carry_seventy(rt.alloc(), 1, 0)?;
+    assert!(rt; all);
     Ok(())
 }

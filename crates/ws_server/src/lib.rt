@@ -7,6 +7,8 @@ mod carrying;
 #[cfg(test)]
 mod carrying_tests;
 mod channel;
+#[cfg(test)]
+mod client_tests;
 mod conn;
 mod counted;
 mod engine;

@@ -49,6 +49,9 @@ const TYPED: u32 = 99;
 
 const CARRIED: u32 = 64;
 
+// How often has to be carried until all is, where 198 operations are at most.
+const ENOUGH: u32 = 5;
+
 // Two rooms, of which the one carries to the other.
 #[derive(Drop)]
 struct Ends<'a> {
@@ -88,38 +91,41 @@ fn carry_lent<R: Wait>(
     carry(from, to, after)
 }
 
-// From which number to go on, which is the same where nothing was carried.
-fn carry_once<R: Wait>(rt: &R, ends: &Ends<'_>, a: &mut Pass, b: &mut Pass, after: u32) -> u32
+// From which number to go on.
+fn carry_once<R: Wait>(
+    rt: &R,
+    ends: &Ends<'_>,
+    a: &mut Pass,
+    b: &mut Pass,
+    after: u32,
+) -> Result<u32, DeskFault>
     requires { IsPassOf ends.now.from.now a.old × IsPassOf ends.now.to.now b.old }
     ensures { IsPassOf ends.now.from.now a.new × IsPassOf ends.now.to.now b.new }
 {
     let mut from = PassDesk::new(rt, ends.from, a);
     let mut to = PassDesk::new(rt, ends.to, b);
-    carry_lent(&mut from, &mut to, after).unwrap_or(after)
+    carry_lent(&mut from, &mut to, after)
 }
 
-// Carries so often: the number from which to go on.
-fn carry_often<R: Wait>(rt: &R, ends: &Ends<'_>, a: &mut Pass, b: &mut Pass) -> u32
+// Carries so often: the number from which to go on. A fault ends it.
+fn carry_often<R: Wait>(
+    rt: &R,
+    ends: &Ends<'_>,
+    a: &mut Pass,
+    b: &mut Pass,
+    times: u32,
+) -> Result<u32, DeskFault>
     requires { IsPassOf ends.now.from.now a.old × IsPassOf ends.now.to.now b.old }
     ensures { IsPassOf ends.now.from.now a.new × IsPassOf ends.now.to.now b.new }
 {
     let mut after = 0;
-    for _ in 0..CARRIED {
-        after = carry_once(rt, ends, a, b, after);
+    for _ in 0..times {
+        match carry_once(rt, ends, a, b, after) {
+            Ok(next) => after = next,
+            Err(why) => return Err(why),
+        }
     }
-    after
-}
-
-// Carries until nothing is left, where 198 operations are at most.
-fn carry_all<R: Wait>(rt: &R, ends: &Ends<'_>, a: &mut Pass, b: &mut Pass) -> u32
-    requires { IsPassOf ends.now.from.now a.old × IsPassOf ends.now.to.now b.old }
-    ensures { IsPassOf ends.now.from.now a.new × IsPassOf ends.now.to.now b.new }
-{
-    let mut after = 0;
-    for _ in 0..5 {
-        after = carry_once(rt, ends, a, b, after);
-    }
-    after
+    Ok(after)
 }
 
 // A pass of each of two rooms.
@@ -168,7 +174,10 @@ fn type_in_both<R: Threads + Wait + Sync>(
 fn carry_in_thread<R: Wait>(rt: &R, ends: &Ends<'_>, mut a: Pass, mut b: Pass) -> bool
     requires { IsPassOf ends.now.from.now a × IsPassOf ends.now.to.now b }
 {
-    carry_often(rt, ends, &mut a, &mut b) <= 2 * TYPED
+    match carry_often(rt, ends, &mut a, &mut b, CARRIED) {
+        Ok(after) => after <= 2 * TYPED,
+        Err(_) => false,
+    }
 }
 
 fn carry_each_way<R: Threads + Wait + Sync>(rt: &R, ends: &Ends<'_>, mut there: Pair) -> bool
@@ -245,8 +254,8 @@ fn carry_to_the_end<R: Wait>(rt: &R, ends: &Ends<'_>, a: &mut Pass, b: &mut Pass
         from: ends.to,
         to: ends.from,
     };
-    let _ = carry_all(rt, ends, a, b);
-    carry_all(rt, &turned, b, a) == 2 * TYPED
+    carry_often(rt, ends, a, b, ENOUGH).is_ok()
+        && carry_often(rt, &turned, b, a, ENOUGH) == Ok(2 * TYPED)
 }
 
 fn typed_and_carried<R: Threads + Wait + Sync>(

@@ -36,12 +36,13 @@ const TYPE_B: &[u8] =
 
 const CLOSE: &[u8] = b"\x88\x80\0\0\0\0";
 
-// How often a stream was called, how many of its parts it gave, and which call fails, from 1 on.
+// How often a stream was called, how many of its parts it gave, which call fails, from 1 on, and how that has to be told.
 #[derive(Drop)]
 struct Record {
     calls: Cell<usize>,
     given: Cell<usize>,
     fails_at: usize,
+    fault: Cell<Option<ServeFault>>,
 }
 
 impl Record {
@@ -50,16 +51,27 @@ impl Record {
             calls: Cell::new(0),
             given: Cell::new(0),
             fails_at,
+            fault: Cell::new(None),
         }
     }
 
-    // Counts a call, and fails if it is the one that does.
-    fn call(&self) -> io::Result<()> {
+    // Counts a call, and fails if it is the one that does, which is to be told so.
+    fn call(&self, fault: ServeFault) -> io::Result<()> {
         self.calls.set(self.calls.get().saturating_add(1));
         if self.calls.get() == self.fails_at {
+            self.fault.set(Some(fault));
             return Err(Error::from(ErrorKind::Other));
         }
         Ok(())
+    }
+
+    // How a write that fails is told: with `Write` where an answer is sent. The response to the head is the handshake's, and
+    // the reply to a close goes out at the next read.
+    fn fault_of_write(&self) -> ServeFault {
+        match self.given.get() {
+            2..6 => ServeFault::Write,
+            _ => ServeFault::Read,
+        }
     }
 }
 
@@ -72,7 +84,7 @@ struct Script<'a> {
 
 impl Read for Script<'_> {
     fn read(&mut self, buf: &mut [u8]) -> io::Result<usize> {
-        self.record.call()?;
+        self.record.call(ServeFault::Read)?;
         let given = self.record.given.get();
         let Some(part) = self.parts.get(given) else {
             return Ok(0);
@@ -86,18 +98,18 @@ impl Read for Script<'_> {
 
 impl Write for Script<'_> {
     fn write(&mut self, buf: &[u8]) -> io::Result<usize> {
-        self.record.call()?;
+        self.record.call(self.record.fault_of_write())?;
         Ok(buf.len())
     }
 
     fn flush(&mut self) -> io::Result<()> {
-        self.record.call()
+        self.record.call(self.record.fault_of_write())
     }
 }
 
 // A gate that lets everything pass.
 #[derive(Drop)]
-struct Free;
+pub(crate) struct Free;
 
 impl Gate for Free {
     ghost told_before = { λ _ _ _. Unit {0} };
@@ -109,7 +121,7 @@ impl Gate for Free {
     fn after(&mut self, _n: u64) {}
 }
 
-fn hall_of_notes(alloc: Global) -> Result<(Hall, HallPass), Fail>
+pub(crate) fn hall_of_notes(alloc: Global) -> Result<(Hall, HallPass), Fail>
     ensures { IfOk result (λ r. IsHallPassOf r.0 r.1) }
 {
     let site = Site::new(0)?;
@@ -188,12 +200,7 @@ fn ends_as_told<R: Wait>(
 {
     let record = Record::new(fails_at);
     let end = serve_script(rt, alloc, hall, pass, &record);
-    let has_failed = record.calls.get() >= fails_at;
-    let is_told = match end {
-        Ok(()) => !has_failed,
-        Err(ServeFault::Read | ServeFault::Write) => has_failed,
-        Err(ServeFault::Memory) => false,
-    };
+    let is_told = end.err() == record.fault.get();
     let is_there = reads(rt, alloc, hall, pass, reading_after(record.given.get()));
     if is_told && is_there {
         Some(end.is_ok())
@@ -310,7 +317,20 @@ fn is_held<R: Wait + Clock>(
     comes_and_goes(rt, alloc, hall, pass, &mut gate) && !gate.gave_up
 }
 
-fn one_is_held<R: Threads + Wait + Clock + Sync>(
+fn is_answered<R: Wait>(
+    rt: &R,
+    alloc: Global,
+    hall: &Hall,
+    pass: HallPass,
+    answered: &AtomicU64,
+) -> bool
+    requires { IsHallPassOf hall.now pass }
+{
+    comes_and_goes(rt, alloc, hall, pass, &mut Telling { answered })
+}
+
+// The first of two connections is held.
+fn first_is_held<R: Threads + Wait + Clock + Sync>(
     rt: &R,
     alloc: Global,
     hall: &Hall,
@@ -327,17 +347,29 @@ fn one_is_held<R: Threads + Wait + Clock + Sync>(
         { is_held(rt, alloc, hall, first, &answered) },
         || -> bool
             requires { IsSync R.row × IsHallPassOf hall.now second }
-        {
-            comes_and_goes(
-                rt,
-                alloc,
-                hall,
-                second,
-                &mut Telling {
-                    answered: &answered,
-                },
-            )
-        },
+        { is_answered(rt, alloc, hall, second, &answered) },
+    )
+}
+
+// The second of two connections is held.
+fn second_is_held<R: Threads + Wait + Clock + Sync>(
+    rt: &R,
+    alloc: Global,
+    hall: &Hall,
+    first: HallPass,
+    second: HallPass,
+) -> (bool, bool)
+    requires { IsHallPassOf hall.now first × IsHallPassOf hall.now second }
+{
+    let answered = AtomicU64::new(0);
+    join(
+        rt,
+        || -> bool
+            requires { IsSync R.row × IsHallPassOf hall.now first }
+        { is_answered(rt, alloc, hall, first, &answered) },
+        || -> bool
+            requires { IsSync R.row × IsHallPassOf hall.now second }
+        { is_held(rt, alloc, hall, second, &answered) },
     )
 }
 
@@ -346,8 +378,10 @@ fn serve_two<R: Threads + Wait + Clock + Sync>(
     alloc: Global,
     hall: &Hall,
     pass: &mut HallPass,
+    is_first_held: bool,
 ) -> bool
     requires { IsHallPassOf hall.now pass.old }
+    ensures { IsHallPassOf hall.now pass.new }
 {
     let Ok(first) = hall.split(alloc, pass, 8) else {
         return false;
@@ -355,13 +389,19 @@ fn serve_two<R: Threads + Wait + Clock + Sync>(
     let Ok(second) = hall.split(alloc, pass, 8) else {
         return false;
     };
-    let both = one_is_held(rt, alloc, hall, first, second);
+    let both = if is_first_held {
+        first_is_held(rt, alloc, hall, first, second)
+    } else {
+        second_is_held(rt, alloc, hall, first, second)
+    };
     both.0 && both.1
 }
 
 #[test]
 fn a_held_connection_holds_up_no_other(rt: HostRuntime) -> Result<(), Fail> {
     let (hall, mut pass) = hall_of_notes(rt.alloc())?;
-    assert!(rt; serve_two(&rt, rt.alloc(), &hall, &mut pass));
+    let all = serve_two(&rt, rt.alloc(), &hall, &mut pass, true)
+        && serve_two(&rt, rt.alloc(), &hall, &mut pass, false);
+    assert!(rt; all);
     Ok(())
 }

@@ -1,5 +1,0 @@
-use Rattle.shared_room.specs.Views.{IsPassOf}
-use Rattle.ws_server.proofs.shared_tests.carry_all.Given as goal
-
-abbrev pub invariant-loop : goal.invariant-loop
-invariant-loop g l = IsPassOf l.ends.from.now l.a × IsPassOf l.ends.to.now l.b
