@@ -6,7 +6,7 @@ use Rattle.opid.specs.Operations.{Operation}
 use Rattle.room.specs.declared.owned.RoomDesk.{RoomDesk}
 use Rattle.room.specs.History.{Account}
 use Rattle.room.specs.OwnedDesk.{room_step, room_fault}
-use Rattle.ws_server.specs.Answers.{Answers}
+use Rattle.ws_server.specs.AnsweredRequests.{AnswersRequest}
 use Rattle.ws_server.specs.Lines.{cut}
 use Rattle.ws_server.specs.ServedLines.{AreAnswered, Serves, ServesAll}
 use Rattle.ws_server.specs.declared.fault.ServeFault.{ServeFault}
@@ -15,15 +15,16 @@ use Rattle.rgatext.specs.declared.stop.Stop.TheVariants.{Fault}
 use Rattle.rgatext.specs.Played.{Opens, Closes, ServesRoom}
 
 -- no line is answered where nothing is held and nothing is read
-pub serves_nothing : (desk : RoomDesk) (held : List ℕ) → held ≡ [] → ServesAll (Answers room_step room_fault) desk (held ++ []) [] desk
+pub serves_nothing : (desk : RoomDesk) (held : List ℕ) → held ≡ []
+    → ServesAll (AnswersRequest room_step room_fault) desk (held ++ []) [] desk
 serves_nothing desk held none =
     let e : cut (held ++ []) ≡ [] = ap cut (append-nil held ∙ none) in
-    ([], subst (λ (t : List (List ℕ)). AreAnswered (Answers room_step room_fault) desk t [] desk) (sym e) refl, refl)
+    ([], subst (λ (t : List (List ℕ)). AreAnswered (AnswersRequest room_step room_fault) desk t [] desk) (sym e) refl, refl)
 
 -- all lines were served, and the room was closed
 pub closed : (room : Account) (snapshot : Bool) (desk after : RoomDesk) (got answers last : List ℕ) (left : Option (List ℕ))
     (log : List Operation) (r : Result (Unit {0}) Stop)
-    → desk.room ≡ room → Serves {T = Unit {0}} (Answers room_step room_fault) desk got left answers (Ok tt) after
+    → desk.room ≡ room → Serves {T = Unit {0}} (AnswersRequest room_step room_fault) desk got left answers (Ok tt) after
     → log ≡ after.room.state.log → Closes {T = Unit {0}} snapshot log last (Ok tt) r
     → ServesRoom room snapshot got left (answers ++ last) r
 closed room snapshot desk after got answers last left log r opens serves same closes = record {
@@ -40,7 +41,7 @@ closed room snapshot desk after got answers last left log r opens serves same cl
 
 -- the engine ended with a fault
 pub broken : (room : Account) (snapshot : Bool) (desk after : RoomDesk) (got answers : List ℕ) (left : Option (List ℕ)) (why : ServeFault)
-    → desk.room ≡ room → Serves {T = Unit {0}} (Answers room_step room_fault) desk got left answers (Err why) after
+    → desk.room ≡ room → Serves {T = Unit {0}} (AnswersRequest room_step room_fault) desk got left answers (Err why) after
     → ServesRoom {T = Unit {0}} room snapshot got left answers (Err (Fault why))
 broken room snapshot desk after got answers left why opens serves = record {
   desk = desk;

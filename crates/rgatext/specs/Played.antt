@@ -15,7 +15,7 @@ use Rattle.room.specs.Machine.{room_over}
 use Rattle.room.specs.History.{Account, account_over}
 use Rattle.room.specs.OwnedDesk.{room_step, room_fault}
 use Rattle.snapshot.specs.Snapshot.{StandsFor, StandsForNone, LacksSite, HasSite, log_text}
-use Rattle.ws_server.specs.Answers.{Answers}
+use Rattle.ws_server.specs.AnsweredRequests.{AnswersRequest}
 use Rattle.ws_server.specs.Lines.{FallsShort, IsFirstLine, ended}
 use Rattle.ws_server.specs.ServedLines.{Serves}
 use Rattle.ws_server.specs.declared.fault.ServeFault.{ServeFault}
@@ -81,7 +81,7 @@ pub record ServesRoom {T : Type 0} (room : Account) (snapshot : Bool) (got : Lis
   pub last : List ℕ
   pub served : Result (Unit {0}) ServeFault
   pub opens : desk.room ≡ room
-  pub serves : Serves (Answers room_step room_fault) desk got left answers served after
+  pub serves : Serves (AnswersRequest room_step room_fault) desk got left answers served after
   pub whole : written ≡ answers ++ last
   pub closes : Closes snapshot after.room.state.log last served end
 

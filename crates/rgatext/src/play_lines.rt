@@ -5,7 +5,7 @@ ghost use Rattle.room.specs.Machine.{room_over};
 ghost use Rattle.room.specs.History.{account_over};
 ghost use Rattle.room.specs.OwnedDesk.{room_step, room_fault};
 ghost use Rattle.snapshot.specs.Snapshot.{log_text};
-ghost use Rattle.ws_server.specs.Answers.{Answers};
+ghost use Rattle.ws_server.specs.AnsweredRequests.{AnswersRequest};
 ghost use Rattle.ws_server.specs.Lines.{ended};
 ghost use Rattle.ws_server.specs.ServedLines.{Serves};
 ghost use Rattle.ws_server.specs.Counting.{Rises};
@@ -138,7 +138,7 @@ fn serve_rest<R: Source, W: Write>(
         × Consumes (R.remaining input.old.inner) (R.remaining input.new.inner) got
         × Appends (W.contents output.old.inner) (W.contents output.new.inner) written
         × (is_over ≡ true → got ≡ [])
-        × Serves (Answers room_step room_fault) desk.old (window.old ++ got) (R.remaining input.new.inner) written result desk.new }
+        × Serves (AnswersRequest room_step room_fault) desk.old (window.old ++ got) (R.remaining input.new.inner) written result desk.new }
     ensures unread { is_over ≡ true → R.remaining input.new.inner ≡ R.remaining input.old.inner }
     ensures counted { Rises input.old.failures input.new.failures output.old.failures output.new.failures result }
 {

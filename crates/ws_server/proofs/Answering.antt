@@ -10,18 +10,18 @@ use Rattle.room.specs.declared.reply.Reply.TheVariants.{No}
 use Rattle.room.specs.declared.desk.DeskFault.{DeskFault}
 use Rattle.wire_json.specs.Request.{request}
 use Rattle.wire_json.specs.Text.{text as text_of}
-use Rattle.ws_server.specs.Answers.{Answers, AnswersAsked, reply_of}
+use Rattle.ws_server.specs.AnsweredRequests.{AnswersRequest, AnswersAsked, reply_of}
 use Rattle.ws_server.specs.Gates.{Gated, TakesNumber, gated_step, gated_fault}
 
 -- the answer to a line that asks a call is the outcome's
-pub Answers-asked : {S : Type 0} (step : S → Call → Reply → S → Type 0) (fault : S → Call → DeskFault → S → Type 0) (old new : S)
+pub AnswersRequest-asked : {S : Type 0} (step : S → Call → Reply → S → Type 0) (fault : S → Call → DeskFault → S → Type 0) (old new : S)
     (line : List ℕ) (call : Call) (done : Result Reply DeskFault)
     → request line ≡ Ok call → MatchResult done (λ reply. step old call reply new) (λ why. fault old call why new)
-    → Answers step fault old line (text_of (reply_of done)) new
-Answers-asked {S} step fault old new line call (Ok reply) is h =
+    → AnswersRequest step fault old line (text_of (reply_of done)) new
+AnswersRequest-asked {S} step fault old new line call (Ok reply) is h =
     let P : Result Call Refusal → Type 0 = λ asked. AnswersAsked step fault old asked (text_of reply) new in
     inl (subst P (sym is) (inl (reply, h, refl)))
-Answers-asked {S} step fault old new line call (Err why) is h =
+AnswersRequest-asked {S} step fault old new line call (Err why) is h =
     let P : Result Call Refusal → Type 0 = λ asked. AnswersAsked step fault old asked (text_of (reply_of (Err why))) new in
     inl (subst P (sym is) (inr (why, h, refl)))
 
@@ -32,13 +32,13 @@ within_limit line refusal asked is none long =
     ⊎_elim (λ (h : 65536 < length line). let e = long h in cc) (λ (h : length line ≤ 65536). h) (cases_lt 65536 (length line))
 
 -- the answer to a line that is refused
-pub Answers-refused : {S : Type 0} (step : S → Call → Reply → S → Type 0) (fault : S → Call → DeskFault → S → Type 0) (old new : S)
+pub AnswersRequest-refused : {S : Type 0} (step : S → Call → Reply → S → Type 0) (fault : S → Call → DeskFault → S → Type 0) (old new : S)
     (line : List ℕ) (refusal : Refusal) (asked : Result Call Refusal)
     → asked ≡ Err refusal → (65536 < length line → asked ≡ Err TooLong) → (refusal ≡ NoMemory) ⊎ (request line ≡ Err refusal) → new ≡ old
-    → Answers step fault old line (text_of (No refusal)) new
-Answers-refused step fault old new line refusal asked same long (inl e) stays =
+    → AnswersRequest step fault old line (text_of (No refusal)) new
+AnswersRequest-refused step fault old new line refusal asked same long (inl e) stays =
     inr (within_limit line refusal asked same e long, ap (λ t. text_of (No t)) e, stays)
-Answers-refused {S} step fault old new line refusal asked same long (inr is) stays =
+AnswersRequest-refused {S} step fault old new line refusal asked same long (inr is) stays =
     let P : Result Call Refusal → Type 0 = λ r. AnswersAsked step fault old r (text_of (No refusal)) new in
     inl (subst P (sym is) (refl, stays))
 
@@ -52,12 +52,12 @@ gated told_before step fault old new call (Ok reply) takes did = (takes, did)
 gated told_before step fault old new call (Err why) takes did = (takes, did)
 
 -- the answer to a message that asks a call, behind a gate
-pub Answers-gated : {S G : Type 0} (told_before : G → ℕ → S → G → Type 0) (step : S → Call → Reply → S → Type 0)
+pub AnswersRequest-gated : {S G : Type 0} (told_before : G → ℕ → S → G → Type 0) (step : S → Call → Reply → S → Type 0)
     (fault : S → Call → DeskFault → S → Type 0)
     (old new : Gated S G) (line : List ℕ) (call : Call) (done : Result Reply DeskFault)
     → request line ≡ Ok call → TakesNumber told_before old new
     → MatchResult done (λ reply. step old.desk call reply new.desk) (λ why. fault old.desk call why new.desk)
-    → Answers (gated_step told_before step) (gated_fault told_before fault) old line (text_of (reply_of done)) new
-Answers-gated told_before step fault old new line call done is takes did =
-    Answers-asked (gated_step told_before step) (gated_fault told_before fault) old new line call done is
+    → AnswersRequest (gated_step told_before step) (gated_fault told_before fault) old line (text_of (reply_of done)) new
+AnswersRequest-gated told_before step fault old new line call done is takes did =
+    AnswersRequest-asked (gated_step told_before step) (gated_fault told_before fault) old new line call done is
     (gated told_before step fault old new call done takes did)

@@ -6,7 +6,7 @@ use Rattle.room.specs.declared.call.Call.{Call}
 use Rattle.room.specs.declared.reply.Reply.{Reply}
 use Rattle.room.specs.declared.desk.DeskFault.{DeskFault}
 use Rattle.wire_json.specs.Request.{request}
-use Rattle.ws_server.specs.Answers.{AnswersAsked, Answers}
+use Rattle.ws_server.specs.AnsweredRequests.{AnswersAsked, AnswersRequest}
 use Rattle.ws_server.specs.Lines.{cut}
 use Rattle.ws_server.specs.ServedLines.{AreAnswered, Serves}
 use Rattle.ws_server.specs.declared.fault.ServeFault.{ServeFault}
@@ -26,8 +26,8 @@ module _ (S T : Type 0) (step : S → Call → Reply → S → Type 0) (fault : 
   asked a (Err refusal) answer b v like (e, same) = (v, like_same Like a b v same like, (e, refl))
 
   -- an answer to a line, where each step and each fault of a desk is one of the other's
-  pub answered : (a : S) (line answer : List ℕ) (b : S) (v : T) → Like a v → Answers step fault a line answer b
-      → (w : T) × Like b w × Answers step' fault' v line answer w
+  pub answered : (a : S) (line answer : List ℕ) (b : S) (v : T) → Like a v → AnswersRequest step fault a line answer b
+      → (w : T) × Like b w × AnswersRequest step' fault' v line answer w
   answered a line answer b v like (inl h) = let f = asked a (request line) answer b v like h in (f.0, f.1, inl f.2)
   answered a line answer b v like (inr (few, e, same)) = (v, like_same Like a b v same like, inr (few, e, refl))
 

@@ -7,7 +7,7 @@ use Rattle.shared_room.specs.declared.shared.SharedRoom.{SharedRoom}
 use Rattle.shared_room.specs.declared.desk.PassDesk.{PassDesk}
 use Rattle.shared_room.specs.Views.{View, view, opening}
 use Rattle.shared_room.specs.Turns as turns
-use Rattle.ws_server.specs.Answers.{Answers}
+use Rattle.ws_server.specs.AnsweredRequests.{AnswersRequest}
 use Rattle.ws_server.specs.PassSteps.{pass_step, pass_fault}
 use Rattle.ws_server.specs.ServedLines.{Serves, StartsNot}
 use Rattle.ws_server.specs.declared.fault.ServeFault.{ServeFault}
@@ -50,10 +50,10 @@ abbrev Ended : {H U : Type 0} → PassDesk H → PassDesk H → List ℕ → Opt
 Ended first last got left written r =
     (last.room.now ≡ first.room.now) × (last.pass.ghost_name ≡ first.pass.ghost_name)
     × (StartsNot (view first.pass.now) got written r (view last.pass.now)
-    ⊎ Serves (Answers (pass_step (opening first.room.now)) pass_fault) (view first.pass.now) got left written r (view last.pass.now))
+    ⊎ Serves (AnswersRequest (pass_step (opening first.room.now)) pass_fault) (view first.pass.now) got left written r (view last.pass.now))
 
 pub lent : {H U : Type 0} (first last : PassDesk H) (got : List ℕ) (left : Option (List ℕ)) (written : List ℕ) (r : Result U ServeFault)
-    → StartsNot first got written r last ⊎ Serves (Answers desk_step desk_fault) first got left written r last
+    → StartsNot first got written r last ⊎ Serves (AnswersRequest desk_step desk_fault) first got left written r last
     → Ended first last got left written r
 lent first last got left written r (inl none) = (
   ap (λ d. d.room.now) none.same,
@@ -65,10 +65,11 @@ lent {H} {U} first last got left written r (inr did) =
     let v = view first.pass.now in
     let each = answered (PassDesk H) View desk_step desk_fault (pass_step (opening room)) pass_fault (Lent room first)
     (lent_step room first) (lent_fault room first) in
-    let k = serves (PassDesk H) View (Answers desk_step desk_fault) (Answers (pass_step (opening room)) pass_fault) (Lent room first) each
+    let k = serves (PassDesk H) View (AnswersRequest desk_step desk_fault) (AnswersRequest (pass_step (opening room)) pass_fault)
+    (Lent room first) each
     first got left written r last v (refl, refl, refl) did in
     let like = k.1 in (
       like.0,
       like.1,
-      inr (subst (λ (u : View). Serves (Answers (pass_step (opening room)) pass_fault) v got left written r u) (sym like.2) k.2),
+      inr (subst (λ (u : View). Serves (AnswersRequest (pass_step (opening room)) pass_fault) v got left written r u) (sym like.2) k.2),
     )

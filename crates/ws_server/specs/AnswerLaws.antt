@@ -9,13 +9,14 @@ use Rattle.room.specs.declared.reply.Reply.TheVariants.{No}
 use Rattle.room.specs.declared.desk.DeskFault.{DeskFault}
 use Rattle.wire_json.specs.Request.{request}
 use Rattle.wire_json.specs.Text.{text}
-use Rattle.ws_server.specs.Answers.{Answers, AnswersAsked}
+use Rattle.ws_server.specs.AnsweredRequests.{AnswersRequest, AnswersAsked}
 
 too_long : (line : List ℕ) → 65536 < length line → request line ≡ Err TooLong
 too_long line long = rw (lt-ltb 65536 (length line) long) refl
 
-pub Answers-long : {S : Type 0} (step : S → Call → Reply → S → Type 0) (fault : S → Call → DeskFault → S → Type 0) (old : S) (line : List ℕ)
-    → 65536 < length line → Answers step fault old line (text (No TooLong)) old
-Answers-long {S} step fault old line long =
+pub AnswersRequest-long : {S : Type 0} (step : S → Call → Reply → S → Type 0) (fault : S → Call → DeskFault → S → Type 0) (old : S)
+    (line : List ℕ)
+    → 65536 < length line → AnswersRequest step fault old line (text (No TooLong)) old
+AnswersRequest-long {S} step fault old line long =
     let P : Result Call Refusal → Type 0 = λ r. AnswersAsked step fault old r (text (No TooLong)) old in
     inl (subst P (sym (too_long line long)) (refl, refl))

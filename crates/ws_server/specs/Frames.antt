@@ -11,7 +11,7 @@ use Rattle.shared_room.specs.Views.{View, view, opening}
 use Rattle.ws_server.specs.declared.conn.Conn.{Conn}
 use Rattle.ws_server.specs.declared.hall.Hall.{Hall}
 use Rattle.ws_server.specs.Halls.{rooms_of, place_of}
-use Rattle.ws_server.specs.Answers.{Answers}
+use Rattle.ws_server.specs.AnsweredRequests.{AnswersRequest}
 use Rattle.ws_server.specs.PassSteps.{pass_step, pass_fault}
 use Rattle.ws_server.specs.Gates.{Gated, gated_step, gated_fault}
 
@@ -24,7 +24,7 @@ pub record Side (G : Type 0) : Type 0 where
 -- a message over the pass of a room, behind the gate: just what the line engine answers to these bytes as one line
 abbrev pub AnswersOver : {G : Type 0} → (G → ℕ → View → G → Type 0) → SharedRoom → Gated Pass G → List ℕ → List ℕ → Gated Pass G → Type 0
 AnswersOver told_before room old bytes answer new =
-    Answers (gated_step told_before (pass_step (opening room))) (gated_fault told_before pass_fault)
+    AnswersRequest (gated_step told_before (pass_step (opening room))) (gated_fault told_before pass_fault)
     (record { desk = view old.desk; calls = old.calls; gate = old.gate; made = old.made }) bytes answer
     (record { desk = view new.desk; calls = new.calls; gate = new.gate; made = new.made })
 

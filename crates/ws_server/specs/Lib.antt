@@ -1,5 +1,5 @@
 pub mod Lines
-pub mod Answers
+pub mod AnsweredRequests
 pub mod AnswerLaws
 pub mod LineBytes
 pub mod TextBytes

@@ -4,7 +4,7 @@ ghost use Rattle.std.specs.Io.KnownBytes.{Appends, Consumes};
 ghost use Rattle.opid.specs.declared.refusal.Refusal.TheVariants.{TooLong};
 ghost use Rattle.room.specs.declared.reply.Reply.TheVariants.{No};
 ghost use Rattle.wire_json.specs.Text.{text};
-ghost use Rattle.ws_server.specs.Answers.{Answers};
+ghost use Rattle.ws_server.specs.AnsweredRequests.{AnswersRequest};
 ghost use Rattle.ws_server.specs.ServedLines.{Serves, StartsNot};
 ghost use Rattle.ws_server.specs.Calls.{for_a_block, CountsReads, CountsWrites};
 ghost use Rattle.ws_server.specs.Counting.{Rises};
@@ -179,7 +179,7 @@ pub fn serve_lines<D: Desk, R: Source, W: Sink>(
         × Consumes (R.remaining input.old.inner) (R.remaining input.new.inner) got
         × Appends (W.contents output.old.inner) (W.contents output.new.inner) written
         × (StartsNot desk.old got written result desk.new
-        ⊎ Serves (Answers D.step D.fault) desk.old got (R.remaining input.new.inner) written result desk.new) }
+        ⊎ Serves (AnswersRequest D.step D.fault) desk.old got (R.remaining input.new.inner) written result desk.new) }
     ensures counted { Rises input.old.failures input.new.failures output.old.failures output.new.failures result }
     ensures reads { CountsReads (for_a_block R.reads) input.old.inner input.old.failures input.new.inner input.new.calls
         input.new.failures }

@@ -1,6 +1,6 @@
 //! Lines that are requests, answered by a desk.
 ghost use Rattle.std.specs.Prelude.{◌≡◌};
-ghost use Rattle.ws_server.specs.Answers.{reply_of};
+ghost use Rattle.ws_server.specs.AnsweredRequests.{reply_of};
 
 use crate::protocol::Protocol;
 use crate::reply_line::ReplyLine;
@@ -14,8 +14,8 @@ use wire_json::{MAX_REQUEST_BYTES, read_request};
 pub struct Requests<D>(PhantomData<D>);
 
 impl<D: Desk> Protocol for Requests<D> {
-    ghost use Rattle.ws_server.specs.Answers.{Answers};
-    ghost use Rattle.ws_server.specs.AnswerLaws.{Answers-long};
+    ghost use Rattle.ws_server.specs.AnsweredRequests.{AnswersRequest};
+    ghost use Rattle.ws_server.specs.AnswerLaws.{AnswersRequest-long};
     ghost use Rattle.std.proofs.Common.{rules};
 
     type State = D;
@@ -24,7 +24,7 @@ impl<D: Desk> Protocol for Requests<D> {
 
     ghost ready = { D.ready };
 
-    ghost answers = { Answers D.step D.fault };
+    ghost answers = { AnswersRequest D.step D.fault };
 
     const LIMIT: usize = MAX_REQUEST_BYTES;
 
@@ -37,7 +37,7 @@ impl<D: Desk> Protocol for Requests<D> {
 
     ghost fits = { Prim.search rules };
 
-    ghost refuses_long = { λ desk line long. Answers-long D.step D.fault desk line long };
+    ghost refuses_long = { λ desk line long. AnswersRequest-long D.step D.fault desk line long };
 }
 
 // What a desk did, as a reply.

@@ -2,7 +2,7 @@
 ghost use Rattle.std.specs.Prelude.{◌≡◌, ◌⊎◌, ℕ, ◌^◌, ◌<◌, List};
 ghost use Rattle.std.specs.Io.KnownBytes.{Appends, Consumes};
 ghost use Rattle.shared_room.specs.Views.{view, opening, IsPassOf};
-ghost use Rattle.ws_server.specs.Answers.{Answers};
+ghost use Rattle.ws_server.specs.AnsweredRequests.{AnswersRequest};
 ghost use Rattle.ws_server.specs.Calls.{for_a_block, CountsReads, CountsWrites};
 ghost use Rattle.ws_server.specs.Counting.{Rises};
 ghost use Rattle.ws_server.specs.PassSteps.{pass_step, pass_fault};
@@ -35,7 +35,7 @@ pub fn serve_through_pass<H: Wait, R: Source, W: Sink>(
         × Consumes (R.remaining input.old.inner) (R.remaining input.new.inner) got
         × Appends (W.contents output.old.inner) (W.contents output.new.inner) written
         × (StartsNot (view pass.old) got written result (view pass.new)
-        ⊎ Serves (Answers (pass_step (opening room.now)) pass_fault) (view pass.old) got (R.remaining input.new.inner) written result
+        ⊎ Serves (AnswersRequest (pass_step (opening room.now)) pass_fault) (view pass.old) got (R.remaining input.new.inner) written result
         (view pass.new)) }
     ensures counted { Rises input.old.failures input.new.failures output.old.failures output.new.failures result }
     ensures reads { CountsReads (for_a_block R.reads) input.old.inner input.old.failures input.new.inner input.new.calls
@@ -62,7 +62,7 @@ fn serve_lent<H: Wait, R: Source, W: Sink>(
         × Consumes (R.remaining input.old.inner) (R.remaining input.new.inner) got
         × Appends (W.contents output.old.inner) (W.contents output.new.inner) written
         × (StartsNot (view desk.old.pass.now) got written result (view desk.new.pass.now)
-        ⊎ Serves (Answers (pass_step (opening desk.old.room.now)) pass_fault) (view desk.old.pass.now) got
+        ⊎ Serves (AnswersRequest (pass_step (opening desk.old.room.now)) pass_fault) (view desk.old.pass.now) got
         (R.remaining input.new.inner) written result (view desk.new.pass.now)) }
     ensures counted { Rises input.old.failures input.new.failures output.old.failures output.new.failures result }
     ensures reads { CountsReads (for_a_block R.reads) input.old.inner input.old.failures input.new.inner input.new.calls

@@ -4,16 +4,16 @@ use Rattle.wire_json.specs.Text.{text}
 use Rattle.room.specs.declared.reply.Reply.TheVariants.{No}
 use Rattle.shared_room.specs.Views.{view, opening}
 use Rattle.ws_server.specs.PassSteps.{pass_step, pass_fault}
-use Rattle.ws_server.specs.Answers.{reply_of}
+use Rattle.ws_server.specs.AnsweredRequests.{reply_of}
 use Rattle.ws_server.specs.Gates.{gated_step, gated_fault}
-use Rattle.ws_server.proofs.Answering.{Answers-gated, Answers-refused}
+use Rattle.ws_server.proofs.Answering.{AnswersRequest-gated, AnswersRequest-refused}
 use Rattle.ws_server.proofs.frame.answer_over.Goals as goal
 
 pub returns-in-Ok-clause-answered : goal.returns-in-Ok-clause-answered
 returns-in-Ok-clause-answered g c = (
   text (reply_of c.ask.result),
   Some c.next_call-n.result,
-  Answers-gated g.G.Witness.told_before (pass_step (opening c.args.room.now)) pass_fault
+  AnswersRequest-gated g.G.Witness.told_before (pass_step (opening c.args.room.now)) pass_fault
       (record { desk = view c.args.pass.now; calls = c.args.calls.now; gate = c.args.gate.now; made = None })
       (record {
         desk = view c.ask.new.pass;
@@ -31,7 +31,7 @@ pub returns-in-Ok-new-clause-answered : goal.returns-in-Ok-new-clause-answered
 returns-in-Ok-new-clause-answered g c = (
   text (reply_of c.ask.result),
   Some c.next_call-n.result,
-  Answers-gated g.G.Witness.told_before (pass_step (opening c.args.room.now)) pass_fault
+  AnswersRequest-gated g.G.Witness.told_before (pass_step (opening c.args.room.now)) pass_fault
       (record { desk = view c.args.pass.now; calls = c.args.calls.now; gate = c.args.gate.now; made = None })
       (record {
         desk = view c.ask.new.pass;
@@ -49,7 +49,7 @@ pub returns-clause-answered : goal.returns-clause-answered
 returns-clause-answered g c = (
   text (No c.in-Err.refusal),
   None,
-  Answers-refused (gated_step g.G.Witness.told_before (pass_step (opening c.args.room.now)))
+  AnswersRequest-refused (gated_step g.G.Witness.told_before (pass_step (opening c.args.room.now)))
       (gated_fault g.G.Witness.told_before pass_fault)
       (record { desk = view c.args.pass.now; calls = c.args.calls.now; gate = c.args.gate.now; made = None })
       (record { desk = view c.args.pass.now; calls = c.args.calls.now; gate = c.args.gate.now; made = None })

@@ -3,16 +3,16 @@ use Rattle.std.proofs.Common.{◌≡◌, IfOk, refl, subst, Err}
 use Rattle.wire_json.specs.Text.{text}
 use Rattle.room.specs.declared.reply.Reply.{Reply}
 use Rattle.room.specs.declared.reply.Reply.TheVariants.{No}
-use Rattle.ws_server.specs.Answers.{reply_of}
+use Rattle.ws_server.specs.AnsweredRequests.{reply_of}
 use Rattle.ws_server.specs.Lines.{ended}
 use Rattle.ws_server.specs.LineBytes.{line_bytes}
-use Rattle.ws_server.proofs.Answering.{Answers-asked, Answers-refused}
+use Rattle.ws_server.proofs.Answering.{AnswersRequest-asked, AnswersRequest-refused}
 use Rattle.ws_server.proofs.requests.RequestsProtocol.answer.Goals as goal
 
 pub returns-in-Ok-clause-answered : goal.returns-in-Ok-clause-answered
 returns-in-Ok-clause-answered g c = (
   text (reply_of c.call.result),
-  Answers-asked g.D.Desk.step g.D.Desk.fault c.args.desk.now c.call.new.self c.args.line.now c.in-Ok.call c.call.result
+  AnswersRequest-asked g.D.Desk.step g.D.Desk.fault c.args.desk.now c.call.new.self c.args.line.now c.in-Ok.call c.call.result
       c.in-Ok.ensures.asked c.call.ensures.answered,
   subst (λ (r : Reply). IfOk c.new.result (λ made. line_bytes made ≡ ended (text r))) c.reply_of.ensures c.new.ensures,
 )
@@ -20,7 +20,8 @@ returns-in-Ok-clause-answered g c = (
 pub returns-in-Err-clause-answered : goal.returns-in-Err-clause-answered
 returns-in-Err-clause-answered g c = (
   text (No c.in-Err.refusal),
-  Answers-refused g.D.Desk.step g.D.Desk.fault c.args.desk.now c.args.desk.now c.args.line.now c.in-Err.refusal (Err c.in-Err.refusal)
+  AnswersRequest-refused g.D.Desk.step g.D.Desk.fault c.args.desk.now c.args.desk.now c.args.line.now c.in-Err.refusal
+      (Err c.in-Err.refusal)
       refl c.in-Err.ensures.too_long c.in-Err.ensures.asked refl,
   c.refusal.ensures,
 )

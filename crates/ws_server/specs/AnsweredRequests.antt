@@ -25,7 +25,8 @@ AnswersAsked step fault old (Ok call) answer new =
 AnswersAsked step fault old (Err refusal) answer new = (answer ≡ text (No refusal)) × (new ≡ old)
 
 -- the answer to a line; a line that isn't too long may find no memory, and leaves the desk as it was
-abbrev pub Answers : {S : Type 0} → (S → Call → Reply → S → Type 0) → (S → Call → DeskFault → S → Type 0) → S → List ℕ → List ℕ → S → Type 0
-Answers step fault old line answer new =
+abbrev pub AnswersRequest : {S : Type 0} → (S → Call → Reply → S → Type 0) → (S → Call → DeskFault → S → Type 0) → S → List ℕ → List ℕ → S
+    → Type 0
+AnswersRequest step fault old line answer new =
     AnswersAsked step fault old (request line) answer new
     ⊎ ((length line ≤ 65536) × (answer ≡ text (No Why.Memory)) × (new ≡ old))
