@@ -56,7 +56,7 @@ fn reply_line(alloc: Global, reply: &WorldReply) -> Result<ReplyLine, AllocError
 {
     match reply {
         WorldReply::Room(reply) => ReplyLine::new(alloc, reply),
-        WorldReply::Forked => Ok(ReplyLine::Fixed(b"{\"r\":\"forked\"}\n")),
+        WorldReply::Forked => Ok(ReplyLine::Fixed("{\"r\":\"forked\"}\n")),
         WorldReply::No(why) => Ok(ReplyLine::refusal(*why)),
     }
 }

@@ -2,7 +2,6 @@ pub mod Lines
 pub mod AnsweredRequests
 pub mod AnswerLaws
 pub mod LineBytes
-pub mod TextBytes
 pub mod ServedLines
 pub mod Calls
 pub mod Counting

@@ -1,18 +1,10 @@
-//! The lines and texts that tell refusals. They stand in the program, so that none needs memory.
+//! The lines that tell refusals. They stand in the program, so that none needs memory.
 ghost use Rattle.std.specs.Prelude.{◌≡◌};
 ghost use Rattle.room.specs.declared.reply.Reply.TheVariants.{No};
 ghost use Rattle.wire_json.specs.Text.{text};
 ghost use Rattle.ws_server.specs.Lines.{ended};
 
 use opid::Refusal;
-
-/// The text that tells a refusal: its line less the LF.
-pub(crate) fn refusal_text(why: Refusal) -> &'static str
-    ensures { result.now ≡ text (No why) }
-{
-    let line = refusal_line(why);
-    &line[..line.len() - 1]
-}
 
 /// The line that tells a refusal, with its LF.
 pub(crate) fn refusal_line(why: Refusal) -> &'static str

@@ -3,16 +3,17 @@ ghost use Rattle.std.specs.Prelude.{◌≡◌, ℕ, ◌<◌, List, Option, IfOk,
 ghost use Rattle.shared_room.specs.Turns.{Answers, FaultsPass};
 ghost use Rattle.shared_room.specs.Views.{view, opening, IsPassOf};
 ghost use Rattle.ws_server.specs.declared.fault.ServeFault.TheVariants.{Memory};
-ghost use Rattle.ws_server.specs.TextBytes.{text_bytes};
+ghost use Rattle.ws_server.specs.Lines.{ended};
+ghost use Rattle.ws_server.specs.LineBytes.{line_bytes};
 ghost use Rattle.ws_server.specs.Halls.{rooms_of, IsHallPassOf, IsConnOf};
 ghost use Rattle.ws_server.specs.Frames.{AnswersOver, AnswersFrame, Opens};
 ghost use Rattle.ws_server.specs.Gates.{next_call};
 
-use crate::answer_text::AnswerText;
 use crate::conn::Conn;
 use crate::fault::ServeFault;
 use crate::gate::Witness;
 use crate::hall::{Hall, HallPass};
+use crate::reply_line::ReplyLine;
 use crate::requests::reply_of;
 use opid::Refusal;
 use room::{Call, Desk, DeskFault, Reply};
@@ -21,13 +22,13 @@ use std::alloc::Global;
 use std::sync::Wait;
 use wire_json::{read_open, read_request};
 
-// The text that tells that a room was opened.
-const OPENED: &str = "{\"r\":\"opened\"}";
+// The line that tells that a room was opened.
+const OPENED: &str = "{\"r\":\"opened\"}\n";
 
-/// What answers a message, and the number of the call that it made, if it made one.
+/// The line that answers a message, and the number of the call that it made, if it made one.
 #[derive(Drop)]
 pub(crate) struct Answered {
-    pub(crate) text: AnswerText,
+    pub(crate) line: ReplyLine,
     pub(crate) call: Option<u64>,
 }
 
@@ -64,7 +65,7 @@ fn answer_over<R: Wait, G: Witness>(
     ensures answered { (answer : List ℕ) × (made : Option ℕ)
         × AnswersOver G.told_before room.now (record { desk = pass.old; calls = calls.old; gate = gate.old; made = None }) bytes.now answer
         (record { desk = pass.new; calls = calls.new; gate = gate.new; made = made })
-        × IfOk result (λ answered. (text_bytes answered.text ≡ answer) × (answered.call ≡ made)) }
+        × IfOk result (λ answered. (line_bytes answered.line ≡ ended answer) × (answered.call ≡ made)) }
     ensures memory { IfErr result (λ why. why ≡ Memory) }
 {
     match read_request(alloc, bytes) {
@@ -73,37 +74,37 @@ fn answer_over<R: Wait, G: Witness>(
             *calls = n;
             gate.tell_before(n, pass);
             let reply = reply_of(ask(rt, room, pass, call));
-            match AnswerText::new(alloc, &reply) {
-                Ok(text) => Ok(Answered {
-                    text,
+            match ReplyLine::new(alloc, &reply) {
+                Ok(line) => Ok(Answered {
+                    line,
                     call: Some(n),
                 }),
                 Err(_) => Err(ServeFault::Memory),
             }
         }
         Err(refusal) => Ok(Answered {
-            text: AnswerText::refusal(refusal),
+            line: ReplyLine::refusal(refusal),
             call: None,
         }),
     }
 }
 
 // The answer to a message of a connection that has opened no room.
-fn open(alloc: Global, hall: &Hall, opened: &mut Option<usize>, bytes: &[u8]) -> AnswerText
+fn open(alloc: Global, hall: &Hall, opened: &mut Option<usize>, bytes: &[u8]) -> ReplyLine
     requires { opened.old ≡ None }
-    ensures opened { Opens hall.now bytes.now (text_bytes result) opened.new }
+    ensures opened { (answer : List ℕ) × Opens hall.now bytes.now answer opened.new × (line_bytes result ≡ ended answer) }
     ensures within { IfSome opened.new (λ at. at < length (rooms_of hall.now)) }
 {
     let name = match read_open(alloc, bytes) {
         Ok(name) => name,
-        Err(why) => return AnswerText::refusal(why),
+        Err(why) => return ReplyLine::refusal(why),
     };
     match hall.place(name.as_str()) {
         Some(at) => {
             *opened = Some(at);
-            AnswerText::Fixed(OPENED)
+            ReplyLine::Fixed(OPENED)
         }
-        None => AnswerText::refusal(Refusal::NoRoom),
+        None => ReplyLine::refusal(Refusal::NoRoom),
     }
 }
 
@@ -125,12 +126,12 @@ pub(crate) fn answer_message<R: Wait, G: Witness>(
         × AnswersFrame G.told_before hall.now (record { conn = conn.old; passes = pass.old.passes.items; gate = gate.old })
         bytes.now answer made
         (record { conn = conn.new; passes = pass.new.passes.items; gate = gate.new })
-        × IfOk result (λ answered. (text_bytes answered.text ≡ answer) × (answered.call ≡ made)) }
+        × IfOk result (λ answered. (line_bytes answered.line ≡ ended answer) × (answered.call ≡ made)) }
     ensures memory { IfErr result (λ why. why ≡ Memory) }
 {
     match conn.opened {
         None => Ok(Answered {
-            text: open(alloc, hall, &mut conn.opened, bytes),
+            line: open(alloc, hall, &mut conn.opened, bytes),
             call: None,
         }),
         Some(at) => answer_over(
@@ -174,8 +175,8 @@ pub fn answer_frame<R: Wait, G: Witness>(
         × IfOk result (λ text. string_bytes text ≡ answer) }
     ensures memory { IfErr result (λ why. why ≡ Memory) }
 {
-    let Answered { text, call: _ } = answer_message(rt, alloc, hall, pass, conn, bytes, gate)?;
-    match text.into_string(alloc) {
+    let Answered { line, call: _ } = answer_message(rt, alloc, hall, pass, conn, bytes, gate)?;
+    match line.into_text(alloc) {
         Ok(text) => Ok(text),
         Err(_) => Err(ServeFault::Memory),
     }

@@ -2,7 +2,6 @@
 //! hall of rooms by name, and an answer for each message.
 #![tactic(auto)]
 
-mod answer_text;
 mod carrying;
 #[cfg(test)]
 mod carrying_tests;

@@ -1,5 +1,5 @@
 //! The line that is sent for an answer.
-ghost use Rattle.std.specs.Prelude.{◌≡◌, IfOk};
+ghost use Rattle.std.specs.Prelude.{◌≡◌, ℕ, List, IfOk, string_bytes};
 ghost use Rattle.room.specs.declared.reply.Reply.TheVariants.{No};
 ghost use Rattle.wire_json.specs.Text.{text};
 ghost use Rattle.ws_server.specs.Lines.{ended};
@@ -9,15 +9,16 @@ use crate::fixed::refusal_line;
 use opid::Refusal;
 use room::Reply;
 use std::alloc::{AllocError, Global};
+use tungstenite::Utf8Bytes;
 use wire_json::write_reply;
 
-/// The bytes of an answer's line, with its LF.
+/// The line of an answer: its text, and LF. A message has the text alone.
 #[derive(Debug, Drop)]
 pub enum ReplyLine {
-    /// A text that was made.
+    /// A line that was made.
     Made(String),
-    /// A text that stands in the program, and needs no memory.
-    Fixed(&'static [u8]),
+    /// A line that stands in the program, and needs no memory.
+    Fixed(&'static str),
 }
 
 impl ReplyLine {
@@ -40,16 +41,55 @@ impl ReplyLine {
     pub fn refusal(why: Refusal) -> ReplyLine
         ensures { line_bytes result ≡ ended (text (No why)) }
     {
-        ReplyLine::Fixed(refusal_line(why).as_bytes())
+        ReplyLine::Fixed(refusal_line(why))
     }
 
-    /// The bytes. Constant time.
+    /// The bytes, with the LF. Constant time.
     pub fn as_bytes(&self) -> &[u8]
         ensures { result.now ≡ line_bytes self.now }
     {
         match self {
             ReplyLine::Made(line) => line.as_bytes(),
-            ReplyLine::Fixed(line) => line,
+            ReplyLine::Fixed(line) => line.as_bytes(),
         }
     }
+
+    /// The text as a string, for which a fixed one is copied.
+    pub(crate) fn into_text(self, alloc: Global) -> Result<String, AllocError>
+        requires { (answer : List ℕ) × (line_bytes self ≡ ended answer) }
+        ensures { (answer : List ℕ) → line_bytes self ≡ ended answer → IfOk result (λ made. string_bytes made ≡ answer) }
+    {
+        match self {
+            ReplyLine::Made(line) => Ok(made_text(line)),
+            ReplyLine::Fixed(line) => String::from_str(alloc, fixed_text(line)),
+        }
+    }
+
+    /// The text as that of a message. No byte is copied.
+    pub(crate) fn into_message_text(self) -> Result<Utf8Bytes, AllocError>
+        requires { (answer : List ℕ) × (line_bytes self ≡ ended answer) }
+        ensures { (answer : List ℕ) → line_bytes self ≡ ended answer → IfOk result (λ made. made ≡ answer) }
+    {
+        match self {
+            ReplyLine::Made(line) => Utf8Bytes::from_string(made_text(line)),
+            ReplyLine::Fixed(line) => Ok(Utf8Bytes::from_static(fixed_text(line))),
+        }
+    }
+}
+
+// A line that was made, less its LF.
+fn made_text(mut line: String) -> String
+    requires { (answer : List ℕ) × (string_bytes line ≡ ended answer) }
+    ensures { (answer : List ℕ) → string_bytes line ≡ ended answer → string_bytes result ≡ answer }
+{
+    let _ = line.pop();
+    line
+}
+
+// A fixed line, less its LF.
+fn fixed_text(line: &'static str) -> &'static str
+    requires { (answer : List ℕ) × (line.now ≡ ended answer) }
+    ensures { (answer : List ℕ) → line.now ≡ ended answer → result.now ≡ answer }
+{
+    &line[..line.len() - 1]
 }

@@ -3,6 +3,7 @@ use Rattle.std.proofs.Common.{refl, ap, Err, None, Some, ◌∙◌}
 use Rattle.wire_json.specs.Text.{text}
 use Rattle.room.specs.declared.reply.Reply.TheVariants.{No}
 use Rattle.shared_room.specs.Views.{view, opening}
+use Rattle.ws_server.specs.Lines.{ended}
 use Rattle.ws_server.specs.PassSteps.{pass_step, pass_fault}
 use Rattle.ws_server.specs.AnsweredRequests.{reply_of}
 use Rattle.ws_server.specs.Gates.{gated_step, gated_fault}
@@ -42,7 +43,7 @@ returns-in-Ok-new-clause-answered g c = (
       })
       c.args.bytes.now c.in-Ok.call c.ask.result c.in-Ok.ensures.asked
       (c.next_call-n.ensures, refl, c.tell_before.ensures) c.ask.ensures.answered,
-  (c.in-Ok-new.ensures ∙ ap text c.reply_of-reply.ensures, refl),
+  (c.in-Ok-new.ensures ∙ ap (λ reply. ended (text reply)) c.reply_of-reply.ensures, refl),
 )
 
 pub returns-clause-answered : goal.returns-clause-answered
