@@ -1,5 +1,5 @@
 use Rattle.shared_room.specs.Views.{IsPassOf}
-use Rattle.ws_server.proofs.shared_tests.types.Given as goal
+use Rattle.integration_tests.proofs.carried.types.Given as goal
 
 abbrev pub invariant-loop-n : goal.invariant-loop-n
 invariant-loop-n g l = IsPassOf l.room l.pass
