@@ -171,7 +171,8 @@ impl VersionTree {
         Ok(())
     }
 
-    /// Adds a version with a further element, shown, right after another one, or before all others. Its key
+    /// Adds a version with a further element, shown, with a key below 8,388,608, right after another one, or before all
+    /// others. Its key
     /// stays with it for good. Takes memory from the reserve alone, and a logarithmic number of steps and nodes.
     pub fn insert_after(&mut self, before: Option<u32>, elem: u32, key: u32)
         requires room { 1 ≤ self.old.room }

@@ -39,8 +39,8 @@ abbrev pub passed : Stamp → Option ℕ → List Entry → Option ℕ
 passed s last [] = last
 passed s last (y ∷ ys) = if is_before s y.stamp then passed s (Some y.elem) ys else last
 
--- the element right behind which an insertion with the stamp s stands (None: before all others): on the way from behind its parent (None:
--- from the head)
+-- the element right behind which an insertion with the stamp s stands: the last that the way right from its parent passes. None is the
+-- head, as the parent and as that element.
 abbrev pub behind : Option Stamp → Stamp → List Entry → Option ℕ
 behind None s entries = passed s None entries
 behind (Some p) s [] = None

@@ -1,7 +1,7 @@
 //! A replicated list of characters: elements in a linked order, deleted ones too, beside a table from
-//! identifiers to elements (Roh, Jeon, Kim and Lee 2011). An insertion looks up its parent, walks right past
-//! every element with a greater stamp, and stands before the first other one. So the order is the preorder of
-//! the insertion tree (Attiya and others 2016), however the operations arrived.
+//! identifiers to elements (Roh, Jeon, Kim and Lee 2011). An insertion stands where the way right from its parent, past
+//! every element with a greater stamp, ends: `integrate_ins` walks it, and `insert_behind` is told its end. So the order
+//! is the preorder of the insertion tree (Attiya and others 2016), however the operations arrived.
 //! Elements lie in one vector by arrival and are linked by numbers; a deleted one stays, for good.
 #![tactic(auto)]
 

@@ -26,7 +26,7 @@ pub enum Call {
     ///
     /// Takes a look-up of the session for a repeat and for what is refused up to `BadVersion`, and a step for each
     /// character for `BadText`. Otherwise logarithmic in the number of elements, for the place and again for each
-    /// character, and a step for each element with a greater stamp that stands behind the place.
+    /// character.
     Ins {
         s: u32,
         n: u32,
@@ -64,8 +64,8 @@ pub enum Call {
         s: u32,
     },
     /// Asks for the operations of the log from number `after` on, at most `max` of them. Refused with `HistoryFull`, and
-    /// with `BadRange` where `after` is above the log's length, or `max` is 0 or above 64. Takes a step for each
-    /// operation that is told.
+    /// with `BadRange` where `after` is above the log's length, or `max` is 0 or above 64. Takes the steps of
+    /// `Doc::copy_ops` for the operations that are told.
     Ops {
         after: u32,
         max: u32,
@@ -80,8 +80,7 @@ pub enum Call {
     /// `UnknownElement` where its parent or target is no element, `NotOlder` where its parent's stamp isn't smaller.
     ///
     /// Takes at most two passes over what is held back for each operation that is handed over, one more for each that
-    /// leaves it, and for each that is integrated steps logarithmic in the number of elements, and one for each element
-    /// with a greater stamp that stands behind its parent.
+    /// leaves it, and for each that is integrated steps logarithmic in the number of elements.
     Put(Operations),
     /// Asks for the newest version and its text. Refused with `HistoryFull`. Takes a step for each element.
     Read,

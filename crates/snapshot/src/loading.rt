@@ -39,8 +39,7 @@ pub fn load(alloc: Global, bytes: &[u8], site: Site) -> Result<Replica, Refusal>
 ///
 /// Refused with `BadSnapshot` exactly where they stand for none, and with `Memory` in the place of any answer. Takes a
 /// reading of the bytes as JSON, which is in memory as a whole, and the steps of `Doc::integrate` for each operation: a
-/// logarithmic number, and one for each element with a greater stamp that an insertion passes. Only a log in which many
-/// insertions at one place don't know of each other passes many.
+/// logarithmic number.
 pub fn load_doc(alloc: Global, bytes: &[u8]) -> Result<Doc, Refusal>
     ensures stands { IfOk result (λ doc. StandsFor bytes.now doc.log) }
     ensures unreserved { IfOk result (λ doc. doc.room ≡ 0) }
