@@ -1,6 +1,8 @@
 //! Serves rooms over WebSockets on loopback, a thread for each connection.
+ghost use Rattle.std.specs.Prelude.{◌≡◌, false, Err};
 ghost use Rattle.std.specs.Thread.{IsSync};
 ghost use Rattle.ws_server.specs.Halls.{IsHallPassOf};
+ghost use Rattle.ws_server.specs.Names.{names_fit};
 
 use crate::stop::Stop;
 use log::{Log, warn};
@@ -128,7 +130,9 @@ fn serve_all<R: Net<Listener = TcpListener, Stream = TcpStream> + Threads + Wait
 /// connections that were accepted have ended.
 pub fn host<
     R: Net<Listener = TcpListener, Stream = TcpStream> + Threads + Wait + Print + Log + Sync,
->(rt: &R, alloc: Global, port: u16, site: Site, conns: u32, names: &[String]) -> Result<(), Stop> {
+>(rt: &R, alloc: Global, port: u16, site: Site, conns: u32, names: &[String]) -> Result<(), Stop>
+    ensures unfit { names_fit names.now ≡ false → result ≡ Err (Stop.Refused Refusal.BadField) }
+{
     if !names_fit(names) {
         return Err(Stop::Refused(Refusal::BadField));
     }
