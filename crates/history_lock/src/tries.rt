@@ -62,7 +62,7 @@ impl<T: Trailed> TicketLock<T> {
     /// takes memory.
     ///
     /// A pass that has all draws but those of the finished turns that it knows of gets just what the last of these
-    /// left. The value's mark is at most the number of draws that the pass hasn't.
+    /// left. The value's mark is at most 2^62 less the draws that the pass has left.
     ///
     /// Where a ticket is open the try is lost, and the lock and the pass come back, the pass with one lost try more.
     pub fn close(self, mut pass: Pass<T>) -> Result<T, (TicketLock<T>, Pass<T>)>

@@ -1,4 +1,4 @@
-//! Tests over public calls of several crates, and of crates that would be proved once more for tests of their own.
+//! Tests over public calls of crates that don't see each other.
 #![tactic(auto)]
 
 #[cfg(test)]
