@@ -1,11 +1,12 @@
-//! Connections of whose reads and sends generic code knows that they were made.
+//! Connections of which generic code knows only what their reads and sends gave.
 ghost use Rattle.tungstenite.specs.Socket.{Reads};
 ghost use Rattle.ws_server.specs.Sockets.{Sends};
 
 use std::io::{Read, Write};
 use tungstenite::{Error, Message, NoMask, WebSocket};
 
-/// A connection that gives messages and takes them, of whose calls generic code knows that they were made. A server's socket is one.
+/// A connection that gives messages and takes them, of which generic code knows only what these calls gave. A server's
+/// socket is one.
 pub trait Channel {
     ghost use Rattle.std.specs.Prelude.{Result};
     ghost use Rattle.tungstenite.specs.Content.{Content};
