@@ -230,6 +230,7 @@ fn read_the_same<R: Wait>(rt: &R, ends: &Ends<'_>, a: &mut Pass, b: &mut Pass) -
     };
     v == 2 * TYPED
         && x.as_str() == other.as_str()
+        && x.as_str().len() == 198
         && count(x.as_str(), 'a') == 99
         && count(x.as_str(), 'b') == 99
 }

@@ -176,12 +176,12 @@ fn a_lone_pass_is_never_busy(rt: HostRuntime) -> Result<(), Fail> {
     Ok(())
 }
 
-// Waits until the room reads a text with these characters: 400,000 reads at most, 10 microseconds apart.
+// Waits until the room reads a text with these characters: 1,000,000 reads at most, 10 microseconds apart.
 fn finds<R: Wait + Clock>(rt: &R, room: &SharedRoom, pass: &mut Pass, characters: &str) -> bool
     requires { IsPassOf room.now pass.old }
     ensures { IsPassOf room.now pass.new }
 {
-    for _ in 0..400_000 {
+    for _ in 0..1_000_000 {
         if reads(rt, room, pass, characters) {
             return true;
         }
