@@ -11,8 +11,9 @@ use Rattle.causal_clock.specs.declared.row.Row.{Row}
 use Rattle.causal_clock.specs.Kinds.{IsOperation}
 use Rattle.causal_clock.specs.Stored.{changes, is_whole, latest, entries_of}
 use Rattle.causal_clock.specs.Packed.{no_row, no_op, row_at, operation_at, fill, row_clock, after, no_clocks, logged, IsRow}
-use Rattle.causal_clock.specs.Packed.{AreRows, IsSite, IsPacked}
+use Rattle.causal_clock.specs.Packed.{AreRows, IsLastBefore, IsSite, IsPacked}
 use Rattle.causal_clock.proofs.Changing.{fill-changes, length-changes_le}
+use Rattle.causal_clock.proofs.Lasts.{last-grown, last-other, last-own}
 use Rattle.causal_clock.proofs.Telling.{told-append, after-append, told-one, after-one, changes_of-new, AreWithin}
 use Rattle.causal_clock.proofs.Telling.{told-grown, after-grown, latest-push, count-push, stored-push}
 use Rattle.causal_clock.proofs.Packing.{packed_same, GoesBack, Tells, line-grown, new-near, line-new}
@@ -32,17 +33,23 @@ site-other rows ops clocks lasts numbers r x n m s e d p =
       clock = get_or-set_other clocks x.site s x.clock [] d ∙ p.clock ∙ sym newest;
       number = get_or-set_other numbers x.site s m 0 d ∙ p.number ∙ sym many;
       none = λ z. newest ∙ p.none (sym many ∙ z);
-      last = λ z. omega (arith, place, p.last (omega (arith, z, many)), length_push rows r);
+      last = λ z.
+          subst (λ j. IsLastBefore (ops ++ x ∷ []) s (length (rows ++ r ∷ [])) j) (sym place)
+          (subst (λ n. IsLastBefore (ops ++ x ∷ []) s n (get_or lasts s 0)) (sym (length_push rows r))
+          (last-other (ops ++ x ∷ []) s (length rows) (get_or lasts s 0)
+          (λ q. d (sym (sym (ap (λ (v : Operation). v.site) (get_or_push ops x no_op (length rows) e)) ∙ q)))
+          (last-grown ops (x ∷ []) s (length rows) (get_or lasts s 0) (omega (arith, e)) (p.last (omega (arith, z, many))))));
       near = λ z.
           let b : (row_at (rows ++ r ∷ []) (get_or (set lasts x.site n) s 0)).back ≡ (row_at rows (get_or lasts s 0)).back =
           ap (λ j. (row_at (rows ++ r ∷ []) j).back) place
-          ∙ ap (λ (v : Row). v.back) (get_or_append_left rows (r ∷ []) no_row (get_or lasts s 0) (p.last (omega (arith, z, many)))) in
+          ∙ ap (λ (v : Row). v.back) (get_or_append_left rows (r ∷ []) no_row (get_or lasts s 0)
+          (p.last (omega (arith, z, many))).before) in
           let q : count_of (ops ++ x ∷ []) s % 64 ≡ count_of ops s % 64 = ap (λ v. v % 64) many in
           omega (arith, b, q, p.near (omega (arith, z, many)));
       same = λ z.
           ap (λ j. (operation_at (ops ++ x ∷ []) j).clock) place
           ∙ ap (λ (v : Operation). v.clock) (get_or_append_left ops (x ∷ []) no_op (get_or lasts s 0)
-          (omega (arith, p.last (omega (arith, z, many)), e)))
+          (omega (arith, (p.last (omega (arith, z, many))).before, e)))
           ∙ p.same (omega (arith, z, many)) ∙ sym newest;
     }
 
@@ -66,7 +73,10 @@ site-own es rows ops clocks lasts numbers r x m e wc wl wn c p t =
       clock = get_or-set_same clocks x.site x.clock [] (omega (arith, t.valid.site)) ∙ sym newest;
       number = get_or-set_same numbers x.site m 0 (omega (arith, t.valid.site)) ∙ c ∙ sym many;
       none = λ z. absurd (omega (arith, z, many));
-      last = λ z. omega (arith, place, length_push rows r);
+      last = λ z.
+          subst (λ j. IsLastBefore (ops ++ x ∷ []) x.site (length (rows ++ r ∷ [])) j) (sym place)
+          (subst (λ n. IsLastBefore (ops ++ x ∷ []) x.site n (length rows)) (sym (length_push rows r))
+          (last-own (ops ++ x ∷ []) x.site (length rows) (ap (λ (v : Operation). v.site) (get_or_push ops x no_op (length rows) e))));
       near = λ z. omega (arith, b, q, new-near rows ops clocks lasts numbers x r p t.back);
       same = λ z. ap (λ j. (operation_at (ops ++ x ∷ []) j).clock) place
           ∙ ap (λ (v : Operation). v.clock) (get_or_push ops x no_op (length rows) e) ∙ sym newest;
@@ -201,7 +211,7 @@ pub last-near : (es : List (ℕ × ℕ)) (rows : List Row) (ops : List Operation
 last-near es rows ops clocks lasts numbers s p l h =
     let own : IsSite rows ops clocks lasts numbers s = p.sites s l in
     let some : 0 < count_of ops s = omega (arith, h, own.number) in
-    (own.last some, omega (arith, own.near some))
+    ((own.last some).before, omega (arith, own.near some))
 
 goes-back : (rows : List Row) (ops : List Operation) (clocks : List (List ℕ)) (lasts numbers : List ℕ) (x : Operation) (r : Row)
     → IsSite rows ops clocks lasts numbers x.site

@@ -1,42 +1,99 @@
 -- A walk through a log: nothing is kept at first, then one operation more.
-use Rattle.std.proofs.Common.{◌≡◌, ℕ, zero, suc, ◌+◌, ◌<◌, ◌⊎◌, inl, inr, List, ◌∷◌, length, drop, replicate, set, get_or, slice_get}
-use Rattle.std.proofs.Common.{Option, Some, None, refl, ap, ◌∙◌, sym, arith, get_or-set_other, get_or-set_same}
-use Rattle.std.proofs.lemmas.Bool.{cases_eq}
-use Rattle.std.proofs.lemmas.Option.{slice_get-get_or, get_or_from_slice_get}
-use Rattle.std.proofs.lemmas.List.{drop_more, length-drop}
+use Rattle.std.proofs.Common.{◌≡◌, ℕ, zero, suc, ◌+◌, ◌<◌, ◌≤◌, ◌⊎◌, inl, inr, eqb, List, [], ◌∷◌, ◌++◌, length, take, drop, replicate}
+use Rattle.std.proofs.Common.{set, get_or, slice_get, Option, Some, None, false, refl, ap, ◌∙◌, sym, subst, arith}
+use Rattle.std.proofs.Common.{get_or-set_other, get_or-set_same}
+use Rattle.std.proofs.Math.ListN.{drop_of_length-le}
+use Rattle.std.proofs.Math.Seq.{take-suc}
+use Rattle.std.proofs.lemmas.Bool.{cases_eq, cond-false, eqb-true, false_from_ne_true}
+use Rattle.std.proofs.lemmas.Option.{slice_get-get_or, slice_get_within, get_or_from_slice_get}
+use Rattle.std.proofs.lemmas.List.{drop_more, drop-append-le, length-drop, length-take}
 use Rattle.opid.specs.Operations.{Operation}
+use Rattle.opid.specs.Delivery.{count_of}
 use Rattle.causal_clock.specs.declared.row.Row.{Row}
-use Rattle.causal_clock.specs.declared.replay.Seen.{Seen}
-use Rattle.causal_clock.specs.Packed.{no_op, no_clocks, operation_at, row_at, logged, AreRows}
-use Rattle.causal_clock.specs.Replayed.{AreSeen}
-use Rattle.causal_clock.proofs.Telling.{length-told}
+use Rattle.causal_clock.specs.Packed.{no_op, no_clocks, operation_at, row_at, logged, AreRows, IsLastBefore}
+use Rattle.causal_clock.specs.Replayed.{between, AreSeen, AreAllSeen}
+use Rattle.causal_clock.proofs.Lasts.{last-one, last-other, last-own}
+use Rattle.causal_clock.proofs.Telling.{count-push, length-told}
 
-none_at : (n i : ℕ) → (let none : Option Seen = None in get_or (replicate n none) i none) ≡ None
+none_at : (n i : ℕ) → (let none : Option (List ℕ) = None in get_or (replicate n none) i none) ≡ None
 none_at zero i = refl
 none_at (suc n) zero = refl
 none_at (suc n) (suc i) = none_at n i
 
-none_some : (s : Seen) → (let none : Option Seen = None in none) ≡ Some s → ⊥
+none_some : (s : List ℕ) → (let none : Option (List ℕ) = None in none) ≡ Some s → ⊥
 none_some s h = cc
 
--- at first nothing is kept
-pub none_seen : (ops : List Operation) → AreSeen (replicate 32 None) ops
-none_seen ops i s h = absurd (none_some s (sym (none_at 32 i) ∙ h))
+-- at first nothing is kept, and nothing was passed
+pub none_seen : (ops : List Operation) (place : ℕ) → AreSeen (replicate 32 None) ops place
+none_seen ops place i s h = absurd (none_some s (sym (none_at 32 i) ∙ h))
 
-some_same : (s t : Seen) → Some s ≡ Some t → s ≡ t
+pub none_passed : (ops : List Operation) (place : ℕ) → between place place ops ≡ []
+none_passed ops place = drop_of_length-le (take place ops) (omega (arith, length-take place ops))
+
+pub all_none : (seen : List (Option (List ℕ))) (passed : List Operation) → passed ≡ [] → AreAllSeen seen passed
+all_none seen passed e i h = absurd (omega (arith, h, ap (λ (v : List Operation). count_of v i) e))
+
+some_same : (s t : List ℕ) → Some s ≡ Some t → s ≡ t
 some_same s t h = cc
 
--- one clock more is kept
-pub seen_more : (seen : List (Option Seen)) (ops : List Operation) (k : ℕ) (s : Seen) → k < length seen
-    → s.counts ≡ (operation_at ops s.place).clock → AreSeen seen ops → AreSeen (set seen k (Some s)) ops
-seen_more seen ops k s l e h i t q = go (cases_eq i k)
+-- the clock of the operation at the place is kept
+pub seen_more : (seen : List (Option (List ℕ))) (ops : List Operation) (place site : ℕ) (counts : List ℕ) → site < length seen
+    → (operation_at ops place).site ≡ site → counts ≡ (operation_at ops place).clock → AreSeen seen ops place
+    → AreSeen (set seen site (Some counts)) ops (place + 1)
+seen_more seen ops place site counts l own e h i t q = go (cases_eq i site)
   where
-    go : (i ≡ k) ⊎ (i ≡ k → ⊥) → t.counts ≡ (operation_at ops t.place).clock
+    go : (i ≡ site) ⊎ (i ≡ site → ⊥) → (at : ℕ) × IsLastBefore ops i (place + 1) at × (t ≡ (operation_at ops at).clock)
     go (inl same) =
-        let there : s ≡ t = some_same s t (sym (get_or-set_same seen k (Some s) None l)
-        ∙ ap (λ j. get_or (set seen k (Some s)) j None) (sym same) ∙ q) in
-        ap (λ (v : Seen). v.counts) (sym there) ∙ e ∙ ap (λ (v : Seen). (operation_at ops v.place).clock) there
-    go (inr other) = h i t (sym (get_or-set_other seen k i (Some s) None other) ∙ q)
+        let there : counts ≡ t = some_same counts t (sym (get_or-set_same seen site (Some counts) None l)
+        ∙ ap (λ j. get_or (set seen site (Some counts)) j None) (sym same) ∙ q) in
+        (place, last-own ops i place (own ∙ sym same), sym there ∙ e)
+    go (inr other) =
+        let before = h i t (sym (get_or-set_other seen site i (Some counts) None other) ∙ q) in
+        (before.0, last-other ops i place before.0 (λ s. other (sym s ∙ own)) before.1, before.2)
+
+-- the clock that is kept of a row's site is that of the operation that the row names
+pub kept_clock : (es : List (ℕ × ℕ)) (rows : List Row) (k : ℕ) (r : Row) (seen : List (Option (List ℕ))) (place : ℕ) (counts : List ℕ)
+    → AreRows es rows (logged es rows) → k < length rows → r ≡ row_at rows k → AreSeen seen (logged es rows) k
+    → place ≡ r.site → get_or seen place None ≡ Some counts → 0 < r.back → counts ≡ (operation_at (logged es rows) r.prev).clock
+kept_clock es rows k r seen place counts h l at s site kept back =
+    let line = h k l in
+    let own : place ≡ (operation_at (logged es rows) k).site = site ∙ ap (λ (v : Row). v.site) at ∙ line.site in
+    let last = s place counts kept in
+    let before : IsLastBefore (logged es rows) place k last.0 = last.1 in
+    let earlier : IsLastBefore (logged es rows) place k (row_at rows k).prev =
+    subst (λ i. IsLastBefore (logged es rows) i k (row_at rows k).prev) (sym own)
+    (line.earlier (omega (arith, back, ap (λ (v : Row). v.back) at))) in
+    last.2 ∙ ap (λ j. (operation_at (logged es rows) j).clock)
+    (last-one (logged es rows) place k last.0 (row_at rows k).prev before earlier ∙ sym (ap (λ (v : Row). v.prev) at))
+
+-- so a clock is kept of each site that was passed
+pub all_more : (seen : List (Option (List ℕ))) (passed : List Operation) (x : Operation) (counts : List ℕ) → x.site < length seen
+    → AreAllSeen seen passed → AreAllSeen (set seen x.site (Some counts)) (passed ++ x ∷ [])
+all_more seen passed x counts l h i many = go (cases_eq i x.site)
+  where
+    go : (i ≡ x.site) ⊎ (i ≡ x.site → ⊥) → (t : List ℕ) × (get_or (set seen x.site (Some counts)) i None ≡ Some t)
+    go (inl same) =
+        (counts, ap (λ j. get_or (set seen x.site (Some counts)) j None) same ∙ get_or-set_same seen x.site (Some counts) None l)
+    go (inr other) =
+        let no : eqb x.site i ≡ false = false_from_ne_true (eqb x.site i) (λ q. other (sym (eqb-true x.site i q))) in
+        let before = h i (omega (arith, many, count-push passed x i, cond-false {A = ℕ} (eqb x.site i) 1 0 no)) in
+        (before.0, get_or-set_other seen x.site i (Some counts) None other ∙ before.1)
+
+take-next : (ops : List Operation) (place : ℕ) (x : Operation) → place < length ops
+    → take (place + 1) ops ≡ take place ops ++ get_or ops place x ∷ []
+take-next ops place x l =
+    let next : place + 1 ≡ suc place = omega arith in
+    ap (λ n. take n ops) next ∙ take-suc ops place x l
+
+-- the operation at the place is passed
+pub passed_more : (ops : List Operation) (start place : ℕ) (x : Operation) → start ≤ place → slice_get ops place ≡ Some x
+    → between start (place + 1) ops ≡ between start place ops ++ x ∷ []
+passed_more ops start place x l h =
+    let within : place < length ops = slice_get_within ops place x h in
+    let longer : take (place + 1) ops ≡ take place ops ++ x ∷ [] =
+    take-next ops place x within
+    ∙ ap (λ (v : Operation). take place ops ++ v ∷ []) (get_or_from_slice_get ops place x x h) in
+    ap (drop start) longer ∙ drop-append-le start (take place ops) (x ∷ []) (omega (arith, l, within, length-take place ops))
 
 same_op : (x y : Operation) → x.site ≡ y.site → x.clock ≡ y.clock → x.kind ≡ y.kind → x ≡ y
 same_op x y a b c =

@@ -57,8 +57,14 @@ no_clocks = replicate 32 (clock_of [])
 abbrev pub logged : List (ℕ × ℕ) → List Row → List Operation
 logged entries rows = told no_clocks entries rows
 
+-- the place is the site's last one before the end
+pub record IsLastBefore (ops : List Operation) (site end place : ℕ) : Type 0 where
+  pub before : place < end
+  pub own : (operation_at ops place).site ≡ site
+  pub last : (j : ℕ) → place < j → j < end → (operation_at ops j).site ≡ site → ⊥
+
 -- The row at k tells the operation there: its entries are put into the clock of no operations, or into that of
--- the row that it names, which is one step nearer to a row of the first kind.
+-- the row that it names, its site's last one before, which is one step nearer to a row of the first kind.
 pub record IsRow (entries : List (ℕ × ℕ)) (rows : List Row) (ops : List Operation) (k : ℕ) : Type 0 where
   pub valid : IsOperation (operation_at ops k)
   pub site : (row_at rows k).site ≡ (operation_at ops k).site
@@ -66,7 +72,7 @@ pub record IsRow (entries : List (ℕ × ℕ)) (rows : List Row) (ops : List Ope
   pub within : (row_at rows k).from + (row_at rows k).count ≤ length entries
   pub base : (row_at rows k).back ≡ 0 → (operation_at ops k).clock ≡ fill (clock_of []) (changes_of entries (row_at rows k))
   pub short : (row_at rows k).back < 64
-  pub earlier : 0 < (row_at rows k).back → (row_at rows k).prev < k
+  pub earlier : 0 < (row_at rows k).back → IsLastBefore ops (operation_at ops k).site k (row_at rows k).prev
   pub nearer : 0 < (row_at rows k).back → (row_at rows (row_at rows k).prev).back + 1 ≡ (row_at rows k).back
   pub step : 0 < (row_at rows k).back
       → (operation_at ops k).clock ≡ fill (operation_at ops (row_at rows k).prev).clock (changes_of entries (row_at rows k))
@@ -80,7 +86,7 @@ pub record IsSite (rows : List Row) (ops : List Operation) (clocks : List (List 
   pub clock : get_or clocks site [] ≡ latest ops site
   pub number : get_or numbers site 0 ≡ count_of ops site
   pub none : count_of ops site ≡ 0 → latest ops site ≡ clock_of []
-  pub last : 0 < count_of ops site → get_or lasts site 0 < length rows
+  pub last : 0 < count_of ops site → IsLastBefore ops site (length rows) (get_or lasts site 0)
   pub near : 0 < count_of ops site → (row_at rows (get_or lasts site 0)).back ≤ count_of ops site % 64
   pub same : 0 < count_of ops site → (operation_at ops (get_or lasts site 0)).clock ≡ latest ops site
 

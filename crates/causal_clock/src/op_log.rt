@@ -93,11 +93,12 @@ impl OpLog {
         told_by(&row, filled(before, changes))
     }
 
-    /// The operations from a place on, in order. The first one of each site takes the steps of `get`, each other one a
-    /// step for each entry that is stored of it. Takes no memory.
+    /// The operations from a place on, in order. The first one of each site takes the steps of `get`, each other one those of
+    /// a copy of 32 counts and of the entries that are stored of it. Takes no memory.
     pub fn replay_from(&self, place: usize) -> Replay<'_>
         requires { place ≤ length self.now.ops }
-        ensures { result ≡ drop place self.now.ops }
+        ensures passed { result.passed ≡ [] }
+        ensures left { result.left ≡ drop place self.now.ops }
     {
         Replay::new(self.rows.as_slice(), self.entries.as_slice(), place)
     }

@@ -8,6 +8,6 @@ returns-clause-op g c =
     let es = c.args.entries.now in
     let row = c.read.ensures.row in
     op_read es c.args.rows.now c.args.at c.read.result.0 c.filled-counts.result c.told_by.result c.requires.rows c.requires.within row
-    (c.filled-counts.ensures ∙ ap (fill c.counts_after.result) (c.read.ensures.entries ∙ ap (changes_of es) (sym row))
-    ∙ c.counts_after.ensures c.args.at c.requires.within (sym row))
+    (c.filled-counts.ensures ∙ ap (fill c.counts_after-before.result) (c.read.ensures.entries ∙ ap (changes_of es) (sym row))
+    ∙ c.counts_after-before.ensures.counts c.args.at c.requires.within (sym row))
     c.told_by.ensures
