@@ -8,6 +8,9 @@ use Rattle.opid.proofs.Logs.{IsSound-lawful, IsLawful-take}
 use Rattle.opid.proofs.Runs.{asked_insertions-lawful, asked_deletions-lawful}
 use Rattle.opid.proofs.Placing.{asked_insertions-placed}
 use Rattle.opid.proofs.Playing.{plays}
+use Rattle.opid.proofs.Boundaries.{found, found_once, not_inside}
+use Rattle.opid.proofs.Counted.{asked_insertions_in-placed, asked_insertions_in-lawful, asked_insertions_in-none, reading_in-visible}
+use Rattle.opid.proofs.Counted.{asked_deletions_in-range, asked_deletions_in-lawful, asked_deletions_in-none}
 
 pub ruleset laws = (
   number_of-injective,
@@ -27,5 +30,19 @@ pub ruleset laws = (
   asked_insertions-lawful,
   asked_deletions-lawful,
   asked_insertions-placed,
+)
+
+-- of texts that are counted in characters or in code units
+pub ruleset counted = (
   plays,
+  found,
+  found_once,
+  not_inside,
+  reading_in-visible,
+  asked_insertions_in-placed,
+  asked_insertions_in-lawful,
+  asked_insertions_in-none,
+  asked_deletions_in-range,
+  asked_deletions_in-lawful,
+  asked_deletions_in-none,
 )

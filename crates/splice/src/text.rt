@@ -64,8 +64,8 @@ impl Text {
     }
 
     /// Splices the text by one edit; linear in the number of characters behind its place. Refused with `BadPlace`
-    /// exactly where an insertion's place is above the length, or a deletion's isn't below it, and with `Memory`
-    /// where an insertion finds none. A refused edit changes nothing.
+    /// exactly where an insertion's place is above the length, a deletion's isn't below it, or one names code units, and
+    /// with `Memory` where an insertion finds none. A refused edit changes nothing.
     pub fn apply(&mut self, edit: &Edit) -> Result<(), Refusal>
         ensures ok { OnOk result (apply self.old edit.now ≡ Some self.new) }
         ensures outside { (result ≡ Err BadPlace) ↔ (apply self.old edit.now ≡ None) }
@@ -87,6 +87,7 @@ impl Text {
                 self.characters.remove(place);
                 Ok(())
             }
+            Edit::DelUnits(_, _) => Err(Refusal::BadPlace),
             Edit::Nop => Ok(()),
         }
     }
@@ -128,6 +129,7 @@ mod tests {
         let mut text = Text::start(rt.alloc(), "ab")?;
         assert_eq!(rt; text.apply(&Edit::Ins(3, 'c')), Err(Refusal::BadPlace));
         assert_eq!(rt; text.apply(&Edit::Del(2)), Err(Refusal::BadPlace));
+        assert_eq!(rt; text.apply(&Edit::DelUnits(0, 1)), Err(Refusal::BadPlace));
         assert!(rt; is(&text, &['a', 'b']));
         Ok(())
     }

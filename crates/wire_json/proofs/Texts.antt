@@ -21,7 +21,7 @@ use Rattle.opid.specs.declared.refusal.Refusal.TheVariants.{OwnSite, Conflict, H
 use Rattle.opid.specs.declared.refusal.Refusal.TheVariants.{BadRange, Busy, Worn, Memory, SiteUsed, BadSnapshot, TooLong}
 use Rattle.opid.specs.Refusals.{number_of}
 use Rattle.opid.specs.declared.edit.Edit as edit
-use Rattle.opid.specs.declared.edit.Edit.TheVariants.{Ins, Del, Nop}
+use Rattle.opid.specs.declared.edit.Edit.TheVariants.{Ins, Del, DelUnits, Nop}
 use Rattle.room.specs.declared.reply.Reply as reply
 use Rattle.room.specs.declared.reply.Reply.TheVariants.{Joined, Ok, Edits, Left, Ops, Put, Text, No}
 use Rattle.opid.specs.Operations.{Operation}
@@ -39,6 +39,7 @@ edit_compact : (e : edit.Edit) → compact_text (edit_data e) ≡ edit_text e
 unfolding escape_byte
 edit_compact (Ins k c) = regroup_5 (codes "[\"i\",") (decimal k) (codes ",") (quote (c ∷ [])) (codes "]")
 edit_compact (Del k) = regroup_3 (codes "[\"d\",") (decimal k) (codes "]")
+edit_compact (DelUnits k w) = regroup_5 (codes "[\"d\",") (decimal k) (codes ",") (decimal w) (codes "]")
 edit_compact Nop = refl
 
 outcome_compact : (o : outcome.Outcome) → compact_text (outcome_data o) ≡ outcome_text o
@@ -73,6 +74,7 @@ edits_no_float : (es : List edit.Edit) → items_have_float (each_data edit_data
 edits_no_float [] = refl
 edits_no_float (Ins k c ∷ es) = edits_no_float es
 edits_no_float (Del k ∷ es) = edits_no_float es
+edits_no_float (DelUnits k w ∷ es) = edits_no_float es
 edits_no_float (Nop ∷ es) = edits_no_float es
 
 ops_no_float : (xs : List Operation) → items_have_float (each_data op_data xs) ≡ false
@@ -127,10 +129,15 @@ number_small SiteUsed = lit< tt
 number_small BadSnapshot = lit< tt
 number_small TooLong = lit< tt
 
+narrow : (w : ℕ) → w < 2 ^ 8 → w < 2 ^ 64
+narrow w h = omega (arith, h)
+
 edit_numbers : (es : List edit.Edit) → AllByRecursion IsEditInRange es → ItemsHaveNumbers (items_outline (each_data edit_data es))
 edit_numbers [] h = tt
 edit_numbers (Ins k c ∷ es) h = ((tt, (IsNumber-decimal k h.0.0, (tt, tt))), edit_numbers es h.1)
 edit_numbers (Del k ∷ es) h = ((tt, (IsNumber-decimal k h.0, tt)), edit_numbers es h.1)
+edit_numbers (DelUnits k w ∷ es) h =
+    ((tt, (IsNumber-decimal k h.0.0, (IsNumber-decimal w (narrow w h.0.1), tt))), edit_numbers es h.1)
 edit_numbers (Nop ∷ es) h = ((tt, tt), edit_numbers es h.1)
 
 ops_numbers : (xs : List Operation) → AllByRecursion IsOperationInRange xs → ItemsHaveNumbers (items_outline (each_data op_data xs))
@@ -160,6 +167,7 @@ edits_shallow : (es : List edit.Edit) → items_depth (items_outline (each_data 
 edits_shallow [] = lit≤ tt
 edits_shallow (Ins k c ∷ es) = omega (arith, edits_shallow es)
 edits_shallow (Del k ∷ es) = omega (arith, edits_shallow es)
+edits_shallow (DelUnits k w ∷ es) = omega (arith, edits_shallow es)
 edits_shallow (Nop ∷ es) = omega (arith, edits_shallow es)
 
 ops_shallow : (xs : List Operation) → items_depth (items_outline (each_data op_data xs)) ≤ 3
@@ -200,13 +208,23 @@ one_edit (Ins k c) (Ins l d) h g e =
     let same_character = same_characters (c ∷ []) (d ∷ []) h.1 g.1 (cc) in
     cc
 one_edit (Del k) (Del l) h g e = let same_place = decimal_injective k l h g (cc) in cc
+one_edit (DelUnits k v) (DelUnits l w) h g e =
+    let same_place = decimal_injective k l h.0 g.0 (cc) in
+    let same_width = decimal_injective v w (narrow v h.1) (narrow w g.1) (cc) in
+    cc
 one_edit Nop Nop h g e = refl
 one_edit (Ins k c) (Del l) h g e = cc
+one_edit (Ins k c) (DelUnits l w) h g e = cc
 one_edit (Ins k c) Nop h g e = cc
 one_edit (Del k) (Ins l d) h g e = cc
+one_edit (Del k) (DelUnits l w) h g e = cc
 one_edit (Del k) Nop h g e = cc
+one_edit (DelUnits k v) (Ins l d) h g e = cc
+one_edit (DelUnits k v) (Del l) h g e = cc
+one_edit (DelUnits k v) Nop h g e = cc
 one_edit Nop (Ins l d) h g e = cc
 one_edit Nop (Del l) h g e = cc
+one_edit Nop (DelUnits l w) h g e = cc
 
 one_list : {A : Type 0} (P : A → Type 0) (f : A → Data) → ((a b : A) → P a → P b → outline (f a) ≡ outline (f b) → a ≡ b)
     → (xs ys : List A) → AllByRecursion P xs → AllByRecursion P ys

@@ -11,17 +11,18 @@ use Rattle.opid.specs.declared.kind.OpKind.TheVariants as kinds
 use Rattle.opid.specs.Clocks.{sites, entry}
 use Rattle.opid.specs.Operations.{Operation}
 use Rattle.opid.specs.declared.edit.Edit as edit
-use Rattle.opid.specs.declared.edit.Edit.TheVariants.{Ins, Del, Nop}
+use Rattle.opid.specs.declared.edit.Edit.TheVariants.{Ins, Del, DelUnits, Nop}
 use Rattle.causal_clock.specs.Kinds.{IsOperation}
 use Rattle.room.specs.declared.outcome.Outcome as outcome
 use Rattle.room.specs.declared.outcome.Outcome.TheVariants as outcomes
 use Rattle.room.specs.declared.reply.Reply as reply
 use Rattle.room.specs.declared.reply.Reply.TheVariants.{Joined, Ok, Edits, Left, Ops, Put, Text, No}
 
--- the edit's place fits 64 bits, and its character is a Unicode scalar value
+-- the edit's place fits 64 bits, its number of code units 8, and its character is a Unicode scalar value
 abbrev pub IsEditInRange : edit.Edit → Type 0
 IsEditInRange (Ins k c) = (k < 2 ^ 64) × IsTrue (all_scalars (c ∷ []))
 IsEditInRange (Del k) = k < 2 ^ 64
+IsEditInRange (DelUnits k w) = (k < 2 ^ 64) × (w < 2 ^ 8)
 IsEditInRange Nop = Unit {0}
 
 -- the stamp's sum fits 32 bits, and its site is one of 32
@@ -74,6 +75,7 @@ listed (x ∷ xs) = codes "[" ++ x ++ more xs ++ codes "]"
 abbrev pub edit_text : edit.Edit → List ℕ
 edit_text (Ins k c) = codes "[\"i\"," ++ decimal k ++ codes "," ++ quote (c ∷ []) ++ codes "]"
 edit_text (Del k) = codes "[\"d\"," ++ decimal k ++ codes "]"
+edit_text (DelUnits k w) = codes "[\"d\"," ++ decimal k ++ codes "," ++ decimal w ++ codes "]"
 edit_text Nop = codes "[\"n\"]"
 
 -- the entries of a clock that aren't 0, each with its site, by rising sites

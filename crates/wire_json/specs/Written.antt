@@ -8,7 +8,7 @@ use Rattle.opid.specs.declared.kind.OpKind as kind
 use Rattle.opid.specs.declared.kind.OpKind.TheVariants as kinds
 use Rattle.opid.specs.Operations.{Operation}
 use Rattle.opid.specs.declared.edit.Edit as edit
-use Rattle.opid.specs.declared.edit.Edit.TheVariants.{Ins, Del, Nop}
+use Rattle.opid.specs.declared.edit.Edit.TheVariants.{Ins, Del, DelUnits, Nop}
 use Rattle.room.specs.declared.outcome.Outcome as outcome
 use Rattle.room.specs.declared.outcome.Outcome.TheVariants as outcomes
 use Rattle.room.specs.declared.reply.Reply as reply
@@ -29,6 +29,7 @@ ok_data «from» to = object (member (codes "from") (number (unsigned «from»))
 abbrev pub edit_data : edit.Edit → Data
 edit_data (Ins k c) = array (item (string (codes "i")) (item (number (unsigned k)) (item (string (encode_utf8_all (c ∷ []))) no_items)))
 edit_data (Del k) = array (item (string (codes "d")) (item (number (unsigned k)) no_items))
+edit_data (DelUnits k w) = array (item (string (codes "d")) (item (number (unsigned k)) (item (number (unsigned w)) no_items)))
 edit_data Nop = array (item (string (codes "n")) no_items)
 
 -- the values of a list

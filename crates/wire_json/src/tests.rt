@@ -182,6 +182,7 @@ fn writes_edits_and_that_a_session_left(rt: HostRuntime) -> Result<(), Fail> {
     let es = [
         Edit::Ins(0, 'H'),
         Edit::Del(18_446_744_073_709_551_615),
+        Edit::DelUnits(5, 2),
         Edit::Nop,
         Edit::Ins(7, '\u{1F600}'),
         Edit::Ins(1, '"'),
@@ -189,7 +190,7 @@ fn writes_edits_and_that_a_session_left(rt: HostRuntime) -> Result<(), Fail> {
     let es = Edits::new(es.to_vec(alloc)?);
     let edits = write_reply(alloc, &Reply::Edits { from: 3, es })?;
     let wanted =
-        "{\"es\":[[\"i\",0,\"H\"],[\"d\",18446744073709551615],[\"n\"],[\"i\",7,\"\u{1F600}\"],[\"i\",1,\"\\\"\"]],\"from\":3,\"r\":\"edits\"}";
+        "{\"es\":[[\"i\",0,\"H\"],[\"d\",18446744073709551615],[\"d\",5,2],[\"n\"],[\"i\",7,\"\u{1F600}\"],[\"i\",1,\"\\\"\"]],\"from\":3,\"r\":\"edits\"}";
     assert!(rt; edits.as_str() == wanted);
     let es = Edits::new(Vec::new(alloc));
     let none = write_reply(alloc, &Reply::Edits { from: 0, es })?;

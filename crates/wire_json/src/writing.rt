@@ -81,6 +81,7 @@ fn edit_value(alloc: Global, edit: Edit) -> Result<Value, AllocError>
     match edit {
         Edit::Ins(place, ch) => json!(in alloc; ["i", place, ch.encode_utf8(&mut [0; 4])]),
         Edit::Del(place) => json!(in alloc; ["d", place]),
+        Edit::DelUnits(place, width) => json!(in alloc; ["d", place, width]),
         Edit::Nop => json!(in alloc; ["n"]),
     }
 }

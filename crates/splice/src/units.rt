@@ -1,0 +1,166 @@
+//! A text that edits in UTF-16 code units are applied to.
+ghost use Rattle.std.specs.Prelude.{◌≡◌, ◌↔◌, ◌+◌, ◌≤◌, ◌++◌, true, take, drop, Some, None, IfOk, OnOk, OnErr, IfErr, Err, length};
+ghost use Rattle.std.specs.Str.{chars};
+ghost use Rattle.opid.specs.declared.refusal.Refusal.TheVariants.{BadPlace, Memory};
+ghost use Rattle.opid.specs.Units.{units_of, text_in};
+ghost use Rattle.opid.specs.Splice.{is_inside, apply_in};
+ghost use Rattle.splice.specs.Causes.{MayRefuse};
+
+use opid::{Edit, Refusal};
+use std::alloc::Global;
+use std::marker::Model;
+
+/// A text, seen as the list of its UTF-16 code units. Places count code units.
+#[derive(Debug, Drop)]
+pub struct UnitText {
+    units: Vec<u16>,
+}
+
+impl Model for UnitText {
+    ghost use Rattle.std.specs.Prelude.{ℕ, List};
+
+    ghost Value = { List ℕ };
+
+    ghost view = { λ t. t.units.items };
+}
+
+impl UnitText {
+    /// The empty text after one insertion of `start` at 0. Linear in its length. Refused with `Memory` alone.
+    pub fn start(alloc: Global, start: &str) -> Result<UnitText, Refusal>
+        ensures ok { IfOk result (λ t. t ≡ text_in true (chars start.now)) }
+        ensures err { IfErr result (λ e. e ≡ Memory) }
+    {
+        let mut units = Vec::new(alloc);
+        for ch in start.chars() {
+            units.extend_from_slice(ch.encode_utf16(&mut [0; 2]))?;
+        }
+        Ok(UnitText { units })
+    }
+
+    /// How many code units there are. Constant time.
+    pub fn len(&self) -> usize
+        ensures { result ≡ length self.now }
+    {
+        self.units.len()
+    }
+
+    /// The code units. Constant time.
+    pub fn units(&self) -> &[u16]
+        ensures { result.now ≡ self.now }
+    {
+        &self.units
+    }
+
+    // Whether the place stands inside a pair.
+    fn is_inside(&self, place: usize) -> bool
+        ensures { result ≡ is_inside true self.now place }
+    {
+        match self.units.get(place) {
+            Some(unit) => 0xDC00 <= *unit && *unit < 0xE000,
+            None => false,
+        }
+    }
+
+    // The code units of the character in front of the place.
+    fn put(&mut self, place: usize, ch: char) -> Result<(), Refusal>
+        requires { place ≤ length self.old }
+        ensures ok { OnOk result (self.new ≡ take place self.old ++ (units_of ch ++ drop place self.old)) }
+        ensures err { OnErr result (self.new ≡ self.old) }
+        ensures cause { IfErr result (λ e. e ≡ Memory) }
+    {
+        let mut buffer = [0; 2];
+        let units = ch.encode_utf16(&mut buffer);
+        self.units.extend_from_slice(units)?;
+        self.units[place..].rotate_right(units.len());
+        Ok(())
+    }
+
+    // So many code units from the place on.
+    fn take_out(&mut self, place: usize, width: u8)
+        requires { place + width ≤ length self.old }
+        ensures { self.new ≡ take place self.old ++ drop (place + width) self.old }
+    {
+        let rest = self.units.len() - usize::from(width);
+        self.units.copy_within(place + usize::from(width).., place);
+        self.units.truncate(rest);
+    }
+
+    /// Splices the text by one edit in code units; linear in the number of them behind its place. Refused with `BadPlace`
+    /// exactly where an insertion's place is above the length, a deletion's isn't below it, either is inside a pair, a
+    /// deletion names another number of code units than the character at its place has, or one names characters, and with
+    /// `Memory` where an insertion finds none. A refused edit changes nothing.
+    pub fn apply_units(&mut self, edit: &Edit) -> Result<(), Refusal>
+        ensures ok { OnOk result (apply_in true self.old edit.now ≡ Some self.new) }
+        ensures outside { (result ≡ Err BadPlace) ↔ (apply_in true self.old edit.now ≡ None) }
+        ensures err { OnErr result (self.new ≡ self.old) }
+        ensures cause { IfErr result (MayRefuse edit.now) }
+    {
+        match *edit {
+            Edit::Ins(place, ch) => {
+                if place > self.units.len() || self.is_inside(place) {
+                    return Err(Refusal::BadPlace);
+                }
+                self.put(place, ch)
+            }
+            Edit::Del(_) => Err(Refusal::BadPlace),
+            Edit::DelUnits(place, width) => {
+                if place >= self.units.len() || self.is_inside(place) {
+                    return Err(Refusal::BadPlace);
+                }
+                let found = if self.is_inside(place + 1) { 2 } else { 1 };
+                if width != found {
+                    return Err(Refusal::BadPlace);
+                }
+                self.take_out(place, width);
+                Ok(())
+            }
+            Edit::Nop => Ok(()),
+        }
+    }
+}
+
+#[cfg(test)]
+mod tests {
+    use super::*;
+    use std::test::Fail;
+
+    #[test]
+    fn splices_in_units(rt: HostRuntime) -> Result<(), Fail> {
+        let mut text = UnitText::start(rt.alloc(), "\u{1F600}a")?;
+        text.apply_units(&Edit::Ins(2, 'b'))?;
+        text.apply_units(&Edit::Nop)?;
+        assert!(rt; text.units() == [0xD83D, 0xDE00, 0x62, 0x61].as_slice());
+        text.apply_units(&Edit::DelUnits(0, 2))?;
+        text.apply_units(&Edit::DelUnits(1, 1))?;
+        text.apply_units(&Edit::Ins(1, '\u{10000}'))?;
+        assert!(rt; text.units() == [0x62, 0xD800, 0xDC00].as_slice());
+        Ok(())
+    }
+
+    #[test]
+    fn counts_the_greatest_characters(rt: HostRuntime) -> Result<(), Fail> {
+        let text = UnitText::start(rt.alloc(), "\u{FFFF}\u{10FFFF}")?;
+        assert_eq!(rt; text.len(), 3);
+        assert!(rt; text.units() == [0xFFFF, 0xDBFF, 0xDFFF].as_slice());
+        Ok(())
+    }
+
+    fn refuses(text: &mut UnitText, edit: Edit) -> bool {
+        text.apply_units(&edit) == Err(Refusal::BadPlace)
+    }
+
+    #[test]
+    fn refuses_what_is_no_place(rt: HostRuntime) -> Result<(), Fail> {
+        let mut text = UnitText::start(rt.alloc(), "\u{1F600}a")?;
+        let mut all = refuses(&mut text, Edit::Ins(1, 'b'));
+        all &= refuses(&mut text, Edit::Ins(4, 'b'));
+        all &= refuses(&mut text, Edit::DelUnits(0, 1));
+        all &= refuses(&mut text, Edit::DelUnits(1, 1));
+        all &= refuses(&mut text, Edit::DelUnits(2, 2));
+        all &= refuses(&mut text, Edit::DelUnits(3, 1));
+        all &= refuses(&mut text, Edit::Del(0));
+        assert!(rt; all);
+        assert_eq!(rt; text.len(), 3);
+        Ok(())
+    }
+}
