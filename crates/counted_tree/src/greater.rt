@@ -4,7 +4,7 @@ ghost use Rattle.counted_tree.specs.Tree.{entries, height};
 ghost use Rattle.counted_tree.specs.Arena.{IsLinkBelow, AreSound};
 ghost use Rattle.counted_tree.specs.Change.{tree_in};
 ghost use Rattle.counted_tree.specs.Along.{entry_at, after_at, elem_at};
-ghost use Rattle.counted_tree.specs.Greater.{all_above, above, last_of, stop};
+ghost use Rattle.counted_tree.specs.Greater.{all_greater, passed, last_of, stop};
 
 use crate::build::open;
 use crate::nodes::Nodes;
@@ -12,10 +12,10 @@ use crate::side::Side;
 use crate::steps::Steps;
 
 /// Whether each entry of the tree has a greater key. One step.
-fn are_above(nodes: &Nodes, link: Option<u32>, key: u32, steps: &mut Steps) -> bool
+fn are_greater(nodes: &Nodes, link: Option<u32>, key: u32, steps: &mut Steps) -> bool
     requires sound { AreSound nodes.now.0 }
     requires link { IsLinkBelow (length nodes.now.0) link }
-    ensures above { result ≡ all_above key (entries (tree_in nodes.now link)) }
+    ensures greater { result ≡ all_greater key (entries (tree_in nodes.now link)) }
     ensures cost { steps.new ≤ steps.old + 1 }
 {
     match link {
@@ -43,7 +43,7 @@ pub fn last_in(
 
 /// The last element that one passes in the tree, from its first entry on, as long as the keys are greater; the given one
 /// where there is none.
-pub fn above_in(
+pub fn passed_in(
     nodes: &Nodes,
     link: Option<u32>,
     key: u32,
@@ -52,17 +52,17 @@ pub fn above_in(
 ) -> Option<u32>
     requires sound { AreSound nodes.now.0 }
     requires link { IsLinkBelow (length nodes.now.0) link }
-    ensures last { result ≡ above key last (entries (tree_in nodes.now link)) }
+    ensures last { result ≡ passed key last (entries (tree_in nodes.now link)) }
     ensures cost { steps.new ≤ steps.old + 2 * height (tree_in nodes.now link) }
 {
     let Some(at) = link else { return last };
     let node = open(nodes, at, steps);
-    if !are_above(nodes, node.left, key, steps) {
-        above_in(nodes, node.left, key, last, steps)
+    if !are_greater(nodes, node.left, key, steps) {
+        passed_in(nodes, node.left, key, last, steps)
     } else if node.entry.key <= key {
         last_in(nodes, node.left, last, steps)
     } else {
-        above_in(nodes, node.right, key, Some(node.entry.elem), steps)
+        passed_in(nodes, node.right, key, Some(node.entry.elem), steps)
     }
 }
 
@@ -78,12 +78,12 @@ fn stop_in(
     requires link { IsLinkBelow (length nodes.now.0) link }
     ensures last { result ≡ stop key last (entries (tree_in nodes.now link)) }
     ensures cost { steps.new ≤ steps.old + 2 * height (tree_in nodes.now link) + 1 }
-    ensures passed { all_above key (entries (tree_in nodes.now link)) ≡ true → steps.new ≤ steps.old + 1 }
+    ensures passed { all_greater key (entries (tree_in nodes.now link)) ≡ true → steps.new ≤ steps.old + 1 }
 {
-    if are_above(nodes, link, key, steps) {
+    if are_greater(nodes, link, key, steps) {
         None
     } else {
-        above_in(nodes, link, key, last, steps)
+        passed_in(nodes, link, key, last, steps)
     }
 }
 

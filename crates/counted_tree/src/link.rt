@@ -1,6 +1,7 @@
 //! A link to a node as it is kept: four bytes.
 ghost use Rattle.std.specs.Prelude.{◌≡◌, ◌+◌, ◌^◌, ◌<◌};
 ghost use Rattle.std.specs.Option.{ForSome};
+ghost use Rattle.counted_tree.specs.Link.{link_of};
 
 use std::marker::Model;
 
@@ -28,12 +29,11 @@ impl Model for Link {
 impl Link {
     /// The link, to be kept.
     pub fn new(link: Option<u32>) -> Link
-        requires { ForSome link (λ k. k + 1 < 2 ^ 32) }
+        requires { ForSome link (λ k. k + 1 < 2 ^ 23) }
         ensures { result ≡ link }
     {
-        match link {
-            None => Link { kept: 0 },
-            Some(k) => Link { kept: k + 1 },
+        Link {
+            kept: kept_of(link),
         }
     }
 
@@ -41,10 +41,25 @@ impl Link {
     pub fn get(&self) -> Option<u32>
         ensures { result ≡ self.now }
     {
-        if self.kept == 0 {
-            None
-        } else {
-            Some(self.kept - 1)
-        }
+        link_of(self.kept)
     }
+}
+
+/// The number that a link is kept as.
+pub fn kept_of(link: Option<u32>) -> u32
+    requires { ForSome link (λ k. k + 1 < 2 ^ 23) }
+    ensures link { link_of result ≡ link }
+    ensures small { result < 2 ^ 23 }
+{
+    match link {
+        None => 0,
+        Some(k) => k + 1,
+    }
+}
+
+/// The link that is kept as a number.
+pub fn link_of(kept: u32) -> Option<u32>
+    ensures { result ≡ link_of kept }
+{
+    if kept == 0 { None } else { Some(kept - 1) }
 }

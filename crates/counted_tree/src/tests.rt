@@ -26,16 +26,34 @@ fn found(tree: &VersionTree, version: usize, k: usize) -> Option<u32> {
     tree.find(version, k, &mut steps)
 }
 
+/// The element that has a unit of what a version shows, if there are both, and which of its units that is.
+fn found_unit(tree: &VersionTree, version: usize, k: usize) -> Option<(u32, u8)> {
+    if version > tree.newest() {
+        return None;
+    }
+    let mut steps = Steps::new();
+    tree.find_units(version, k, &mut steps)
+}
+
+/// How many units stand before an element in the newest version, if it is there.
+fn rank_units(tree: &VersionTree, elem: u32) -> usize {
+    if elem as usize >= tree.elements() {
+        return 0;
+    }
+    let mut steps = Steps::new();
+    tree.rank_units(elem, &mut steps)
+}
+
 /// The last element that one passes from one on, if it is there, or from before all others, as long as the keys are greater.
-fn last_above(tree: &VersionTree, before: Option<u32>, key: u32) -> Option<u32> {
+fn last_greater(tree: &VersionTree, before: Option<u32>, key: u32) -> Option<u32> {
     let mut steps = Steps::new();
     if let Some(e) = before {
         if e as usize >= tree.elements() {
             return None;
         }
-        tree.last_above(Some(e), key, &mut steps)
+        tree.last_greater(Some(e), key, &mut steps)
     } else {
-        tree.last_above(None, key, &mut steps)
+        tree.last_greater(None, key, &mut steps)
     }
 }
 
@@ -45,6 +63,7 @@ fn insert(
     plain: &mut Plain,
     before: Option<u32>,
     key: u32,
+    wide: bool,
 ) -> Result<(), AllocError> {
     if tree.room() == 0 || key >= KEYS {
         return Ok(());
@@ -54,11 +73,11 @@ fn insert(
         if e as usize >= n {
             return Ok(());
         }
-        tree.insert_after(Some(e), n as u32, key);
+        tree.insert_after(Some(e), n as u32, key, wide);
     } else {
-        tree.insert_after(None, n as u32, key);
+        tree.insert_after(None, n as u32, key, wide);
     }
-    plain.insert_after(before, n as u32, key, tree.newest())
+    plain.insert_after(before, n as u32, key, wide, tree.newest())
 }
 
 /// Hides the element at the place, if there is one.
@@ -76,6 +95,7 @@ fn hide(tree: &mut VersionTree, plain: &mut Plain, k: usize) {
 fn step(tree: &mut VersionTree, plain: &mut Plain, seed: &mut u64) -> Result<(), AllocError> {
     let n = tree.elements() as u32;
     let key = next(seed, 9);
+    let wide = next(seed, 3) == 0;
     match next(seed, 10) {
         0 => {
             if tree.room() > 0 {
@@ -83,13 +103,13 @@ fn step(tree: &mut VersionTree, plain: &mut Plain, seed: &mut u64) -> Result<(),
             }
             Ok(())
         }
-        1 => insert(tree, plain, None, key),
+        1 => insert(tree, plain, None, key, wide),
         2 | 3 | 4 => {
             hide(tree, plain, next(seed, n) as usize);
             Ok(())
         }
-        5 | 6 => insert(tree, plain, n.checked_sub(1), key),
-        _ => insert(tree, plain, Some(next(seed, n)), key),
+        5 | 6 => insert(tree, plain, n.checked_sub(1), key, wide),
+        _ => insert(tree, plain, Some(next(seed, n)), key, wide),
     }
 }
 
@@ -107,13 +127,25 @@ fn agrees_with_a_scan(rt: HostRuntime) -> Result<(), Fail> {
         for k in 0..OPERATIONS {
             assert_eq!(rt; found(&tree, version, k), plain.find(version, k));
         }
+        for k in 0..2 * OPERATIONS {
+            assert_eq!(rt; found_unit(&tree, version, k), plain.find_units(version, k));
+        }
+    }
+    for elem in 0..tree.elements() as u32 {
+        assert_eq!(rt;
+            rank_units(&tree, elem),
+            plain.rank_units(tree.newest(), elem)
+        );
     }
     for key in 0..10 {
-        assert_eq!(rt; last_above(&tree, None, key), plain.last_above(None, key));
+        assert_eq!(rt;
+            last_greater(&tree, None, key),
+            plain.last_greater(None, key)
+        );
         for elem in 0..tree.elements() as u32 {
             assert_eq!(rt;
-                last_above(&tree, Some(elem), key),
-                plain.last_above(Some(elem), key)
+                last_greater(&tree, Some(elem), key),
+                plain.last_greater(Some(elem), key)
             );
         }
     }
@@ -133,14 +165,17 @@ fn long_ways_agree_with_a_scan(rt: HostRuntime) -> Result<(), Fail> {
             _ => next(&mut seed, 1000).saturating_add(1000),
         };
         let before = next(&mut seed, n + 1).checked_sub(1);
-        insert(&mut tree, &mut plain, before, key)?;
+        insert(&mut tree, &mut plain, before, key, false)?;
     }
     for key in [0, 500, 999, 1000, 1998, 1999, 2000, u32::MAX] {
-        assert_eq!(rt; last_above(&tree, None, key), plain.last_above(None, key));
+        assert_eq!(rt;
+            last_greater(&tree, None, key),
+            plain.last_greater(None, key)
+        );
         for elem in 0..ELEMENTS as u32 {
             assert_eq!(rt;
-                last_above(&tree, Some(elem), key),
-                plain.last_above(Some(elem), key)
+                last_greater(&tree, Some(elem), key),
+                plain.last_greater(Some(elem), key)
             );
         }
     }
@@ -151,11 +186,11 @@ fn long_ways_agree_with_a_scan(rt: HostRuntime) -> Result<(), Fail> {
 fn worked_versions(rt: HostRuntime) -> Result<(), Fail> {
     let mut tree = VersionTree::new(rt.alloc());
     tree.reserve(5)?;
-    tree.insert_after(None, 0, 7);
-    tree.insert_after(Some(0), 1, 5);
+    tree.insert_after(None, 0, 7, false);
+    tree.insert_after(Some(0), 1, 5, false);
     tree.hide(0);
     tree.mark();
-    tree.insert_after(Some(0), 2, 6);
+    tree.insert_after(Some(0), 2, 6, false);
     let mut steps = Steps::new();
     assert_eq!(rt; tree.find(2, 0, &mut steps), Some(0));
     assert_eq!(rt; tree.find(3, 0, &mut steps), Some(1));
@@ -166,14 +201,41 @@ fn worked_versions(rt: HostRuntime) -> Result<(), Fail> {
     assert_eq!(rt; tree.rank(2, &mut steps), 0);
     assert_eq!(rt; tree.rank(1, &mut steps), 1);
     assert_eq!(rt; steps.count(), 13);
-    assert_eq!(rt; tree.last_above(None, 7, &mut steps), None);
-    assert_eq!(rt; tree.last_above(None, 6, &mut steps), Some(0));
-    assert_eq!(rt; tree.last_above(Some(0), 6, &mut steps), Some(0));
-    assert_eq!(rt; tree.last_above(Some(0), 5, &mut steps), Some(2));
-    assert_eq!(rt; tree.last_above(Some(0), 4, &mut steps), Some(1));
-    assert_eq!(rt; tree.last_above(Some(1), 0, &mut steps), Some(1));
+    assert_eq!(rt; tree.last_greater(None, 7, &mut steps), None);
+    assert_eq!(rt; tree.last_greater(None, 6, &mut steps), Some(0));
+    assert_eq!(rt; tree.last_greater(Some(0), 6, &mut steps), Some(0));
+    assert_eq!(rt; tree.last_greater(Some(0), 5, &mut steps), Some(2));
+    assert_eq!(rt; tree.last_greater(Some(0), 4, &mut steps), Some(1));
+    assert_eq!(rt; tree.last_greater(Some(1), 0, &mut steps), Some(1));
     assert_eq!(rt; tree.shown(0), 0);
     assert_eq!(rt; tree.shown(5), 2);
+    Ok(())
+}
+
+/// The first element and the last have two units; the first is hidden in version 4.
+#[test]
+fn worked_units(rt: HostRuntime) -> Result<(), Fail> {
+    let mut tree = VersionTree::new(rt.alloc());
+    tree.reserve(4)?;
+    tree.insert_after(None, 0, 1, true);
+    tree.insert_after(Some(0), 1, 2, false);
+    tree.insert_after(Some(1), 2, 3, true);
+    tree.hide(0);
+    let mut steps = Steps::new();
+    assert_eq!(rt; tree.find_units(3, 0, &mut steps), Some((0, 0)));
+    assert_eq!(rt; tree.find_units(3, 1, &mut steps), Some((0, 1)));
+    assert_eq!(rt; tree.find_units(3, 2, &mut steps), Some((1, 0)));
+    assert_eq!(rt; tree.find_units(3, 4, &mut steps), Some((2, 1)));
+    assert_eq!(rt; tree.find_units(3, 5, &mut steps), None);
+    assert_eq!(rt; tree.find_units(4, 1, &mut steps), Some((2, 0)));
+    assert_eq!(rt; tree.find_units(2, 2, &mut steps), Some((1, 0)));
+    assert_eq!(rt; tree.rank_units(2, &mut steps), 1);
+    assert_eq!(rt; tree.rank(2, &mut steps), 1);
+    assert_eq!(rt; tree.rank_units(0, &mut steps), 0);
+    assert_eq!(rt; tree.units(0), 0);
+    assert_eq!(rt; tree.units(3), 5);
+    assert_eq!(rt; tree.shown(3), 3);
+    assert_eq!(rt; tree.units(4), 3);
     Ok(())
 }
 
@@ -184,9 +246,9 @@ fn append(tree: &mut VersionTree, first: bool) {
     }
     let n = tree.elements();
     if first || n == 0 {
-        tree.insert_after(None, n as u32, n as u32);
+        tree.insert_after(None, n as u32, n as u32, n % 3 == 0);
     } else {
-        tree.insert_after(Some(n as u32 - 1), n as u32, n as u32);
+        tree.insert_after(Some(n as u32 - 1), n as u32, n as u32, n % 3 == 0);
     }
 }
 
@@ -197,15 +259,6 @@ fn is_found_soon(tree: &VersionTree, version: usize, k: usize) -> bool {
     }
     let mut steps = Steps::new();
     tree.find(version, k, &mut steps).is_some() && steps.count() <= 36
-}
-
-/// Whether the way from the element past greater keys ends within 108 steps.
-fn is_passed_soon(tree: &VersionTree, elem: u32, key: u32) -> bool {
-    if elem as usize >= tree.elements() {
-        return false;
-    }
-    let mut steps = Steps::new();
-    tree.last_above(Some(elem), key, &mut steps).is_some() && steps.count() <= 108
 }
 
 #[test]
@@ -221,9 +274,6 @@ fn the_longest_log_stays_within_its_bounds(rt: HostRuntime) -> Result<(), Fail> 
     for version in 1..131_073u32 {
         let place = next(&mut seed, version) as usize;
         assert!(rt; is_found_soon(&tree, version as usize, place));
-    }
-    for elem in 1..131_072u32 {
-        assert!(rt; is_passed_soon(&tree, elem, next(&mut seed, elem)));
     }
     Ok(())
 }

@@ -2,16 +2,16 @@
 //! path, Driscoll, Sarnak, Sleator, Tarjan 1989; balanced as by Adelson-Velsky and Landis 1962).
 ghost use Rattle.std.specs.Prelude.{◌≡◌, ℕ, ◌+◌, ◌*◌, ◌<◌, ◌≤◌, ◌^◌, [], ◌∷◌, ◌++◌, length, slice_get, true, max, IfSome, OnOk, OnErr};
 ghost use Rattle.counted_tree.specs.Digits.{digits};
-ghost use Rattle.counted_tree.specs.Entry.{visible};
+ghost use Rattle.counted_tree.specs.Entry.{visible, units};
 ghost use Rattle.counted_tree.specs.Versions.{version_list, newest, newest_list, newest_root, root_at};
 ghost use Rattle.counted_tree.specs.Changed.{Lists, Shows, put, hidden, before as entries_before};
-ghost use Rattle.counted_tree.specs.Greater.{last_above};
+ghost use Rattle.counted_tree.specs.Greater.{last_greater};
 ghost use Rattle.counted_tree.specs.Tree.{entries};
 ghost use Rattle.counted_tree.specs.Arena.{IsLinkBelow, AreSound};
 ghost use Rattle.counted_tree.specs.Change.{tree_in};
 
-use crate::build::summary_of;
-use crate::change::{hide, insert, last_above_in, rank_in};
+use crate::build::{Summary, summary_of};
+use crate::change::{hide, insert, last_greater_in, rank_in};
 use crate::link::Link;
 use crate::nodes::Nodes;
 use crate::packed_above::PackedAbove;
@@ -101,7 +101,19 @@ impl VersionTree {
         ensures cost { steps.new ≤ steps.old + 2 * digits (length (version_list self.now version)) }
     {
         let root = root_of(self.roots.as_slice(), version);
-        find_in(&self.nodes, root, k, steps)
+        let (elem, _) = find_in(&self.nodes, root, false, k, steps)?;
+        Some(elem)
+    }
+
+    /// The element that has the `k`-th unit of what a version shows, if there are so many, and 1 where that is the second
+    /// of its two units, else 0. Takes no memory, and as many steps as `find`.
+    pub fn find_units(&self, version: usize, k: usize, steps: &mut Steps) -> Option<(u32, u8)>
+        requires { version < length self.now.lists }
+        ensures found { result ≡ slice_get (units (version_list self.now version)) k }
+        ensures cost { steps.new ≤ steps.old + 2 * digits (length (version_list self.now version)) }
+    {
+        let root = root_of(self.roots.as_slice(), version);
+        find_in(&self.nodes, root, true, k, steps)
     }
 
     /// Appends the elements that a version shows, in order, by one pass over its tree: a step for each of its elements.
@@ -117,7 +129,7 @@ impl VersionTree {
         ensures cost { steps.new ≤ steps.old + length (version_list self.now version) }
     {
         let root = root_of(self.roots.as_slice(), version);
-        into.reserve(shown_in(&self.nodes, root))?;
+        into.reserve(summary_at(&self.nodes, root).shown as usize)?;
         push_shown_in(&self.nodes, root, into, steps)
     }
 
@@ -127,7 +139,16 @@ impl VersionTree {
         ensures { result ≡ length (visible (version_list self.now version)) }
     {
         let root = root_of(self.roots.as_slice(), version);
-        shown_in(&self.nodes, root)
+        summary_at(&self.nodes, root).shown as usize
+    }
+
+    /// How many units the elements that a version shows have. Constant time.
+    pub fn units(&self, version: usize) -> usize
+        requires { version < length self.now.lists }
+        ensures { result ≡ length (units (version_list self.now version)) }
+    {
+        let root = root_of(self.roots.as_slice(), version);
+        summary_at(&self.nodes, root).units as usize
     }
 
     /// How many shown elements stand before one in the newest version. Takes no memory, and as many steps as `find`.
@@ -138,19 +159,30 @@ impl VersionTree {
         ensures cost { steps.new ≤ steps.old + 2 * digits (length (newest_list self.now)) }
     {
         let root = last_root(self.roots.as_slice());
-        rank_in(&self.nodes, self.table.as_slice(), root, elem, steps)
+        rank_in(&self.nodes, self.table.as_slice(), root, elem, false, steps)
+    }
+
+    /// How many units the shown elements before one have in the newest version. Takes no memory, and as many steps as `find`.
+    pub fn rank_units(&self, elem: u32, steps: &mut Steps) -> usize
+        requires { Lists elem (newest_list self.now) }
+        ensures rank { result ≡ length (units (entries_before elem (newest_list self.now))) }
+        ensures few { result ≤ 2 * 131072 }
+        ensures cost { steps.new ≤ steps.old + 2 * digits (length (newest_list self.now)) }
+    {
+        let root = last_root(self.roots.as_slice());
+        rank_in(&self.nodes, self.table.as_slice(), root, elem, true, steps)
     }
 
     /// The last element that one passes in the newest version, going right from an element, or from before all others, as
     /// long as the keys are greater than the given one: where none is passed, the element itself, or none. Takes no memory,
     /// and at most six times as many steps as the number of elements has binary digits, however many are passed.
-    pub fn last_above(&self, before: Option<u32>, key: u32, steps: &mut Steps) -> Option<u32>
+    pub fn last_greater(&self, before: Option<u32>, key: u32, steps: &mut Steps) -> Option<u32>
         requires there { IfSome before (λ e. Lists e (newest_list self.now)) }
-        ensures last { result ≡ last_above before key (newest_list self.now) }
+        ensures last { result ≡ last_greater before key (newest_list self.now) }
         ensures cost { steps.new ≤ steps.old + 6 * digits (length (newest_list self.now)) }
     {
         let root = last_root(self.roots.as_slice());
-        last_above_in(&self.nodes, self.table.as_slice(), root, before, key, steps)
+        last_greater_in(&self.nodes, self.table.as_slice(), root, before, key, steps)
     }
 
     /// Reserves `n` versions, if fewer are reserved: for each 41 nodes and a row of the table, some 1,000 bytes of which
@@ -171,22 +203,30 @@ impl VersionTree {
         Ok(())
     }
 
-    /// Adds a version with a further element, shown, with a key below 8,388,608, right after another one, or before all
-    /// others. Its key
-    /// stays with it for good. Takes memory from the reserve alone, and a logarithmic number of steps and nodes.
-    pub fn insert_after(&mut self, before: Option<u32>, elem: u32, key: u32)
+    /// Adds a version with a further element, shown, right after another one, or before all others: its key, below 2^23,
+    /// and whether it has two units stay with it for good. Takes memory from the reserve alone, and a logarithmic number of
+    /// steps and nodes.
+    pub fn insert_after(&mut self, before: Option<u32>, elem: u32, key: u32, wide: bool)
         requires room { 1 ≤ self.old.room }
         requires there { IfSome before (λ e. Lists e (newest_list self.old)) }
         requires number { elem ≡ length (newest_list self.old) }
         requires key { key < 2 ^ 23 }
         ensures lists { self.new.lists
-            ≡ self.old.lists ++ put before (record { elem = elem; shown = true; key = key }) (newest_list self.old) ∷ [] }
+            ≡ self.old.lists ++ put before (record { elem = elem; shown = true; wide = wide; key = key }) (newest_list self.old) ∷ [] }
         ensures nodes { self.new.nodes ≤ self.old.nodes + (2 * digits (length (newest_list self.new)) + 4) }
         ensures at_most { self.new.nodes ≤ self.old.nodes + 40 }
         ensures room { self.new.room + 1 ≡ self.old.room }
     {
         let root = last_root(self.roots.as_slice());
-        let top = insert(&mut self.nodes, &mut self.table, root, before, elem, key);
+        let top = insert(
+            &mut self.nodes,
+            &mut self.table,
+            root,
+            before,
+            elem,
+            key,
+            wide,
+        );
         self.room -= 1;
         self.roots.push_reserved(Link::new(Some(top)));
     }
@@ -220,15 +260,16 @@ impl VersionTree {
     }
 }
 
-/// How many elements a tree shows.
-fn shown_in(nodes: &Nodes, link: Option<u32>) -> usize
+/// What a tree shows. Nobody counts the node looked at.
+fn summary_at(nodes: &Nodes, link: Option<u32>) -> Summary
     requires sound { AreSound nodes.now.0 }
     requires link { IsLinkBelow (length nodes.now.0) link }
     requires few { length (entries (tree_in nodes.now link)) ≤ 131072 }
-    ensures { result ≡ length (visible (entries (tree_in nodes.now link))) }
+    ensures shown { result.shown ≡ length (visible (entries (tree_in nodes.now link))) }
+    ensures units { result.units ≡ length (units (entries (tree_in nodes.now link))) }
 {
     let mut steps = Steps::new();
-    summary_of(nodes, link, &mut steps).shown as usize
+    summary_of(nodes, link, &mut steps)
 }
 
 /// A version's root, or none.

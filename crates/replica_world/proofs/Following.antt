@@ -12,7 +12,8 @@ use Rattle.opid.proofs.Worlds.{Of, AreOf}
 use Rattle.holdback.specs.First.{NoneReady}
 use Rattle.room.specs.declared.call.Call.{Call}
 use Rattle.room.specs.Machine.{State, recorded_next, counted, may_record, next}
-use Rattle.room.specs.History.{Account, mark_from, mark, recorded, called, IsConsistent}
+use Rattle.room.specs.History.{Account, mark, recorded, called, IsConsistent}
+use Rattle.room.proofs.Histories.{mark_from-push}
 use Rattle.replica_world.specs.World.{with_room, logs_of}
 use Rattle.replica_world.specs.Received.{received, got}
 use Rattle.replica_world.specs.Kept.{IsReceived, IsSiteOf, IsWorld}
@@ -119,15 +120,11 @@ recorded_is a t c e = ap (λ b. if b then a.history ++ (t, c) ∷ [] else a.hist
 pub next_is : (S : State) (c : Call) → may_record S ≡ true → next S c ≡ counted (recorded_next S c)
 next_is S c e = ap (λ b. if b then counted (recorded_next S c) else S) e
 
-mark-push : (n : ℕ) (h : List (ℕ × Call)) (e : ℕ × Call) → mark_from n (h ++ e ∷ []) ≡ e.0 + 1
-mark-push n [] e = refl
-mark-push n (f ∷ h) e = mark-push (f.0 + 1) h e
-
 pub marked_on : (a : Account) (t : ℕ) (c : Call) → may_record a.state ≡ true → t ≤ length a.history
     → mark (called a t c).history ≤ length (called a t c).history
 marked_on a t c e b =
     subst (λ (h : List (ℕ × Call)). mark h ≤ length h) (sym (recorded_is a t c e))
-    (omega (arith, b, mark-push 0 a.history (t, c), length-append a.history ((t, c) ∷ [])))
+    (omega (arith, b, mark_from-push 0 a.history (t, c), length-append a.history ((t, c) ∷ [])))
 
 pub got_on : (logs : List SiteLog) (a : Account) (t : ℕ) (c : Call) → IsSiteOf logs a → may_record a.state ≡ true
     → got (called a t c) ≡ got a ++ received a.state c

@@ -4,7 +4,7 @@ use Rattle.std.proofs.Common.{refl, ap, ◌∙◌, sym, drop-cons}
 use Rattle.std.specs.Prelude.{option_and_then}
 use Rattle.std.proofs.lemmas.List.{take_more, take-append-drop}
 use Rattle.opid.specs.declared.edit.Edit.{Edit}
-use Rattle.opid.specs.declared.edit.Edit.TheVariants.{Ins, Del, Nop}
+use Rattle.opid.specs.declared.edit.Edit.TheVariants.{Ins, Del, DelUnits, Nop}
 use Rattle.opid.specs.declared.refusal.Refusal.{Refusal}
 use Rattle.opid.specs.declared.refusal.Refusal.TheVariants.{BadPlace, Memory}
 use Rattle.opid.specs.Splice.{apply, play}
@@ -47,6 +47,7 @@ refused t u es i d why h p m n = by (cause (get_or es i d) m)
     cause : (e : Edit) → MayRefuse e why → (why ≡ BadPlace) ⊎ (why ≡ Memory)
     cause (Ins k c) m = m
     cause (Del k) m = inl m
+    cause (DelUnits k w) m = inl m
     cause Nop m = absurd m
 
     by : (why ≡ BadPlace) ⊎ (why ≡ Memory) → ((why ≡ BadPlace) × (play t es ≡ None)) ⊎ (why ≡ Memory)

@@ -19,7 +19,7 @@ use Rattle.versions.proofs.Changes.{names-listed, elements-listed}
 use Rattle.versions.proofs.Integrated.{sites-listed}
 use Rattle.counted_tree.specs.declared.entry.Entry.{Entry}
 use Rattle.counted_tree.specs.Changed.{Lists, put, put_after}
-use Rattle.counted_tree.specs.Greater.{above, last_above}
+use Rattle.counted_tree.specs.Greater.{passed, last_greater}
 use Rattle.versions.specs.Joined.{key_of, plain}
 use Rattle.versions.proofs.Joins.{has_elem, elem_listed}
 
@@ -44,40 +44,40 @@ key_before a b p q = sym (ltb_from_iff (λ e. less e, λ l. before l (cases_lt a
         (both_true (eq-eqb a.sum b.sum (omega arith)) (lt-ltb a.site b.site (omega arith)))
 
 -- the last one on the way
-above-passed : (s : Stamp) (o : Option ℕ) (es : List rga.Entry) → s.site < 32 → AllByRecursion (λ e. e.stamp.site < 32) es
-    → above (key_of s) o (map plain es) ≡ rga.passed s o es
-above-passed s o [] p h = refl
-above-passed s o (y ∷ ys) p h =
-    ap (λ t. cond t (above (key_of s) (Some y.elem) (map plain ys)) o) (key_before s y.stamp p h.0)
-    ∙ ap (λ v. cond (is_before s y.stamp) v o) (above-passed s (Some y.elem) ys p h.1)
+passed-plain : (s : Stamp) (o : Option ℕ) (es : List rga.Entry) → s.site < 32 → AllByRecursion (λ e. e.stamp.site < 32) es
+    → passed (key_of s) o (map plain es) ≡ rga.passed s o es
+passed-plain s o [] p h = refl
+passed-plain s o (y ∷ ys) p h =
+    ap (λ t. cond t (passed (key_of s) (Some y.elem) (map plain ys)) o) (key_before s y.stamp p h.0)
+    ∙ ap (λ v. cond (is_before s y.stamp) v o) (passed-plain s (Some y.elem) ys p h.1)
 
-above-after : (p s : Stamp) (k : ℕ) (es : List rga.Entry) → s.site < 32 → AllByRecursion (λ e. e.stamp.site < 32) es
+passed-after : (p s : Stamp) (k : ℕ) (es : List rga.Entry) → s.site < 32 → AllByRecursion (λ e. e.stamp.site < 32) es
     → AllByRecursion (λ (y : rga.Entry). is_same p y.stamp ≡ eqb y.elem k) es
-    → last_above (Some k) (key_of s) (map plain es) ≡ rga.behind (Some p) s es
-above-after p s k [] b h n = refl
-above-after p s k (y ∷ ys) b h n =
-    ap (λ t. cond t (above (key_of s) (Some k) (map plain ys)) (last_above (Some k) (key_of s) (map plain ys))) (sym n.0)
-    ∙ go (is_same p y.stamp) (sym n.0) (above-after p s k ys b h.1 n.1)
+    → last_greater (Some k) (key_of s) (map plain es) ≡ rga.behind (Some p) s es
+passed-after p s k [] b h n = refl
+passed-after p s k (y ∷ ys) b h n =
+    ap (λ t. cond t (passed (key_of s) (Some k) (map plain ys)) (last_greater (Some k) (key_of s) (map plain ys))) (sym n.0)
+    ∙ go (is_same p y.stamp) (sym n.0) (passed-after p s k ys b h.1 n.1)
   where
-    go : (t : Bool) → eqb y.elem k ≡ t → last_above (Some k) (key_of s) (map plain ys) ≡ rga.behind (Some p) s ys
-        → cond t (above (key_of s) (Some k) (map plain ys)) (last_above (Some k) (key_of s) (map plain ys))
+    go : (t : Bool) → eqb y.elem k ≡ t → last_greater (Some k) (key_of s) (map plain ys) ≡ rga.behind (Some p) s ys
+        → cond t (passed (key_of s) (Some k) (map plain ys)) (last_greater (Some k) (key_of s) (map plain ys))
         ≡ cond t (rga.passed s (Some y.elem) ys) (rga.behind (Some p) s ys)
-    go true e ih = ap (λ j. above (key_of s) (Some j) (map plain ys)) (sym (eqb-true y.elem k e))
-        ∙ above-passed s (Some y.elem) ys b h.1
+    go true e ih = ap (λ j. passed (key_of s) (Some j) (map plain ys)) (sym (eqb-true y.elem k e))
+        ∙ passed-plain s (Some y.elem) ys b h.1
     go false e ih = ih
 
 -- the tree tells where an insertion stands, from its parent's element on
-last_above-behind : (o : Option Stamp) (s : Stamp) (from : Option ℕ) (es : List rga.Entry) → s.site < 32
+last_greater-behind : (o : Option Stamp) (s : Stamp) (from : Option ℕ) (es : List rga.Entry) → s.site < 32
     → AllByRecursion (λ e. e.stamp.site < 32) es → rga.parent_refusal es o s ≡ None
     → from ≡ option_and_then (λ p. rga.elem_of p es) o
     → ((p : Stamp) (k : ℕ) → o ≡ Some p → rga.elem_of p es ≡ Some k
     → AllByRecursion (λ (y : rga.Entry). is_same p y.stamp ≡ eqb y.elem k) es)
-    → last_above from (key_of s) (map plain es) ≡ rga.behind o s es
-last_above-behind None s from es b h a f n = ap (λ v. last_above v (key_of s) (map plain es)) f ∙ above-passed s None es b h
-last_above-behind (Some p) s from es b h a f n = go (rga.elem_of p es) refl
+    → last_greater from (key_of s) (map plain es) ≡ rga.behind o s es
+last_greater-behind None s from es b h a f n = ap (λ v. last_greater v (key_of s) (map plain es)) f ∙ passed-plain s None es b h
+last_greater-behind (Some p) s from es b h a f n = go (rga.elem_of p es) refl
   where
-    go : (k : Option ℕ) → rga.elem_of p es ≡ k → last_above from (key_of s) (map plain es) ≡ rga.behind (Some p) s es
-    go (Some k) e = ap (λ v. last_above v (key_of s) (map plain es)) (f ∙ e) ∙ above-after p s k es b h (n p k refl e)
+    go : (k : Option ℕ) → rga.elem_of p es ≡ k → last_greater from (key_of s) (map plain es) ≡ rga.behind (Some p) s es
+    go (Some k) e = ap (λ v. last_greater v (key_of s) (map plain es)) (f ∙ e) ∙ passed-after p s k es b h (n p k refl e)
     go None e = absurd (has_elem p es (accepted es p s a).0 e)
 
 -- an element put in, in the list and in the tree
@@ -110,18 +110,18 @@ put-lists (Some k) x xs h = put_after-lists k x xs h
 -- the same for the elements of a log
 pub stands : (log : List Operation) (es : List rga.Entry) (o : Option Stamp) (s : Stamp) (from : Option ℕ) → IsLawful log → es ≡ listed log
     → s.site < 32 → rga.parent_refusal es o s ≡ None → from ≡ option_and_then (λ p. rga.elem_of p es) o
-    → last_above from (key_of s) (map plain es) ≡ rga.behind o s es
+    → last_greater from (key_of s) (map plain es) ≡ rga.behind o s es
 stands log es o s from l e b a f =
-    last_above-behind o s from es b (subst (AllByRecursion (λ (x : rga.Entry). x.stamp.site < 32)) (sym e) (sites-listed log l)) a f
+    last_greater-behind o s from es b (subst (AllByRecursion (λ (x : rga.Entry). x.stamp.site < 32)) (sym e) (sites-listed log l)) a f
     (λ p k q r. subst (AllByRecursion (λ (y : rga.Entry). is_same p y.stamp ≡ eqb y.elem k)) (sym e)
     (names-listed log (IsSound-lawful log l) p
     (sym (has_stamp-listed log (IsSound-lawful log l) p) ∙ ap (λ (xs : List rga.Entry). rga.has_stamp xs p) (sym e)
     ∙ (accepted es p s (ap (λ v. rga.parent_refusal es v s) (sym q) ∙ a)).0)
     k (ap (rga.elem_of p) (sym e) ∙ r)))
 
-above-lists : (key : ℕ) (x : Entry) (xs : List Entry) → IfSome (above key (Some x.elem) xs) (λ e. Lists e (x ∷ xs))
-above-lists key x [] = inl refl
-above-lists key x (y ∷ ys) = go (ltb key y.key) (above key (Some y.elem) ys) (above-lists key y ys)
+passed-lists : (key : ℕ) (x : Entry) (xs : List Entry) → IfSome (passed key (Some x.elem) xs) (λ e. Lists e (x ∷ xs))
+passed-lists key x [] = inl refl
+passed-lists key x (y ∷ ys) = go (ltb key y.key) (passed key (Some y.elem) ys) (passed-lists key y ys)
   where
     go : (t : Bool) (o : Option ℕ) → IfSome o (λ e. Lists e (y ∷ ys)) → IfSome (cond t o (Some x.elem)) (λ e. Lists e (x ∷ y ∷ ys))
     go true None h = tt
@@ -129,27 +129,27 @@ above-lists key x (y ∷ ys) = go (ltb key y.key) (above key (Some y.elem) ys) (
     go false o h = inl refl
 
 -- where the tree's way ends there is an element
-pub last_above-lists : (o : Option ℕ) (key : ℕ) (xs : List Entry) → IfSome o (λ e. Lists e xs)
-    → IfSome (last_above o key xs) (λ e. Lists e xs)
-last_above-lists None key [] h = tt
-last_above-lists None key (x ∷ xs) h = go (ltb key x.key)
+pub last_greater-lists : (o : Option ℕ) (key : ℕ) (xs : List Entry) → IfSome o (λ e. Lists e xs)
+    → IfSome (last_greater o key xs) (λ e. Lists e xs)
+last_greater-lists None key [] h = tt
+last_greater-lists None key (x ∷ xs) h = go (ltb key x.key)
   where
-    go : (t : Bool) → IfSome (cond t (above key (Some x.elem) xs) None) (λ e. Lists e (x ∷ xs))
-    go true = above-lists key x xs
+    go : (t : Bool) → IfSome (cond t (passed key (Some x.elem) xs) None) (λ e. Lists e (x ∷ xs))
+    go true = passed-lists key x xs
     go false = tt
-last_above-lists (Some k) key [] h = absurd h
-last_above-lists (Some k) key (x ∷ xs) h = go (eqb x.elem k) refl h (last_above-lists (Some k) key xs)
+last_greater-lists (Some k) key [] h = absurd h
+last_greater-lists (Some k) key (x ∷ xs) h = go (eqb x.elem k) refl h (last_greater-lists (Some k) key xs)
   where
     later : (o : Option ℕ) → IfSome o (λ e. Lists e xs) → IfSome o (λ e. Lists e (x ∷ xs))
     later None g = tt
     later (Some e) g = inr g
 
     go : (t : Bool) → eqb x.elem k ≡ t → (x.elem ≡ k) ⊎ Lists k xs
-        → (Lists k xs → IfSome (last_above (Some k) key xs) (λ e. Lists e xs))
-        → IfSome (cond t (above key (Some k) xs) (last_above (Some k) key xs)) (λ e. Lists e (x ∷ xs))
-    go true e g ih = subst (λ j. IfSome (above key (Some j) xs) (λ i. Lists i (x ∷ xs))) (eqb-true x.elem k e) (above-lists key x xs)
+        → (Lists k xs → IfSome (last_greater (Some k) key xs) (λ e. Lists e xs))
+        → IfSome (cond t (passed key (Some k) xs) (last_greater (Some k) key xs)) (λ e. Lists e (x ∷ xs))
+    go true e g ih = subst (λ j. IfSome (passed key (Some j) xs) (λ i. Lists i (x ∷ xs))) (eqb-true x.elem k e) (passed-lists key x xs)
     go false e (inl q) ih = absurd (both_ways (eqb x.elem k) e (eq-eqb x.elem k q))
-    go false e (inr g) ih = later (last_above (Some k) key xs) (ih g)
+    go false e (inr g) ih = later (last_greater (Some k) key xs) (ih g)
 
 -- an element of the tree's list is one of the list's elements
 listed-within : (n : ℕ) (o : Option ℕ) (es : List rga.Entry) → AllByRecursion (λ (e : rga.Entry). e.elem < n) es

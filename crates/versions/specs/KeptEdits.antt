@@ -9,10 +9,11 @@ use Rattle.versions.specs.declared.kept_edit.EditKind.{EditKind}
 use Rattle.versions.specs.declared.kept_edit.EditKind.TheVariants.{Ins, Del, Nop}
 use Rattle.versions.specs.declared.kept_edit.KeptEdit.TheInside.{Inside}
 
--- the place is one of a text of at most 131,072 characters
+-- the place is one of a text of at most 131,072 characters, and counts them
 abbrev pub HasSmallPlace : Edit → Type 0
 HasSmallPlace (edits.Ins place ch) = place ≤ 131072
 HasSmallPlace (edits.Del place) = place ≤ 131072
+HasSmallPlace (edits.DelUnits place width) = ⊥
 HasSmallPlace edits.Nop = Unit {0}
 
 -- the edit of a kind
@@ -38,10 +39,11 @@ IsPlain i = (i.low < 65536) × IsPlainBy i.kind i.high i.low i.ch
 abbrev kept : EditKind → ℕ → ℕ → ℕ → Inside
 kept kind high low ch = record { ch = ch; low = low; high = high; kind = kind }
 
--- how an edit is kept
+-- how an edit is kept; one that counts code units isn't
 abbrev pub inside_of : Edit → Inside
 inside_of (edits.Ins place ch) = kept Ins (place / 65536) (place % 65536) ch
 inside_of (edits.Del place) = kept Del (place / 65536) (place % 65536) 0
+inside_of (edits.DelUnits place width) = kept Nop 0 0 0
 inside_of edits.Nop = kept Nop 0 0 0
 
 unkept : (kind : EditKind) (high low ch : ℕ) → low < 65536 → IsPlainBy kind high low ch

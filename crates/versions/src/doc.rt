@@ -95,11 +95,12 @@ impl Doc {
         read_op(&self.log, i as usize)
     }
 
-    /// The operations from a place of the log on, in order. The first one of each site takes the steps of `op`, each
-    /// other one a step for each entry of its clock that is stored. Takes no memory.
+    /// The operations from a place of the log on, in order. The first one of each site takes the steps of `op`, each other one
+    /// those of a copy of 32 counts and of the entries of its clock that are stored. Takes no memory.
     pub fn ops_from(&self, i: u32) -> Replay<'_>
         requires { i ≤ length self.now.log }
-        ensures { result ≡ drop i self.now.log }
+        ensures passed { result.passed ≡ [] }
+        ensures left { result.left ≡ drop i self.now.log }
     {
         self.log.replay_from(i as usize)
     }

@@ -41,7 +41,7 @@ impl Model for KeptEdit {
 }
 
 impl KeptEdit {
-    /// The edit, to be kept.
+    /// The edit, to be kept. Its place counts characters.
     pub fn new(edit: Edit) -> KeptEdit
         requires { HasSmallPlace edit }
         ensures { result ≡ edit }
@@ -59,7 +59,7 @@ impl KeptEdit {
                 high: (place / 65_536) as u8,
                 kind: EditKind::Del,
             },
-            Edit::Nop => KeptEdit {
+            Edit::DelUnits(_, _) | Edit::Nop => KeptEdit {
                 ch: '\0',
                 low: 0,
                 high: 0,

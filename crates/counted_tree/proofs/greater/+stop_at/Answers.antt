@@ -5,7 +5,7 @@ use Rattle.counted_tree.specs.Tree.{entries, height}
 use Rattle.counted_tree.specs.Tree.Tree.{Fork}
 use Rattle.counted_tree.specs.Change.{tree_in}
 use Rattle.counted_tree.specs.Along.{entry_at, after_at, elem_at}
-use Rattle.counted_tree.specs.Greater.{all_above, last_of, stop}
+use Rattle.counted_tree.specs.Greater.{all_greater, last_of, stop}
 use Rattle.counted_tree.proofs.Passing.{stop_before, stop_none, stop_here, stop_later, last_there, elem_there, last_of-some}
 use Rattle.counted_tree.proofs.greater.+stop_at.Goals as goal
 
@@ -39,7 +39,7 @@ returns-in-None-stop_at-clause-last t c =
     let there : IsSome (entry_at l down) = subst (λ u. IsSome (entry_at u (Left ∷ down))) whole
     (subst (λ p. IsSome (entry_at (tree_in a c.args.link) p)) way c.requires.there) in
     let first = elem_there l down there in
-    let passed : all_above c.args.key (after_at l down) ≡ true = stop_none c.args.key first.0 (after_at l down)
+    let passed : all_greater c.args.key (after_at l down) ≡ true = stop_none c.args.key first.0 (after_at l down)
     (sym (ap (λ d. stop c.args.key d (after_at l down)) first.1) ∙ sym c.stop_at-in-Some-Left-default.ensures.last
     ∙ c.in-None-stop_at.is) in
     c.last_in.ensures.last ∙ sym (goal_is
@@ -77,7 +77,7 @@ returns-in-None-2-clause-last t c =
     let there : IsSome (entry_at l down) = subst (λ u. IsSome (entry_at u (Left ∷ down))) whole
     (subst (λ p. IsSome (entry_at (tree_in a c.args.link) p)) way c.requires.there) in
     let first = elem_there l down there in
-    let passed : all_above c.args.key (after_at l down) ≡ true = stop_none c.args.key first.0 (after_at l down)
+    let passed : all_greater c.args.key (after_at l down) ≡ true = stop_none c.args.key first.0 (after_at l down)
     (sym (ap (λ d. stop c.args.key d (after_at l down)) first.1) ∙ sym c.stop_at-in-Some-Left-default.ensures.last
     ∙ c.in-None-stop_at.is) in
     c.stop_in-in-None-2.ensures.last ∙ sym (goal_is

@@ -12,7 +12,7 @@ use Rattle.replica.proofs.log.places_of.Goals as goal
 pub told-init : goal.told-init
 told-init c = record {
   numbered = subst (λ (v : AllPlaces). AreNumbered [] v.rows) (sym c.new-places.ensures) AreNumbered-none;
-  walk = c.ops_from-rest.ensures;
+  walk = c.ops_from-rest.ensures.left;
 }
 
 pub told-preserved : goal.told-preserved
@@ -21,7 +21,7 @@ told-preserved c =
     let i = c.told.place in
     let x = c.next_op-op.result in
     let within : i < length log = omega (arith, c.version-place-end.ensures.value, c.told-test.true) in
-    let here = left_after log i x c.next_op-op.new.self (sym c.told.invariant.walk ∙ c.next_op-op.ensures) in
+    let here = left_after log i x c.next_op-op.new.self.left (sym c.told.invariant.walk ∙ c.next_op-op.ensures.value) in
     let next : take (i + 1) log ≡ take i log ++ x ∷ [] =
     take_more log i x within ∙ ap (λ y. take i log ++ y ∷ []) (get_or_from_slice_get log i x x here.0) in
     let rows : AreNumbered (take i log) c.reserve.new.self.rows =

@@ -6,5 +6,5 @@ use Rattle.replica.proofs.log.places_of.Given as goal
 abbrev pub invariant-told : goal.invariant-told
 invariant-told l = record {
   numbered : AreNumbered (take l.place l.doc.log) l.places.rows;
-  walk : l.rest ≡ drop l.place l.doc.log;
+  walk : l.rest.left ≡ drop l.place l.doc.log;
 }

@@ -25,7 +25,7 @@ told-preserved c =
     let log = c.args.replica.now.log in
     let i = c.told.place in
     let x = c.next_op-op.result in
-    let here = left_after log i x c.next_op-op.new.self (sym c.told.invariant.walk ∙ c.next_op-op.ensures) in
+    let here = left_after log i x c.next_op-op.new.self.left (sym c.told.invariant.walk ∙ c.next_op-op.ensures.value) in
     let next : take (i + 1) log ≡ take i log ++ x ∷ [] = one_more log i x here.0 in
     let texts : map op_text (take (i + 1) log) ≡ map op_text (take i log) ++ op_text x ∷ [] =
     ap (map op_text) next ∙ map-append op_text (take i log) (x ∷ []) in

@@ -6,5 +6,5 @@ use Rattle.versions.proofs.doc.Doc.copy_ops.Given as goal
 abbrev pub invariant-told : goal.invariant-told
 invariant-told l = record {
   gathered : l.ops.items ++ take (l.end - l._place) (drop l._place l.self.log) ≡ take (l.end - l.from) (drop l.from l.self.log);
-  walk : l.rest ≡ drop l._place l.self.log;
+  walk : l.rest.left ≡ drop l._place l.self.log;
 }

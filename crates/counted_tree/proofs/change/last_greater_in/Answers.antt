@@ -4,20 +4,20 @@ use Rattle.counted_tree.specs.Tree.{entries}
 use Rattle.counted_tree.specs.Along.{entry_at, after_at, elem_at}
 use Rattle.counted_tree.specs.Change.{tree_in}
 use Rattle.counted_tree.specs.Changed.{Lists}
-use Rattle.counted_tree.specs.Greater.{above, last_above}
+use Rattle.counted_tree.specs.Greater.{passed, last_greater}
 use Rattle.counted_tree.proofs.Growth.{linked_balanced}
 use Rattle.counted_tree.proofs.Counts.{height_small}
 use Rattle.counted_tree.proofs.Heights.{height_bound}
 use Rattle.counted_tree.proofs.Ways.{way_there, way_leads}
-use Rattle.counted_tree.proofs.Splits.{above_there}
-use Rattle.counted_tree.proofs.Passing.{above_stopped, above_passed}
-use Rattle.counted_tree.proofs.change.last_above_in.Goals as goal
+use Rattle.counted_tree.proofs.Splits.{passed_there}
+use Rattle.counted_tree.proofs.Passing.{passed_stopped, passed_all_there}
+use Rattle.counted_tree.proofs.change.last_greater_in.Goals as goal
 
 pub returns-in_default-clause-cost : goal.returns-in_default-clause-cost
 returns-in_default-clause-cost c =
     let a = c.args.nodes.now in
     let t = tree_in a c.args.link in
-    omega (arith, c.above_in.ensures.cost, height_bound t (linked_balanced a.0 c.args.link c.requires.sound c.requires.link))
+    omega (arith, c.passed_in.ensures.cost, height_bound t (linked_balanced a.0 c.args.link c.requires.sound c.requires.link))
 
 pub way_to-path-requires : goal.way_to-path-requires
 way_to-path-requires c =
@@ -48,10 +48,10 @@ returns-in-Some-stop_at-clause-last c =
     let w = way_leads t c.in-Some.elem c.args.table.now c.way_to-path.result.items listed c.requires.newest.kept
     c.requires.newest.top c.way_to-path.ensures in
     let at : entry_at t path ≡ Some w.0 = ap (entry_at t) c.as_slice.ensures.value ∙ w.1 in
-    let whole : last_above c.args.before c.args.key (entries t) ≡ above c.args.key (elem_at t path) (after_at t path) =
-    ap (λ o. last_above o c.args.key (entries t)) c.in-Some.is
-    ∙ sym (above_there t path w.0 c.in-Some.elem (length c.args.table.now) at w.2 c.requires.newest.own c.args.key) in
-    sym (whole ∙ above_stopped c.args.key c.in-Some-stop_at.last (elem_at t path) (after_at t path)
+    let whole : last_greater c.args.before c.args.key (entries t) ≡ passed c.args.key (elem_at t path) (after_at t path) =
+    ap (λ o. last_greater o c.args.key (entries t)) c.in-Some.is
+    ∙ sym (passed_there t path w.0 c.in-Some.elem (length c.args.table.now) at w.2 c.requires.newest.own c.args.key) in
+    sym (whole ∙ passed_stopped c.args.key c.in-Some-stop_at.last (elem_at t path) (after_at t path)
     (sym c.stop_at.ensures.last ∙ c.in-Some-stop_at.is))
 
 pub returns-in-None-clause-last : goal.returns-in-None-clause-last
@@ -63,10 +63,10 @@ returns-in-None-clause-last c =
     let w = way_leads t c.in-Some.elem c.args.table.now c.way_to-path.result.items listed c.requires.newest.kept
     c.requires.newest.top c.way_to-path.ensures in
     let at : entry_at t path ≡ Some w.0 = ap (entry_at t) c.as_slice.ensures.value ∙ w.1 in
-    let whole : last_above c.args.before c.args.key (entries t) ≡ above c.args.key (elem_at t path) (after_at t path) =
-    ap (λ o. last_above o c.args.key (entries t)) c.in-Some.is
-    ∙ sym (above_there t path w.0 c.in-Some.elem (length c.args.table.now) at w.2 c.requires.newest.own c.args.key) in
-    c.last_in.ensures.last ∙ sym (whole ∙ above_passed t path c.args.key (subst IsSome (sym at) refl)
+    let whole : last_greater c.args.before c.args.key (entries t) ≡ passed c.args.key (elem_at t path) (after_at t path) =
+    ap (λ o. last_greater o c.args.key (entries t)) c.in-Some.is
+    ∙ sym (passed_there t path w.0 c.in-Some.elem (length c.args.table.now) at w.2 c.requires.newest.own c.args.key) in
+    c.last_in.ensures.last ∙ sym (whole ∙ passed_all_there t path c.args.key (subst IsSome (sym at) refl)
     (sym c.stop_at.ensures.last ∙ c.in-None.is))
 
 pub returns-in-Some-stop_at-clause-cost : goal.returns-in-Some-stop_at-clause-cost

@@ -2,11 +2,11 @@ use Rattle.std.proofs.Common.{◌≡◌, length, ap, sym, ◌∙◌, subst, arit
 use Rattle.std.specs.Option.{IfSome}
 use Rattle.counted_tree.specs.Digits.{digits}
 use Rattle.counted_tree.specs.Changed.{Lists}
-use Rattle.counted_tree.specs.Greater.{last_above}
+use Rattle.counted_tree.specs.Greater.{last_greater}
 use Rattle.counted_tree.specs.Arena.{list_of}
 use Rattle.counted_tree.specs.Versions.{Versions, newest_list, newest_root}
 use Rattle.counted_tree.proofs.Listed.{last_list}
-use Rattle.counted_tree.proofs.versions.VersionTree.last_above.Goals as goal
+use Rattle.counted_tree.proofs.versions.VersionTree.last_greater.Goals as goal
 
 pub returns-clause-last : goal.returns-clause-last
 returns-clause-last c =
@@ -15,10 +15,10 @@ returns-clause-last c =
     let root_is : c.last_root-root.result ≡ newest_root roots = c.last_root-root.ensures ∙ ap newest_root c.as_slice.ensures.value in
     let newest : newest_list c.args.self.now ≡ list_of ns c.last_root-root.result =
     ap (λ (v : Versions). newest_list v) (sym c.self.view_is) ∙ last_list ns roots ∙ ap (list_of ns) (sym root_is) in
-    c.last_above_in.ensures.last ∙ ap (last_above c.args.before c.args.key) (sym newest)
+    c.last_greater_in.ensures.last ∙ ap (last_greater c.args.before c.args.key) (sym newest)
 
-pub last_above_in-requires-clause-there : goal.last_above_in-requires-clause-there
-last_above_in-requires-clause-there c =
+pub last_greater_in-requires-clause-there : goal.last_greater_in-requires-clause-there
+last_greater_in-requires-clause-there c =
     let ns = c.self.inside.nodes.0 in
     let roots = c.self.inside.roots.items in
     let root_is : c.last_root-root.result ≡ newest_root roots = c.last_root-root.ensures ∙ ap newest_root c.as_slice.ensures.value in
@@ -33,4 +33,4 @@ returns-clause-cost c =
     let root_is : c.last_root-root.result ≡ newest_root roots = c.last_root-root.ensures ∙ ap newest_root c.as_slice.ensures.value in
     let newest : newest_list c.args.self.now ≡ list_of ns c.last_root-root.result =
     ap (λ (v : Versions). newest_list v) (sym c.self.view_is) ∙ last_list ns roots ∙ ap (list_of ns) (sym root_is) in
-    omega (arith, c.last_above_in.ensures.cost, ap (λ xs. digits (length xs)) newest)
+    omega (arith, c.last_greater_in.ensures.cost, ap (λ xs. digits (length xs)) newest)
