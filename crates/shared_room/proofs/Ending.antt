@@ -13,6 +13,7 @@ use Rattle.room.specs.declared.reply.Reply.{Reply}
 use Rattle.room.specs.declared.reply.Reply.TheVariants as replies
 use Rattle.room.specs.Machine.{State, may_record, answer}
 use Rattle.room.specs.History.{Account, AreRisingFrom, state_of, mark_from, mark, called}
+use Rattle.room.proofs.Histories.{mark_from-push}
 use Rattle.history_lock.specs.declared.pass.Sight.{Sight}
 use Rattle.history_lock.specs.Sights.{finished, drew, took, peeked_at, won, joined, learned, longer}
 use Rattle.history_lock.specs.Turns.{LeftFor, TookTurns}
@@ -52,12 +53,8 @@ pub grows_called : (R R' : Account) (t : ℕ) (c : Call) (r : Result Reply Alloc
 grows_called R R' t c (Ok reply) p q = (map made (more_of (may_record R.state) t c), sym (ap trail_of p ∙ trail_called R t c))
 grows_called R R' t c (Err e) p q = ([], append-nil (trail_of R) ∙ ap trail_of (sym q))
 
-mark_push : (s : ℕ) (h : List (ℕ × Call)) (e : ℕ × Call) → mark_from s (h ++ e ∷ []) ≡ e.0 + 1
-mark_push s [] e = refl
-mark_push s (x ∷ h) e = mark_push (x.0 + 1) h e
-
 mark_more : (b : Bool) (h : List (ℕ × Call)) (t : ℕ) (c : Call) → mark h ≤ t → mark (if b then h ++ (t, c) ∷ [] else h) ≤ t + 1
-mark_more true h t c le = let e = mark_push 0 h (t, c) in omega arith
+mark_more true h t c le = let e = mark_from-push 0 h (t, c) in omega arith
 mark_more false h t c le = omega arith
 
 pub marked_called : (R R' : Account) (t : ℕ) (c : Call) (r : Result Reply AllocError) → mark R.history ≤ t

@@ -1,5 +1,5 @@
 -- What a desk over a pass has seen, and that it keeps the laws of desks. `PassDesk` says by it what it has seen; the rest is its proof.
-use Rattle.std.proofs.Common.{◌≡◌, ◌≤◌, ap, sym, subst, length, ℕ, List, [], append-nil}
+use Rattle.std.proofs.Common.{◌≡◌, ◌≤◌, ap, sym, subst, length, ℕ, List}
 use mathlib.Core.List.{IsPrefix}
 use Rattle.room.specs.declared.call.Call.{Call}
 use Rattle.room.specs.declared.reply.Reply.{Reply}
@@ -8,6 +8,7 @@ use Rattle.room.specs.declared.desk.DeskFault.TheVariants as Fault
 use Rattle.room.specs.Machine.{State}
 use Rattle.room.specs.History.{IsLegal, state_of}
 use Rattle.room.specs.Desks.{Sight, Owns, IsSight, IsAnswered, IsPassedOver}
+use Rattle.history_lock.proofs.Prefixes.{prefix_self}
 use Rattle.shared_room.specs.Views.{View}
 use Rattle.shared_room.specs.Turns.{Answers, FaultsPass}
 
@@ -39,12 +40,9 @@ pub pass_passes : (o o' : State) (v w : View) (why : DeskFault) → o' ≡ o →
     → IsPassedOver (sight_through o v) (sight_through o' w)
 pass_passes o o' v w Fault.Worn same did = record {
   opening = same;
-  begins = subst (λ (u : View). IsPrefix v.seen u.seen) (sym did.1) (pre_same v.seen);
+  begins = subst (λ (u : View). IsPrefix v.seen u.seen) (sym did.1) (prefix_self v.seen);
   mine = ap (λ (u : View). u.mine) did.1;
 }
-  where
-    pre_same : (xs : List (ℕ × Call)) → IsPrefix xs xs
-    pre_same xs = ([], append-nil xs)
 pass_passes o o' v w Fault.Memory same did = record {
   opening = same;
   begins = subst (λ (l : List (ℕ × Call)). IsPrefix v.seen l) (sym did.1.seen) did.0.begins;

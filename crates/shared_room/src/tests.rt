@@ -154,6 +154,32 @@ fn one_draw_is_one_call(rt: HostRuntime) -> Result<(), Fail> {
     Ok(())
 }
 
+// Whether a pass with no draw left is told so at once while another has a ticket: for that one's turn it would wait for good.
+fn is_worn_behind_a_ticket<R: Wait>(
+    rt: &R,
+    room: &SharedRoom,
+    pass: &mut Pass,
+    worn: &mut Pass,
+) -> bool
+    requires { IsPassOf room.now pass.old × IsPassOf room.now worn.old }
+{
+    let Ok(ticket) = room.lock.draw(&mut pass.pass) else {
+        return false;
+    };
+    let is_told = matches!(&room.call(rt, worn, Call::Read), Err(Refusal::Worn));
+    joins(rt, room, ticket, pass) == Some(0) && is_told
+}
+
+#[test]
+fn a_worn_pass_waits_for_nobody(rt: HostRuntime) -> Result<(), Fail> {
+    let (room, mut pass) = opened(rt.alloc())?;
+    let Ok(mut worn) = room.split(&mut pass, 0) else {
+        return Err(Fail::from("no draws"));
+    };
+    assert!(rt; is_worn_behind_a_ticket(&rt, &room, &mut pass, &mut worn));
+    Ok(())
+}
+
 // A pass alone loses no try, hands over no more draws than it has, and may hand over none.
 fn is_alone(room: &SharedRoom, pass: &mut Pass) -> bool
     requires { IsPassOf room.now pass.old }
@@ -176,12 +202,12 @@ fn a_lone_pass_is_never_busy(rt: HostRuntime) -> Result<(), Fail> {
     Ok(())
 }
 
-// Waits until the room reads a text with these characters: 1,000,000 reads at most, 10 microseconds apart.
+// Waits until the room reads a text with these characters: 400,000 reads at most, 10 microseconds apart.
 fn finds<R: Wait + Clock>(rt: &R, room: &SharedRoom, pass: &mut Pass, characters: &str) -> bool
     requires { IsPassOf room.now pass.old }
     ensures { IsPassOf room.now pass.new }
 {
-    for _ in 0..1_000_000 {
+    for _ in 0..400_000 {
         if reads(rt, room, pass, characters) {
             return true;
         }

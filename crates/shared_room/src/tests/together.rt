@@ -1,7 +1,8 @@
 //! Eight threads that type into one room, two passes that meet, and what a room then holds when it is closed.
-ghost use Rattle.std.specs.Prelude.{◌≤◌};
+ghost use Rattle.std.specs.Prelude.{◌≡◌, ◌≤◌, true};
 ghost use Rattle.std.specs.Thread.{IsSync};
-ghost use Rattle.shared_room.specs.Views.{IsPassOf};
+ghost use Rattle.room.specs.Desks.{Owns};
+ghost use Rattle.shared_room.specs.Views.{view, IsPassOf};
 
 use super::{insertion, opened};
 use crate::{Pass, SharedRoom};
@@ -178,6 +179,18 @@ fn eight_threads_type_into_one_room(rt: HostRuntime) -> Result<(), Fail> {
     Ok(())
 }
 
+// Whether they meet. Each has then seen the calls of both.
+fn meet_and_tell<R: Wait>(rt: &R, room: &SharedRoom, a: &mut Pass, b: &mut Pass) -> bool
+    requires { IsPassOf room.now a.old × IsPassOf room.now b.old }
+    ensures pass { IsPassOf room.now a.new × IsPassOf room.now b.new }
+    ensures told { result ≡ true → Owns (view b.new).mine (view a.new).seen × Owns (view a.new).mine (view b.new).seen }
+{
+    match room.meet(rt, a, b) {
+        Ok(()) => true,
+        Err(_) => false,
+    }
+}
+
 // Each pass opens a session and inserts a character through it. Then they meet.
 fn call_and_meet<R: Wait>(
     alloc: Global,
@@ -195,7 +208,7 @@ fn call_and_meet<R: Wait>(
     all &= room.call(rt, b, Call::Join).is_ok();
     all &= room.call(rt, a, first).is_ok();
     all &= room.call(rt, b, second).is_ok();
-    Ok(all && room.meet(rt, a, b).is_ok())
+    Ok(all && meet_and_tell(rt, room, a, b))
 }
 
 // Whether the calls of both are recorded. Both put their character in at the front of version 0, so the later one's
