@@ -1,18 +1,18 @@
-//! Rooms that carry operations to each other, typed in meanwhile, and whether they have one order of elements then; and rooms
-//! that a peer has filled with forged operations.
+//! Rooms that carry operations to each other, typed in meanwhile, and whether they have one order of elements then.
 ghost use Rattle.std.specs.Prelude.{◌≡◌, IfOk, IfSome};
 ghost use Rattle.std.specs.Thread.{IsSync};
 ghost use Rattle.shared_room.specs.Views.{IsPassOf};
 
-use causal_clock::{Clock, Op};
-use opid::{OpKind, Site};
+use crate::desks::insertion;
+use opid::Site;
 use replica_world::one_order;
-use room::{Call, Characters, Desk, DeskFault, Operations, Outcome, Reply, Room, RoomDesk};
+use room::{Call, DeskFault, Reply, Room};
 use shared_room::{Pass, PassDesk, SharedRoom};
-use std::alloc::{AllocError, Global};
+use std::alloc::Global;
 use std::sync::Wait;
 use std::test::Fail;
-use std::thread::{Threads, join};
+use std::thread::{Threads, join, sleep};
+use std::time::{Clock, Duration};
 use ws_server::carry;
 
 fn shared(alloc: Global, site: u8) -> Result<(SharedRoom, Pass), Fail>
@@ -21,24 +21,11 @@ fn shared(alloc: Global, site: u8) -> Result<(SharedRoom, Pass), Fail>
     Ok(SharedRoom::new(alloc, Room::new(alloc, Site::new(site)?))?)
 }
 
-// The `n`-th submission of session 1, at the beginning of the empty version.
-fn insertion(alloc: Global, n: u32, text: &str) -> Result<Call, AllocError> {
-    Ok(Call::Ins {
-        s: 1,
-        n,
-        v: 0,
-        k: 0,
-        x: Characters::new(String::from_str(alloc, text)?),
-    })
-}
-
-// How many characters each thread types, and how often each of those that carry does.
+// How many characters each thread types.
 const TYPED: u32 = 99;
 
-const CARRIED: u32 = 64;
-
-// How often has to be carried until all is, where 198 operations are at most.
-const ENOUGH: u32 = 5;
+// After so many turns, each 10 microseconds after the one before, a thread gives up.
+const TURNS: u32 = 1_000_000;
 
 // Two rooms, of which the one carries to the other.
 #[derive(Drop)]
@@ -47,17 +34,47 @@ struct Ends<'a> {
     to: &'a SharedRoom,
 }
 
-// Joins and types its letter, each time at the beginning of the joined version.
-fn types<R: Wait>(rt: &R, alloc: Global, room: &SharedRoom, mut pass: Pass, letter: &str) -> bool
+// Whether the room's text comes to have this letter.
+fn finds<R: Wait + Clock>(rt: &R, room: &SharedRoom, pass: &mut Pass, letter: &str) -> bool
+    requires { IsPassOf room.now pass.old }
+    ensures { IsPassOf room.now pass.new }
+{
+    for _ in 0..TURNS {
+        match room.call(rt, pass, Call::Read) {
+            Ok(Reply::Text { v: _, x }) => {
+                if x.as_str().contains(letter) {
+                    return true;
+                }
+            }
+            _ => return false,
+        }
+        sleep(rt, Duration::from_micros(10));
+    }
+    false
+}
+
+// Types its letter in the session that has joined, each time at the beginning of version 0. After the first one it waits until
+// one of the other's was carried here, so that there is carrying while it types.
+fn types<R: Wait + Clock>(
+    rt: &R,
+    alloc: Global,
+    room: &SharedRoom,
+    mut pass: Pass,
+    letter: &str,
+    other: &str,
+) -> bool
     requires { IsPassOf room.now pass }
 {
-    let mut all = room.call(rt, &mut pass, Call::Join).is_ok();
+    let mut all = true;
     for n in 1..TYPED + 1 {
         match insertion(alloc, n, letter) {
             Ok(typed) => {
                 all &= matches!(&room.call(rt, &mut pass, typed), Ok(Reply::Ok { .. }));
             }
             Err(_) => return false,
+        }
+        if n == 1 {
+            all &= finds(rt, room, &mut pass, other);
         }
     }
     all
@@ -95,25 +112,22 @@ fn carry_once<R: Wait>(
     carry_lent(&mut from, &mut to, after)
 }
 
-// Carries so often: the number from which to go on. A fault ends it.
-fn carry_often<R: Wait>(
-    rt: &R,
-    ends: &Ends<'_>,
-    a: &mut Pass,
-    b: &mut Pass,
-    times: u32,
-) -> Result<u32, DeskFault>
-    requires { IsPassOf ends.now.from.now a.old × IsPassOf ends.now.to.now b.old }
-    ensures { IsPassOf ends.now.from.now a.new × IsPassOf ends.now.to.now b.new }
+// Carries until all that both type was carried. A fault ends it.
+fn carry_all<R: Wait + Clock>(rt: &R, ends: &Ends<'_>, mut a: Pass, mut b: Pass) -> bool
+    requires { IsPassOf ends.now.from.now a × IsPassOf ends.now.to.now b }
 {
     let mut after = 0;
-    for _ in 0..times {
-        match carry_once(rt, ends, a, b, after) {
+    for _ in 0..TURNS {
+        match carry_once(rt, ends, &mut a, &mut b, after) {
             Ok(next) => after = next,
-            Err(why) => return Err(why),
+            Err(_) => return false,
         }
+        if after == 2 * TYPED {
+            return true;
+        }
+        sleep(rt, Duration::from_micros(10));
     }
-    Ok(after)
+    false
 }
 
 // A pass of each of two rooms.
@@ -138,7 +152,7 @@ fn pair_of(ends: &Ends<'_>, a: &mut Pass, b: &mut Pass, draws: u64) -> Option<Pa
     Some(Pair { a: one, b: other })
 }
 
-fn type_in_both<R: Threads + Wait + Sync>(
+fn type_in_both<R: Threads + Wait + Clock + Sync>(
     rt: &R,
     alloc: Global,
     ends: &Ends<'_>,
@@ -151,29 +165,23 @@ fn type_in_both<R: Threads + Wait + Sync>(
         rt,
         || -> bool
             requires { IsSync R.row × IsPassOf ends.now.from.now a }
-        { types(rt, alloc, ends.from, a, "a") },
+        { types(rt, alloc, ends.from, a, "a", "b") },
         || -> bool
             requires { IsSync R.row × IsPassOf ends.now.to.now b }
-        { types(rt, alloc, ends.to, b, "b") },
+        { types(rt, alloc, ends.to, b, "b", "a") },
     );
     both.0 && both.1
 }
 
-fn carry_in_thread<R: Wait>(rt: &R, ends: &Ends<'_>, mut a: Pass, mut b: Pass) -> bool
-    requires { IsPassOf ends.now.from.now a × IsPassOf ends.now.to.now b }
+fn carry_each_way<R: Threads + Wait + Clock + Sync>(
+    rt: &R,
+    ends: &Ends<'_>,
+    there: Pair,
+    back: Pair,
+) -> bool
+    requires there { IsPassOf ends.now.from.now there.a × IsPassOf ends.now.to.now there.b }
+    requires back { IsPassOf ends.now.from.now back.a × IsPassOf ends.now.to.now back.b }
 {
-    match carry_often(rt, ends, &mut a, &mut b, CARRIED) {
-        Ok(after) => after <= 2 * TYPED,
-        Err(_) => false,
-    }
-}
-
-fn carry_each_way<R: Threads + Wait + Sync>(rt: &R, ends: &Ends<'_>, mut there: Pair) -> bool
-    requires { IsPassOf ends.now.from.now there.a × IsPassOf ends.now.to.now there.b }
-{
-    let Some(back) = pair_of(ends, &mut there.a, &mut there.b, 64) else {
-        return false;
-    };
     let turned = Ends {
         from: ends.to,
         to: ends.from,
@@ -182,33 +190,47 @@ fn carry_each_way<R: Threads + Wait + Sync>(rt: &R, ends: &Ends<'_>, mut there: 
         rt,
         || -> bool
             requires { IsSync R.row × IsPassOf ends.now.from.now there.a × IsPassOf ends.now.to.now there.b }
-        { carry_in_thread(rt, ends, there.a, there.b) },
+        { carry_all(rt, ends, there.a, there.b) },
         || -> bool
             requires { IsSync R.row × IsPassOf turned.from.now back.b × IsPassOf turned.to.now back.a }
-        { carry_in_thread(rt, &turned, back.b, back.a) },
+        { carry_all(rt, &turned, back.b, back.a) },
     );
     both.0 && both.1
 }
 
-// Two threads type, and two carry meanwhile.
-fn work<R: Threads + Wait + Sync>(
+// A session joins each room. Then two threads type, and two carry meanwhile, each with so many draws of its own.
+fn work<R: Threads + Wait + Clock + Sync>(
     rt: &R,
     alloc: Global,
     ends: &Ends<'_>,
-    typing: Pair,
-    carrying: Pair,
+    a: &mut Pass,
+    b: &mut Pass,
+    draws: u64,
 ) -> bool
-    requires typing { IsPassOf ends.now.from.now typing.a × IsPassOf ends.now.to.now typing.b }
-    requires carrying { IsPassOf ends.now.from.now carrying.a × IsPassOf ends.now.to.now carrying.b }
+    requires { IsPassOf ends.now.from.now a.old × IsPassOf ends.now.to.now b.old }
+    ensures { IsPassOf ends.now.from.now a.new × IsPassOf ends.now.to.now b.new }
 {
+    if ends.from.call(rt, a, Call::Join).is_err() || ends.to.call(rt, b, Call::Join).is_err() {
+        return false;
+    }
+    let Some(typing) = pair_of(ends, a, b, draws) else {
+        return false;
+    };
+    let Some(there) = pair_of(ends, a, b, draws) else {
+        return false;
+    };
+    let Some(back) = pair_of(ends, a, b, draws) else {
+        return false;
+    };
     let both = join(
         rt,
         || -> bool
             requires { IsSync R.row × IsPassOf ends.now.from.now typing.a × IsPassOf ends.now.to.now typing.b }
         { type_in_both(rt, alloc, ends, typing) },
         || -> bool
-            requires { IsSync R.row × IsPassOf ends.now.from.now carrying.a × IsPassOf ends.now.to.now carrying.b }
-        { carry_each_way(rt, ends, carrying) },
+            requires there { IsSync R.row × IsPassOf ends.now.from.now there.a × IsPassOf ends.now.to.now there.b }
+            requires back { IsPassOf ends.now.from.now back.a × IsPassOf ends.now.to.now back.b }
+        { carry_each_way(rt, ends, there, back) },
     );
     both.0 && both.1
 }
@@ -218,59 +240,19 @@ fn count(text: &str, letter: char) -> usize {
 }
 
 // Whether both rooms read one text, in which each thread's characters all stand.
-fn read_the_same<R: Wait>(rt: &R, ends: &Ends<'_>, a: &mut Pass, b: &mut Pass) -> bool
-    requires { IsPassOf ends.now.from.now a.old × IsPassOf ends.now.to.now b.old }
-    ensures { IsPassOf ends.now.from.now a.new × IsPassOf ends.now.to.now b.new }
-{
-    let Ok(Reply::Text { v, x }) = ends.from.call(rt, a, Call::Read) else {
-        return false;
-    };
-    let Ok(Reply::Text { v: _, x: other }) = ends.to.call(rt, b, Call::Read) else {
-        return false;
-    };
-    v == 2 * TYPED
-        && x.as_str() == other.as_str()
-        && x.as_str().len() == 198
-        && count(x.as_str(), 'a') == 99
-        && count(x.as_str(), 'b') == 99
+fn read_the_same(one: &Room, other: &Room) -> Result<bool, Fail> {
+    let text = one.replica().doc().reading(one.replica().version())?;
+    let same = other.replica().doc().reading(other.replica().version())?;
+    Ok(
+        text.as_str() == same.as_str()
+            && text.as_str().len() == 198
+            && count(text.as_str(), 'a') == 99
+            && count(text.as_str(), 'b') == 99,
+    )
 }
 
-// Carries to the end, first to the one room and then to the other.
-fn carry_to_the_end<R: Wait>(rt: &R, ends: &Ends<'_>, a: &mut Pass, b: &mut Pass) -> bool
-    requires { IsPassOf ends.now.from.now a.old × IsPassOf ends.now.to.now b.old }
-    ensures { IsPassOf ends.now.from.now a.new × IsPassOf ends.now.to.now b.new }
-{
-    let turned = Ends {
-        from: ends.to,
-        to: ends.from,
-    };
-    carry_often(rt, ends, a, b, ENOUGH).is_ok()
-        && carry_often(rt, &turned, b, a, ENOUGH) == Ok(2 * TYPED)
-}
-
-fn typed_and_carried<R: Threads + Wait + Sync>(
-    rt: &R,
-    alloc: Global,
-    ends: &Ends<'_>,
-    a: &mut Pass,
-    b: &mut Pass,
-) -> bool
-    requires { IsPassOf ends.now.from.now a.old × IsPassOf ends.now.to.now b.old }
-    ensures { IsPassOf ends.now.from.now a.new × IsPassOf ends.now.to.now b.new }
-{
-    let Some(typing) = pair_of(ends, a, b, 100) else {
-        return false;
-    };
-    let Some(carrying) = pair_of(ends, a, b, 128) else {
-        return false;
-    };
-    work(rt, alloc, ends, typing, carrying)
-        && carry_to_the_end(rt, ends, a, b)
-        && read_the_same(rt, ends, a, b)
-}
-
-// Whether the rooms, closed, have one order of elements.
-fn close_in_one_order(
+// Whether the rooms, closed, read the same and have one order of elements.
+fn closed_in_one_order(
     alloc: Global,
     one: SharedRoom,
     other: SharedRoom,
@@ -288,10 +270,11 @@ fn close_in_one_order(
     let Ok(other) = other.close(b) else {
         return Err(Fail::from("closed"));
     };
-    have_one_order(alloc, one, other)
+    Ok(read_the_same(&one, &other)? && have_one_order(alloc, one, other)?)
 }
 
-fn have_one_order(alloc: Global, one: Room, other: Room) -> Result<bool, Fail> {
+// Whether these two rooms have one order of elements.
+pub(crate) fn have_one_order(alloc: Global, one: Room, other: Room) -> Result<bool, Fail> {
     let rooms = vec![in alloc; one, other]?;
     Ok(one_order(&rooms))
 }
@@ -305,65 +288,7 @@ fn rooms_that_are_typed_in_come_to_one_order(rt: HostRuntime) -> Result<(), Fail
         from: &one,
         to: &other,
     };
-    assert!(rt; typed_and_carried(&rt, alloc, &ends, &mut a, &mut b));
-    assert!(rt; close_in_one_order(alloc, one, other, a, b)?);
-    Ok(())
-}
-
-// The first operation of site 1, which puts a character in at the beginning.
-fn operation(ch: char) -> Result<Op, Fail> {
-    let site = Site::new(1)?;
-    let clock = Clock::from_pairs(&[(site, 1)])?;
-    Ok(Op::new(site, clock, OpKind::Ins { parent: None, ch })?)
-}
-
-// Whether the first operation of site 1 is taken, where it puts in this character.
-fn takes(alloc: Global, desk: &mut RoomDesk, ch: char) -> Result<bool, Fail> {
-    let ops = Operations::new(vec![in alloc; operation(ch)?]?);
-    match desk.call(Call::Put(ops))? {
-        Reply::Put(outcomes) => Ok(outcomes.as_slice() == [Outcome::Took(1, 0)].as_slice()),
-        _ => Ok(false),
-    }
-}
-
-// A room of site 0, to which a peer has given an operation of site 1.
-fn given(alloc: Global, ch: char) -> Result<Room, Fail> {
-    let mut desk = RoomDesk::new(Room::new(alloc, Site::new(0)?));
-    if takes(alloc, &mut desk, ch)? {
-        return Ok(desk.into_room());
-    }
-    Err(Fail::from("taken"))
-}
-
-// Whether a session joins and types.
-fn types_once(alloc: Global, desk: &mut RoomDesk, text: &str) -> Result<bool, Fail> {
-    desk.call(Call::Join)?;
-    match desk.call(insertion(alloc, 1, text)?)? {
-        Reply::Ok { .. } => Ok(true),
-        _ => Ok(false),
-    }
-}
-
-// A room of site 1, in which a text was typed.
-fn typed(alloc: Global, text: &str) -> Result<Room, Fail> {
-    let mut desk = RoomDesk::new(Room::new(alloc, Site::new(1)?));
-    if types_once(alloc, &mut desk, text)? {
-        return Ok(desk.into_room());
-    }
-    Err(Fail::from("accepted"))
-}
-
-// A peer gives site 0 this character as what site 1, whose text is the other, has typed.
-fn keeps_the_order(alloc: Global, ch: char, text: &str) -> Result<bool, Fail> {
-    have_one_order(alloc, given(alloc, ch)?, typed(alloc, text)?)
-}
-
-#[test]
-fn forged_operations_have_no_order(rt: HostRuntime) -> Result<(), Fail> {
-    let alloc = rt.alloc();
-    assert!(rt; keeps_the_order(alloc, 'a', "a")?);
-    assert!(rt; !keeps_the_order(alloc, 'b', "a")?);
-    let unknown = have_one_order(alloc, given(alloc, 'a')?, Room::new(alloc, Site::new(1)?))?;
-    assert!(rt; !unknown);
+    assert!(rt; work(&rt, alloc, &ends, &mut a, &mut b, 2 * u64::from(TURNS)));
+    assert!(rt; closed_in_one_order(alloc, one, other, a, b)?);
     Ok(())
 }

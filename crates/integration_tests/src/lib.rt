@@ -1,5 +1,9 @@
-//! Tests over public calls of crates that don't see each other.
+//! Tests over public calls of several crates.
 #![tactic(auto)]
 
 #[cfg(test)]
 mod carried;
+#[cfg(test)]
+mod desks;
+#[cfg(test)]
+mod forged;
