@@ -1,23 +1,24 @@
-//! A client of `tungstenite` at a room that is served over loopback.
+//! Clients of `tungstenite` at rooms that are served over loopback.
 ghost use Rattle.std.specs.Thread.{IsSync};
 ghost use Rattle.ws_server.specs.Halls.{IsHallPassOf};
 
+use crate::gate::Gate;
 use crate::hall::{Hall, HallPass};
+use crate::hall_tests::{Free, hall_of};
 use crate::socket::serve_socket;
-use crate::socket_tests::{Free, hall_of_notes};
 use std::alloc::Global;
 use std::io;
-use std::net::{Net, SocketAddr, TcpListener, TcpStream};
+use std::net::{Net, TcpListener, TcpStream};
 use std::random::RandomSource;
 use std::sync::Wait;
 use std::test::Fail;
 use std::thread::{Threads, join};
 use tungstenite::handshake::client::request_of;
-use tungstenite::{Error, MaskKeys, Message, WebSocket, client};
+use tungstenite::{Error, Message, RandomKeys, WebSocket, client};
 
 // Bytes for the client's keys that are always the same.
 #[derive(Drop)]
-struct Constant;
+pub(crate) struct Constant;
 
 impl RandomSource for Constant {
     fn fill_bytes(&self, buf: &mut [u8]) -> io::Result<()> {
@@ -26,64 +27,65 @@ impl RandomSource for Constant {
     }
 }
 
-// Whether the text is answered by this one.
-fn asks<S: io::Read + io::Write + Drop, K: MaskKeys + Drop>(
-    alloc: Global,
-    socket: &mut WebSocket<S, K>,
-    text: &str,
-    want: &str,
-) -> bool {
-    let Ok(message) = Message::text(alloc, text) else {
-        return false;
-    };
-    if socket.send(message).is_err() {
-        return false;
+pub(crate) type Client = WebSocket<TcpStream, RandomKeys<Constant>>;
+
+// Both ends of a connection.
+#[derive(Drop)]
+pub(crate) struct Line {
+    pub(crate) served: TcpStream,
+    pub(crate) asking: TcpStream,
+}
+
+impl Line {
+    // A connection over loopback. It is there before a thread waits at an end of it, so that none waits in vain.
+    pub(crate) fn new<R: Net<Listener = TcpListener, Stream = TcpStream>>(
+        rt: &R,
+    ) -> io::Result<Line> {
+        let listener = TcpListener::bind(rt, ("127.0.0.1", 0))?;
+        let asking = TcpStream::connect(rt, listener.local_addr()?)?;
+        let (served, _) = listener.accept()?;
+        Ok(Line { served, asking })
     }
+}
+
+// The client, once the handshake is done.
+pub(crate) fn client_at(alloc: Global, stream: TcpStream) -> Option<Client> {
+    let request = request_of(alloc, "ws://localhost/").ok()?;
+    match client(alloc, Constant, request, stream) {
+        Ok((socket, _)) => Some(socket),
+        Err(_) => None,
+    }
+}
+
+// Whether the next message is this text.
+pub(crate) fn is_told(socket: &mut Client, want: &str) -> bool {
     match socket.read() {
         Ok(Message::Text(answer)) => answer.as_str() == want,
         _ => false,
     }
 }
 
-// Opens the room, joins, types a character and pulls it.
-fn types<S: io::Read + io::Write + Drop, K: MaskKeys + Drop>(
+// Whether the text, in a text or in a binary message, is answered by this one.
+pub(crate) fn asks(
     alloc: Global,
-    socket: &mut WebSocket<S, K>,
+    socket: &mut Client,
+    text: &str,
+    is_binary: bool,
+    want: &str,
 ) -> bool {
-    let mut all = true;
-    for (text, want) in [
-        ("{\"t\":\"join\"}", "{\"n\":3,\"r\":\"no\"}"),
-        (
-            "{\"t\":\"open\",\"room\":\"other\"}",
-            "{\"n\":4,\"r\":\"no\"}",
-        ),
-        ("{\"t\":\"open\",\"room\":\"notes\"}", "{\"r\":\"opened\"}"),
-        (
-            "{\"t\":\"open\",\"room\":\"notes\"}",
-            "{\"n\":3,\"r\":\"no\"}",
-        ),
-        (
-            "{\"t\":\"join\"}",
-            "{\"r\":\"joined\",\"s\":1,\"v\":0,\"x\":\"\"}",
-        ),
-        (
-            "{\"t\":\"ins\",\"s\":1,\"n\":1,\"v\":0,\"k\":0,\"x\":\"H\"}",
-            "{\"from\":0,\"r\":\"ok\",\"to\":1}",
-        ),
-        (
-            "{\"t\":\"pull\",\"s\":1,\"have\":0,\"max\":64}",
-            "{\"es\":[[\"i\",0,\"H\"]],\"from\":0,\"r\":\"edits\"}",
-        ),
-    ] {
-        all &= asks(alloc, socket, text, want);
+    let made = if is_binary {
+        Message::binary(alloc, text.as_bytes())
+    } else {
+        Message::text(alloc, text)
+    };
+    match made {
+        Ok(message) => socket.send(message).is_ok() && is_told(socket, want),
+        Err(_) => false,
     }
-    all
 }
 
 // Whether the other side answers a close.
-fn closes<S: io::Read + io::Write + Drop, K: MaskKeys + Drop>(
-    socket: &mut WebSocket<S, K>,
-) -> bool {
+pub(crate) fn closes(socket: &mut Client) -> bool {
     if socket.close(None).is_err() {
         return false;
     }
@@ -97,65 +99,144 @@ fn closes<S: io::Read + io::Write + Drop, K: MaskKeys + Drop>(
     false
 }
 
-fn comes_types_and_goes<R: Net<Listener = TcpListener, Stream = TcpStream>>(
-    rt: &R,
-    alloc: Global,
-    address: SocketAddr,
-) -> bool {
-    let Ok(stream) = TcpStream::connect(rt, address) else {
-        return false;
-    };
-    let Ok(request) = request_of(alloc, "ws://localhost/") else {
-        return false;
-    };
-    match client(alloc, Constant, request, stream) {
-        Ok((mut socket, _)) => types(alloc, &mut socket) && closes(&mut socket),
-        Err(_) => false,
-    }
+// Texts, each with whether it comes in a binary message and with what answers it.
+#[derive(Clone, Copy)]
+struct Talk {
+    lines: &'static [(&'static str, bool, &'static str)],
 }
 
-fn serves<R: Wait>(
+// Comes, is answered so, and goes.
+fn talks(alloc: Global, stream: TcpStream, talk: Talk) -> bool {
+    let Some(mut socket) = client_at(alloc, stream) else {
+        return false;
+    };
+    for (text, is_binary, want) in talk.lines {
+        if !asks(alloc, &mut socket, text, *is_binary, want) {
+            return false;
+        }
+    }
+    closes(&mut socket)
+}
+
+// Whether a connection is served to its end.
+pub(crate) fn serves<R: Wait, G: Gate>(
     rt: &R,
     alloc: Global,
     hall: &Hall,
     mut pass: HallPass,
-    listener: &TcpListener,
+    stream: TcpStream,
+    gate: &mut G,
 ) -> bool
     requires { IsHallPassOf hall.now pass }
 {
-    match listener.accept() {
-        Ok((stream, _)) => { serve_socket(rt, alloc, hall, &mut pass, stream, &mut Free) == Ok(()) }
-        Err(_) => false,
-    }
+    serve_socket(rt, alloc, hall, &mut pass, stream, gate) == Ok(())
 }
 
-fn serves_a_client<R: Net<Listener = TcpListener, Stream = TcpStream> + Threads + Wait + Sync>(
+// A client talks to the hall.
+fn serves_talk<R: Threads + Wait + Sync>(
     rt: &R,
     alloc: Global,
     hall: &Hall,
     pass: HallPass,
-    listener: &TcpListener,
-    address: SocketAddr,
+    line: Line,
+    talk: Talk,
 ) -> bool
     requires { IsHallPassOf hall.now pass }
 {
+    let Line { served, asking } = line;
     let both = join(
         rt,
         || -> bool
             requires { IsSync R.row × IsHallPassOf hall.now pass }
-        { serves(rt, alloc, hall, pass, listener) },
-        || -> bool
-            requires { IsSync R.row }
-        { comes_types_and_goes(rt, alloc, address) },
+        { serves(rt, alloc, hall, pass, served, &mut Free) },
+        || -> bool { talks(alloc, asking, talk) },
     );
     both.0 && both.1
 }
 
+pub(crate) const JOIN: &str = "{\"t\":\"join\"}";
+
+pub(crate) const OPEN: &str = "{\"t\":\"open\",\"room\":\"notes\"}";
+
+const JOINED: &str = "{\"r\":\"joined\",\"s\":1,\"v\":0,\"x\":\"\"}";
+
+const TYPE_H: &str = "{\"t\":\"ins\",\"s\":1,\"n\":1,\"v\":0,\"k\":0,\"x\":\"H\"}";
+
+const READ: &str = "{\"t\":\"read\"}";
+
+pub(crate) const OPENED: &str = "{\"r\":\"opened\"}";
+
+const UNKNOWN: &str = "{\"n\":3,\"r\":\"no\"}";
+
+// Opens a room, joins by a binary message, types a character and pulls it.
+const TYPES: Talk = Talk {
+    lines: &[
+        (JOIN, false, UNKNOWN),
+        (
+            "{\"t\":\"open\",\"room\":\"other\"}",
+            false,
+            "{\"n\":4,\"r\":\"no\"}",
+        ),
+        (OPEN, false, OPENED),
+        (OPEN, false, UNKNOWN),
+        (JOIN, true, JOINED),
+        (TYPE_H, false, "{\"from\":0,\"r\":\"ok\",\"to\":1}"),
+        (
+            "{\"t\":\"pull\",\"s\":1,\"have\":0,\"max\":64}",
+            false,
+            "{\"es\":[[\"i\",0,\"H\"]],\"from\":0,\"r\":\"edits\"}",
+        ),
+    ],
+};
+
 #[test]
 fn a_client_types_over_loopback(rt: HostRuntime) -> Result<(), Fail> {
-    let (hall, pass) = hall_of_notes(rt.alloc())?;
-    let listener = TcpListener::bind(&rt, ("127.0.0.1", 0))?;
-    let address = listener.local_addr()?;
-    assert!(rt; serves_a_client(&rt, rt.alloc(), &hall, pass, &listener, address));
+    let (hall, pass) = hall_of(rt.alloc(), &["notes"])?;
+    let line = Line::new(&rt)?;
+    assert!(rt; serves_talk(&rt, rt.alloc(), &hall, pass, line, TYPES));
+    Ok(())
+}
+
+// Types into the second of two rooms, and reads it.
+const IN_B: Talk = Talk {
+    lines: &[
+        ("{\"t\":\"open\",\"room\":\"b\"}", false, OPENED),
+        (JOIN, false, JOINED),
+        (TYPE_H, false, "{\"from\":0,\"r\":\"ok\",\"to\":1}"),
+        (READ, false, "{\"r\":\"text\",\"v\":1,\"x\":\"H\"}"),
+    ],
+};
+
+// Reads the first.
+const IN_A: Talk = Talk {
+    lines: &[
+        ("{\"t\":\"open\",\"room\":\"a\"}", false, OPENED),
+        (READ, false, "{\"r\":\"text\",\"v\":0,\"x\":\"\"}"),
+    ],
+};
+
+// A client talks to the hall through a part of the pass.
+fn serves_part<R: Net<Listener = TcpListener, Stream = TcpStream> + Threads + Wait + Sync>(
+    rt: &R,
+    alloc: Global,
+    hall: &Hall,
+    pass: &mut HallPass,
+    talk: Talk,
+) -> Result<bool, Fail>
+    requires { IsHallPassOf hall.now pass.old }
+    ensures { IsHallPassOf hall.now pass.new }
+{
+    let Ok(part) = hall.split(alloc, pass, 8) else {
+        return Err(Fail::from("draws"));
+    };
+    Ok(serves_talk(rt, alloc, hall, part, Line::new(rt)?, talk))
+}
+
+#[test]
+fn two_rooms_do_not_see_each_other(rt: HostRuntime) -> Result<(), Fail> {
+    let (hall, mut pass) = hall_of(rt.alloc(), &["a", "b"])?;
+    let is_typed = serves_part(&rt, rt.alloc(), &hall, &mut pass, IN_B)?;
+    let is_unseen = serves_part(&rt, rt.alloc(), &hall, &mut pass, IN_A)?;
+    assert!(rt; is_typed && is_unseen);
     Ok(())
 }

@@ -3,8 +3,6 @@
 #![tactic(auto)]
 
 mod carrying;
-#[cfg(test)]
-mod carrying_tests;
 mod channel;
 #[cfg(test)]
 mod client_tests;
@@ -15,7 +13,11 @@ mod fault;
 mod fixed;
 mod frame;
 mod gate;
+#[cfg(test)]
+mod gate_tests;
 mod hall;
+#[cfg(test)]
+mod hall_tests;
 #[cfg(test)]
 mod memory_tests;
 mod names;
@@ -26,9 +28,9 @@ mod requests;
 mod shared_tests;
 mod sink;
 mod socket;
-#[cfg(test)]
-mod socket_tests;
 mod source;
+#[cfg(test)]
+mod stream_tests;
 mod taking;
 #[cfg(test)]
 mod tests;
@@ -49,7 +51,7 @@ pub use protocol::Protocol;
 pub use reply_line::ReplyLine;
 pub use requests::Requests;
 pub use sink::Sink;
-pub use socket::{serve_channel, serve_one, serve_socket};
+pub use socket::{serve_one, serve_socket};
 pub use source::Source;
 pub use taking::{FirstLine, first_line, whole_input};
 pub use through_pass::serve_through_pass;

@@ -1,11 +1,15 @@
-//! Lines that lack memory, each served by an engine of its own over one desk. These tests pass whatever allocation is refused:
-//! `bin/refused_memory` refuses each of them in turn.
+//! Lines that lack memory, each served by an engine of its own over one desk, and a connection that does. These tests pass
+//! whatever allocation is refused: `bin/refused_memory` refuses each of them in turn.
 use crate::counted::Counted;
 use crate::engine::serve_lines;
 use crate::fault::ServeFault;
+use crate::hall_tests::{Free, hall_of};
+use crate::socket::serve_socket;
+use crate::stream_tests::{CLOSE, HEAD, OPEN, Record, Script};
 use opid::Site;
 use room::{Room, RoomDesk};
 use std::alloc::Global;
+use std::sync::Wait;
 use std::test::Fail;
 
 // More bytes than any answer here has.
@@ -176,5 +180,31 @@ fn operations_that_are_refused(rt: HostRuntime) -> std::result::Result<(), Fail>
         ],
     )?;
     assert!(rt; all);
+    Ok(())
+}
+
+// How a connection ends that opens a room of a hall of its own, and closes. Where the hall finds no memory, so does it.
+fn come_and_go<R: Wait>(rt: &R, alloc: Global) -> std::result::Result<(), ServeFault> {
+    let Ok((hall, mut pass)) = hall_of(alloc, &["notes"]) else {
+        return Err(ServeFault::Memory);
+    };
+    let parts = [HEAD, OPEN, CLOSE];
+    let record = Record::new(0);
+    let stream = Script {
+        parts: &parts,
+        record: &record,
+    };
+    serve_socket(rt, alloc, &hall, &mut pass, stream, &mut Free)
+}
+
+// Where memory was wanting, from the handshake on, a second connection finds it. Where it was wanting for a field of the head,
+// `tungstenite` takes the head for a wrong one, and so that ends with `Read`.
+#[test]
+fn a_connection(rt: HostRuntime) -> std::result::Result<(), Fail> {
+    let mut end = come_and_go(&rt, rt.alloc());
+    if matches!(&end, Err(ServeFault::Memory | ServeFault::Read)) {
+        end = come_and_go(&rt, rt.alloc());
+    }
+    assert!(rt; end == Ok(()));
     Ok(())
 }

@@ -1,5 +1,4 @@
 //! A room that threads share: lines through a pass that is lent.
-ghost use Rattle.std.specs.Prelude.{IfOk};
 ghost use Rattle.shared_room.specs.Views.{IsPassOf};
 
 use crate::counted::Counted;
@@ -11,12 +10,6 @@ use shared_room::{Pass, SharedRoom};
 use std::alloc::Global;
 use std::sync::Wait;
 use std::test::Fail;
-
-fn shared(alloc: Global, site: u8) -> Result<(SharedRoom, Pass), Fail>
-    ensures { IfOk result (λ r. IsPassOf r.0 r.1) }
-{
-    Ok(SharedRoom::new(alloc, Room::new(alloc, Site::new(site)?))?)
-}
 
 // Serves two lines that join.
 fn joins_once<R: Wait>(rt: &R, alloc: Global, room: &SharedRoom, pass: &mut Pass) -> bool
@@ -32,7 +25,7 @@ fn joins_once<R: Wait>(rt: &R, alloc: Global, room: &SharedRoom, pass: &mut Pass
 #[test]
 fn one_draw_answers_one_line(rt: HostRuntime) -> Result<(), Fail> {
     let alloc = rt.alloc();
-    let (room, mut pass) = shared(alloc, 0)?;
+    let (room, mut pass) = SharedRoom::new(alloc, Room::new(alloc, Site::new(0)?))?;
     let Ok(mut one) = room.split(&mut pass, 1) else {
         return Err(Fail::from("draws"));
     };

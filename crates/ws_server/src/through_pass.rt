@@ -18,7 +18,8 @@ use std::alloc::Global;
 use std::sync::Wait;
 
 /// Serves requests to the input's end, as `serve_lines` does, each call at its turn of the shared room, through the pass. So
-/// the answers to the lines are replies in one legal history, one call after another. Waits for its turn of the room.
+/// the answers to the calls are replies in one legal history, one call after another; once the pass has no draw left, each
+/// further call is answered by 25. Waits for its turn of the room.
 pub fn serve_through_pass<H: Wait, R: Source, W: Sink>(
     rt: &H,
     alloc: Global,

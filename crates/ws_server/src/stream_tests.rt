@@ -1,30 +1,24 @@
-//! Connections over streams that are known: two at once, and one whose calls fail in turn.
-ghost use Rattle.std.specs.Prelude.{IfOk};
-ghost use Rattle.std.specs.Thread.{IsSync};
+//! A connection over a stream each of whose calls fails in turn.
 ghost use Rattle.ws_server.specs.Halls.{IsHallPassOf, IsConnOf};
 
 use crate::conn::Conn;
 use crate::fault::ServeFault;
 use crate::frame::answer_frame;
-use crate::gate::Gate;
 use crate::hall::{Hall, HallPass};
+use crate::hall_tests::{Free, hall_of};
 use crate::socket::serve_socket;
-use opid::Site;
 use std::alloc::Global;
 use std::cell::Cell;
 use std::io;
 use std::io::{Error, ErrorKind, Read, Write};
 use std::sync::Wait;
-use std::sync::atomic::{AtomicU64, Ordering};
 use std::test::Fail;
-use std::thread::{Threads, join, sleep};
-use std::time::{Clock, Duration};
 
 // What a client sends: a head with the key of RFC 6455's example, and then frames, whose masks are zero.
-const HEAD: &[u8] =
+pub(crate) const HEAD: &[u8] =
     b"GET / HTTP/1.1\r\nHost: here\r\nUpgrade: websocket\r\nConnection: Upgrade\r\nSec-WebSocket-Key: dGhlIHNhbXBsZSBub25jZQ==\r\nSec-WebSocket-Version: 13\r\n\r\n";
 
-const OPEN: &[u8] = b"\x81\x9b\0\0\0\0{\"t\":\"open\",\"room\":\"notes\"}";
+pub(crate) const OPEN: &[u8] = b"\x81\x9b\0\0\0\0{\"t\":\"open\",\"room\":\"notes\"}";
 
 const JOIN: &[u8] = b"\x81\x8c\0\0\0\0{\"t\":\"join\"}";
 
@@ -34,11 +28,11 @@ const TYPE_A: &[u8] =
 const TYPE_B: &[u8] =
     b"\x81\xab\0\0\0\0{\"t\":\"ins\",\"s\":1,\"n\":2,\"v\":0,\"k\":0,\"x\":\"b\"}";
 
-const CLOSE: &[u8] = b"\x88\x80\0\0\0\0";
+pub(crate) const CLOSE: &[u8] = b"\x88\x80\0\0\0\0";
 
 // How often a stream was called, how many of its parts it gave, which call fails, from 1 on, and how that has to be told.
 #[derive(Drop)]
-struct Record {
+pub(crate) struct Record {
     calls: Cell<usize>,
     given: Cell<usize>,
     fails_at: usize,
@@ -46,7 +40,7 @@ struct Record {
 }
 
 impl Record {
-    fn new(fails_at: usize) -> Record {
+    pub(crate) fn new(fails_at: usize) -> Record {
         Record {
             calls: Cell::new(0),
             given: Cell::new(0),
@@ -77,9 +71,9 @@ impl Record {
 
 // Gives a part at each read, and takes whatever is written.
 #[derive(Drop)]
-struct Script<'a> {
-    parts: &'a [&'a [u8]],
-    record: &'a Record,
+pub(crate) struct Script<'a> {
+    pub(crate) parts: &'a [&'a [u8]],
+    pub(crate) record: &'a Record,
 }
 
 impl Read for Script<'_> {
@@ -105,29 +99,6 @@ impl Write for Script<'_> {
     fn flush(&mut self) -> io::Result<()> {
         self.record.call(self.record.fault_of_write())
     }
-}
-
-// A gate that lets everything pass.
-#[derive(Drop)]
-pub(crate) struct Free;
-
-impl Gate for Free {
-    ghost told_before = { λ _ _ _. Unit {0} };
-
-    ghost told_after = { λ _ _ _. Unit {0} };
-
-    fn before(&mut self, _n: u64) {}
-
-    fn after(&mut self, _n: u64) {}
-}
-
-pub(crate) fn hall_of_notes(alloc: Global) -> Result<(Hall, HallPass), Fail>
-    ensures { IfOk result (λ r. IsHallPassOf r.0 r.1) }
-{
-    let site = Site::new(0)?;
-    let mut names = Vec::new(alloc);
-    names.push(String::from_str(alloc, "notes")?)?;
-    Ok(Hall::new(alloc, site, &names)?)
 }
 
 // Whether a message has this answer.
@@ -215,7 +186,7 @@ fn ends_as_told_anew<R: Wait>(
     alloc: Global,
     fails_at: usize,
 ) -> Result<Option<bool>, Fail> {
-    let (hall, mut pass) = hall_of_notes(alloc)?;
+    let (hall, mut pass) = hall_of(alloc, &["notes"])?;
     Ok(ends_as_told(rt, alloc, &hall, &mut pass, fails_at))
 }
 
@@ -231,177 +202,5 @@ fn each_call_of_a_stream_fails(rt: HostRuntime) -> Result<(), Fail> {
         }
     }
     assert!(rt; all && failed > 11 && failed < 99);
-    Ok(())
-}
-
-// Holds its connection's first call until the other's first was answered, for at most 1,000,000 turns.
-#[derive(Drop)]
-struct Holding<'a, R: Clock> {
-    rt: &'a R,
-    answered: &'a AtomicU64,
-    gave_up: bool,
-}
-
-impl<R: Clock> Gate for Holding<'_, R> {
-    ghost told_before = { λ _ _ _. Unit {0} };
-
-    ghost told_after = { λ _ _ _. Unit {0} };
-
-    fn before(&mut self, n: u64) {
-        if n != 1 {
-            return;
-        }
-        for _ in 0..1_000_000 {
-            if self.answered.load(Ordering::SeqCst) > 0 {
-                return;
-            }
-            sleep(self.rt, Duration::from_micros(10));
-        }
-        self.gave_up = true;
-    }
-
-    fn after(&mut self, _n: u64) {}
-}
-
-// Tells that a call was answered.
-#[derive(Drop)]
-struct Telling<'a> {
-    answered: &'a AtomicU64,
-}
-
-impl Gate for Telling<'_> {
-    ghost told_before = { λ _ _ _. Unit {0} };
-
-    ghost told_after = { λ _ _ _. Unit {0} };
-
-    fn before(&mut self, _n: u64) {}
-
-    fn after(&mut self, n: u64) {
-        self.answered.store(n, Ordering::SeqCst);
-    }
-}
-
-// A connection that opens the room, joins and closes.
-fn comes_and_goes<R: Wait, G: Gate>(
-    rt: &R,
-    alloc: Global,
-    hall: &Hall,
-    mut pass: HallPass,
-    gate: &mut G,
-) -> bool
-    requires { IsHallPassOf hall.now pass }
-{
-    let parts = [HEAD, OPEN, JOIN, CLOSE];
-    let record = Record::new(0);
-    let stream = Script {
-        parts: &parts,
-        record: &record,
-    };
-    serve_socket(rt, alloc, hall, &mut pass, stream, gate).is_ok()
-}
-
-fn is_held<R: Wait + Clock>(
-    rt: &R,
-    alloc: Global,
-    hall: &Hall,
-    pass: HallPass,
-    answered: &AtomicU64,
-) -> bool
-    requires { IsHallPassOf hall.now pass }
-{
-    let mut gate = Holding {
-        rt,
-        answered,
-        gave_up: false,
-    };
-    comes_and_goes(rt, alloc, hall, pass, &mut gate) && !gate.gave_up
-}
-
-fn is_answered<R: Wait>(
-    rt: &R,
-    alloc: Global,
-    hall: &Hall,
-    pass: HallPass,
-    answered: &AtomicU64,
-) -> bool
-    requires { IsHallPassOf hall.now pass }
-{
-    comes_and_goes(rt, alloc, hall, pass, &mut Telling { answered })
-}
-
-// The first of two connections is held.
-fn first_is_held<R: Threads + Wait + Clock + Sync>(
-    rt: &R,
-    alloc: Global,
-    hall: &Hall,
-    first: HallPass,
-    second: HallPass,
-) -> (bool, bool)
-    requires { IsHallPassOf hall.now first × IsHallPassOf hall.now second }
-{
-    let answered = AtomicU64::new(0);
-    join(
-        rt,
-        || -> bool
-            requires { IsSync R.row × IsHallPassOf hall.now first }
-        { is_held(rt, alloc, hall, first, &answered) },
-        || -> bool
-            requires { IsSync R.row × IsHallPassOf hall.now second }
-        { is_answered(rt, alloc, hall, second, &answered) },
-    )
-}
-
-// The second of two connections is held.
-fn second_is_held<R: Threads + Wait + Clock + Sync>(
-    rt: &R,
-    alloc: Global,
-    hall: &Hall,
-    first: HallPass,
-    second: HallPass,
-) -> (bool, bool)
-    requires { IsHallPassOf hall.now first × IsHallPassOf hall.now second }
-{
-    let answered = AtomicU64::new(0);
-    join(
-        rt,
-        || -> bool
-            requires { IsSync R.row × IsHallPassOf hall.now first }
-        { is_answered(rt, alloc, hall, first, &answered) },
-        || -> bool
-            requires { IsSync R.row × IsHallPassOf hall.now second }
-        { is_held(rt, alloc, hall, second, &answered) },
-    )
-}
-
-fn serve_two<R: Threads + Wait + Clock + Sync>(
-    rt: &R,
-    alloc: Global,
-    hall: &Hall,
-    pass: &mut HallPass,
-    is_first_held: bool,
-) -> bool
-    requires { IsHallPassOf hall.now pass.old }
-    ensures { IsHallPassOf hall.now pass.new }
-{
-    let Ok(first) = hall.split(alloc, pass, 8) else {
-        return false;
-    };
-    let Ok(second) = hall.split(alloc, pass, 8) else {
-        return false;
-    };
-    let both = if is_first_held {
-        first_is_held(rt, alloc, hall, first, second)
-    } else {
-        second_is_held(rt, alloc, hall, first, second)
-    };
-    both.0 && both.1
-}
-
-#[test]
-fn a_held_connection_holds_up_no_other(rt: HostRuntime) -> Result<(), Fail> {
-    let (hall, mut pass) = hall_of_notes(rt.alloc())?;
-    let all = serve_two(&rt, rt.alloc(), &hall, &mut pass, true)
-        && serve_two(&rt, rt.alloc(), &hall, &mut pass, false);
-    assert!(rt; all);
     Ok(())
 }

@@ -1,0 +1,36 @@
+//! What the tests of connections share: a hall, and a gate that lets everything pass.
+ghost use Rattle.std.specs.Prelude.{IfOk};
+ghost use Rattle.ws_server.specs.Halls.{IsHallPassOf};
+
+use crate::gate::Gate;
+use crate::hall::{Hall, HallPass};
+use opid::Site;
+use std::alloc::{AllocError, Global};
+
+// A hall of site 0 with rooms of these names.
+pub(crate) fn hall_of(alloc: Global, names: &[&str]) -> Result<(Hall, HallPass), AllocError>
+    ensures { IfOk result (λ r. IsHallPassOf r.0 r.1) }
+{
+    let Ok(site) = Site::new(0) else {
+        return Err(AllocError);
+    };
+    let mut owned = Vec::new(alloc);
+    for name in names {
+        owned.push(String::from_str(alloc, name)?)?;
+    }
+    Hall::new(alloc, site, &owned)
+}
+
+// A gate that lets everything pass.
+#[derive(Drop)]
+pub(crate) struct Free;
+
+impl Gate for Free {
+    ghost told_before = { λ _ _ _. Unit {0} };
+
+    ghost told_after = { λ _ _ _. Unit {0} };
+
+    fn before(&mut self, _n: u64) {}
+
+    fn after(&mut self, _n: u64) {}
+}
