@@ -1,9 +1,24 @@
-//! Tests over public calls of several crates.
+//! Tests of the line engine, of the server and of rooms that carry to each other, over public calls of several crates. They stand
+//! apart from those crates, which would be proved once more for tests of their own.
 #![tactic(auto)]
 
 #[cfg(test)]
 mod carried;
 #[cfg(test)]
+mod clients;
+#[cfg(test)]
 mod desks;
 #[cfg(test)]
 mod forged;
+#[cfg(test)]
+mod gates;
+#[cfg(test)]
+mod halls;
+#[cfg(test)]
+mod lines;
+#[cfg(test)]
+mod memory;
+#[cfg(test)]
+mod passes;
+#[cfg(test)]
+mod streams;

@@ -8,6 +8,3 @@ mod next;
 
 pub use deletions::delete_ops;
 pub use insertions::insert_ops;
-
-#[cfg(test)]
-mod tests;

@@ -11,8 +11,6 @@ mod places;
 mod replica;
 mod settle;
 mod submissions;
-#[cfg(test)]
-mod tests;
 
 pub use delivery::Delivery;
 pub use replica::Replica;

@@ -25,16 +25,3 @@ pub use owned::RoomDesk;
 pub use reply::Reply;
 pub use room::Room;
 pub use versions::Characters;
-
-#[cfg(test)]
-mod client;
-#[cfg(test)]
-mod exchanged;
-#[cfg(test)]
-mod fixtures;
-#[cfg(test)]
-mod followed;
-#[cfg(test)]
-mod limits;
-#[cfg(test)]
-mod tests;

@@ -4,8 +4,6 @@
 
 mod carrying;
 mod channel;
-#[cfg(test)]
-mod client_tests;
 mod conn;
 mod counted;
 mod engine;
@@ -13,27 +11,15 @@ mod fault;
 mod fixed;
 mod frame;
 mod gate;
-#[cfg(test)]
-mod gate_tests;
 mod hall;
-#[cfg(test)]
-mod hall_tests;
-#[cfg(test)]
-mod memory_tests;
 mod names;
 mod protocol;
 mod reply_line;
 mod requests;
-#[cfg(test)]
-mod shared_tests;
 mod sink;
 mod socket;
 mod source;
-#[cfg(test)]
-mod stream_tests;
 mod taking;
-#[cfg(test)]
-mod tests;
 mod through_pass;
 mod window;
 

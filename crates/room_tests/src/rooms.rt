@@ -4,8 +4,8 @@ ghost use Rattle.room.specs.History.{mark};
 
 use crate::client::shows;
 use crate::fixtures::{accepts, empty_desk, empty_room, insertion, reads, refuses};
-use crate::{Call, Characters, Desk, Editor, Reply, Room, RoomDesk};
 use opid::{Edit, Refusal};
+use room::{Call, Characters, Desk, Editor, Reply, Room, RoomDesk};
 use std::alloc::Global;
 use std::test::Fail;
 

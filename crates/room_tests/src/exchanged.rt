@@ -1,8 +1,8 @@
 //! Rooms of three sites that exchange their operations, which come late, doubled and out of order.
 use crate::client::Client;
 use crate::fixtures::{Numbers, empty_desk, reads};
-use crate::{Call, Characters, Desk, Operations, Outcome, Reply, RoomDesk};
 use causal_clock::Op;
+use room::{Call, Characters, Desk, Operations, Outcome, Reply, RoomDesk};
 use std::alloc::Global;
 use std::test::Fail;
 

@@ -2,12 +2,8 @@
 ghost use Rattle.std.specs.Thread.{IsSync};
 ghost use Rattle.ws_server.specs.Halls.{IsHallPassOf};
 
-use crate::client_tests::{
-    Client, JOIN, Line, OPEN, OPENED, asks, client_at, closes, is_told, serves,
-};
-use crate::gate::Gate;
-use crate::hall::{Hall, HallPass};
-use crate::hall_tests::hall_of;
+use crate::clients::{Client, JOIN, Line, OPEN, OPENED, asks, client_at, closes, is_told, serves};
+use crate::halls::hall_of;
 use std::alloc::Global;
 use std::net::{Net, TcpListener, TcpStream};
 use std::sync::Wait;
@@ -16,6 +12,7 @@ use std::test::Fail;
 use std::thread::{Threads, join, sleep};
 use std::time::{Clock, Duration};
 use tungstenite::Message;
+use ws_server::{Gate, Hall, HallPass};
 
 // Holds its connection's first call until the other's first was answered, for at most 1,000,000 turns.
 #[derive(Drop)]

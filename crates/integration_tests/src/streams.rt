@@ -1,18 +1,14 @@
 //! A connection over a stream each of whose calls fails in turn.
 ghost use Rattle.ws_server.specs.Halls.{IsHallPassOf, IsConnOf};
 
-use crate::conn::Conn;
-use crate::fault::ServeFault;
-use crate::frame::answer_frame;
-use crate::hall::{Hall, HallPass};
-use crate::hall_tests::{Free, hall_of};
-use crate::socket::serve_socket;
+use crate::halls::{Free, hall_of};
 use std::alloc::Global;
 use std::cell::Cell;
 use std::io;
 use std::io::{Error, ErrorKind, Read, Write};
 use std::sync::Wait;
 use std::test::Fail;
+use ws_server::{Conn, Hall, HallPass, ServeFault, answer_frame, serve_socket};
 
 // What a client sends: a head with the key of RFC 6455's example, and then frames, whose masks are zero.
 pub(crate) const HEAD: &[u8] =

@@ -1,16 +1,13 @@
 //! Lines that lack memory, each served by an engine of its own over one desk, and a connection that does. These tests pass
 //! whatever allocation is refused: `bin/refused_memory` refuses each of them in turn.
-use crate::counted::Counted;
-use crate::engine::serve_lines;
-use crate::fault::ServeFault;
-use crate::hall_tests::{Free, hall_of};
-use crate::socket::serve_socket;
-use crate::stream_tests::{CLOSE, HEAD, OPEN, Record, Script};
+use crate::halls::{Free, hall_of};
+use crate::streams::{CLOSE, HEAD, OPEN, Record, Script};
 use opid::Site;
 use room::{Room, RoomDesk};
 use std::alloc::Global;
 use std::sync::Wait;
 use std::test::Fail;
+use ws_server::{Counted, ServeFault, serve_lines, serve_socket};
 
 // More bytes than any answer here has.
 const MOST: usize = 256;

@@ -1,9 +1,9 @@
 //! Operations asked for by places, against worked values, and each refusal beside what is just accepted.
 ghost use Rattle.std.specs.Prelude.{◌<◌};
 
-use crate::{delete_ops, insert_ops};
 use causal_clock::{Clock, Op};
 use opid::{OpKind, Refusal, Site, Stamp};
+use position_translate::{delete_ops, insert_ops};
 use std::alloc::Global;
 use std::process::Abort;
 use std::test::Fail;

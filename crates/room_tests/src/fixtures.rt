@@ -1,8 +1,8 @@
 //! What tests share: desks over empty rooms, calls, and a fixed generator of numbers.
 ghost use Rattle.std.specs.Prelude.{◌≡◌, [], IfOk};
 
-use crate::{Call, Characters, Desk, Reply, Room, RoomDesk};
 use opid::{Refusal, Site};
+use room::{Call, Characters, Desk, Reply, Room, RoomDesk};
 use std::alloc::Global;
 use std::test::Fail;
 

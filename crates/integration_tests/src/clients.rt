@@ -2,10 +2,7 @@
 ghost use Rattle.std.specs.Thread.{IsSync};
 ghost use Rattle.ws_server.specs.Halls.{IsHallPassOf};
 
-use crate::gate::Gate;
-use crate::hall::{Hall, HallPass};
-use crate::hall_tests::{Free, hall_of};
-use crate::socket::serve_socket;
+use crate::halls::{Free, hall_of};
 use std::alloc::Global;
 use std::io;
 use std::net::{Net, TcpListener, TcpStream};
@@ -15,6 +12,7 @@ use std::test::Fail;
 use std::thread::{Threads, join};
 use tungstenite::handshake::client::request_of;
 use tungstenite::{Error, Message, RandomKeys, WebSocket, client};
+use ws_server::{Gate, Hall, HallPass, serve_socket};
 
 // Bytes for the client's keys that are always the same.
 #[derive(Drop)]

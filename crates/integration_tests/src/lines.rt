@@ -1,13 +1,11 @@
 //! The engine over a room, and over readers and writers that give little at a time, or fail.
-use crate::counted::Counted;
-use crate::engine::serve_lines;
-use crate::fault::ServeFault;
 use opid::Site;
 use room::{Room, RoomDesk};
 use std::alloc::Global;
 use std::cell::Cell;
 use std::io::{Error, ErrorKind, Read, Result, Write};
 use std::test::Fail;
+use ws_server::{Counted, ServeFault, serve_lines};
 
 // Gives at most `step` bytes a read, counts the reads, and fails at the read number `fails_at`, from 1 on.
 #[derive(Drop)]

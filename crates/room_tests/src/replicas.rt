@@ -1,8 +1,8 @@
 //! The worked cases of submissions and deliveries. Each case borrows its replica, since it would be dropped at each early
 //! return, which takes long to prove.
-use crate::{Delivery, Replica};
 use causal_clock::{Clock, Op};
 use opid::{OpKind, Refusal, Site, Stamp};
+use replica::{Delivery, Replica};
 use std::alloc::Global;
 use std::process::Abort;
 use std::test::Fail;

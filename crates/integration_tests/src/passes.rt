@@ -1,15 +1,14 @@
 //! A room that threads share: lines through a pass that is lent.
 ghost use Rattle.shared_room.specs.Views.{IsPassOf};
 
-use crate::counted::Counted;
-use crate::tests::{short_writer, slow_reader};
-use crate::through_pass::serve_through_pass;
+use crate::lines::{short_writer, slow_reader};
 use opid::Site;
 use room::Room;
 use shared_room::{Pass, SharedRoom};
 use std::alloc::Global;
 use std::sync::Wait;
 use std::test::Fail;
+use ws_server::{Counted, serve_through_pass};
 
 // Serves two lines that join.
 fn joins_once<R: Wait>(rt: &R, alloc: Global, room: &SharedRoom, pass: &mut Pass) -> bool

@@ -2,10 +2,9 @@
 ghost use Rattle.std.specs.Prelude.{IfOk};
 ghost use Rattle.ws_server.specs.Halls.{IsHallPassOf};
 
-use crate::gate::Gate;
-use crate::hall::{Hall, HallPass};
 use opid::Site;
 use std::alloc::{AllocError, Global};
+use ws_server::{Gate, Hall, HallPass};
 
 // A hall of site 0 with rooms of these names.
 pub(crate) fn hall_of(alloc: Global, names: &[&str]) -> Result<(Hall, HallPass), AllocError>

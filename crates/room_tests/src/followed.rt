@@ -1,7 +1,7 @@
 //! Many editors of one room, which are given their replies late, doubled and out of order.
 use crate::client::Client;
 use crate::fixtures::{Numbers, empty_desk};
-use crate::{Call, Characters, Desk, Reply, RoomDesk};
+use room::{Call, Characters, Desk, Reply, RoomDesk};
 use std::alloc::Global;
 use std::test::Fail;
 

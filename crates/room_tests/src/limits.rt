@@ -1,8 +1,8 @@
 //! Operations from elsewhere up to the limits: of a `put`, of what waits for its causal past, and of the log.
 use crate::fixtures::{empty_desk, refuses};
-use crate::{Call, Desk, Operations, Outcome, Reply, RoomDesk};
 use causal_clock::{Clock, Op};
 use opid::{OpKind, Refusal, Site};
+use room::{Call, Desk, Operations, Outcome, Reply, RoomDesk};
 use std::alloc::Global;
 use std::test::Fail;
 

@@ -1,6 +1,6 @@
 //! A client of a room, for tests: an editor and its session.
 use crate::fixtures::Numbers;
-use crate::{Call, Characters, Desk, Editor, Reply, RoomDesk};
+use room::{Call, Characters, Desk, Editor, Reply, RoomDesk};
 use std::alloc::Global;
 use std::test::Fail;
 
