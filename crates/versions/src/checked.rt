@@ -53,3 +53,20 @@ pub(crate) fn element_at(doc: &Doc, version: u32, place: usize) -> Option<Stamp>
     }
     doc.element_at(version, place)
 }
+
+/// How many UTF-16 units the version has, if there is that version.
+pub(crate) fn units_at(doc: &Doc, version: u32) -> Option<usize> {
+    if version > doc.version() {
+        return None;
+    }
+    Some(doc.units_at(version))
+}
+
+/// The stamp of the element that has the unit at the place of the version, and 1 where it is the second of a pair, if there
+/// is one.
+pub(crate) fn unit_at(doc: &Doc, version: u32, place: usize) -> Option<(Stamp, u8)> {
+    if version > doc.version() {
+        return None;
+    }
+    doc.unit_at(version, place)
+}

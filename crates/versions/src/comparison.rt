@@ -2,13 +2,13 @@
 //! asks borrows the documents, since what a function owns costs its proof at each step.)
 ghost use Rattle.std.specs.Prelude.{◌<◌};
 
-use crate::checked::{edit_at, element_at, integrate, len_at, next_op, op_at};
+use crate::checked::{edit_at, element_at, integrate, len_at, next_op, op_at, unit_at, units_at};
 use crate::lives::Lives;
 use crate::plain::{Insertion, Plain, edit_of};
 use crate::{Characters, Doc};
 use causal_clock::Clock;
 use opid::{OpKind, Refusal, Site, Stamp};
-use std::alloc::Global;
+use std::alloc::{AllocError, Global};
 use std::test::Fail;
 
 const MANY: u32 = 2_000;
@@ -138,6 +138,39 @@ fn shows(doc: &Doc, version: u32, visible: &[Insertion], dice: &mut Dice) -> Res
     Ok(true)
 }
 
+/// The UTF-16 units of these elements, in order: the stamp of each, and 1 for the second of a pair, else 0.
+fn units_of(alloc: Global, visible: &[Insertion]) -> Result<Vec<(Stamp, u8)>, AllocError> {
+    let mut units = Vec::new(alloc);
+    for x in visible {
+        units.push((x.stamp, 0))?;
+        if x.ch > '\u{FFFF}' {
+            units.push((x.stamp, 1))?;
+        }
+    }
+    Ok(units)
+}
+
+/// Whether the version shows these elements in UTF-16 units: how many there are, and those at some places.
+fn has_units(
+    alloc: Global,
+    doc: &Doc,
+    version: u32,
+    visible: &[Insertion],
+    dice: &mut Dice,
+) -> Result<bool, AllocError> {
+    let units = units_of(alloc, visible)?;
+    if units_at(doc, version) != Some(units.len()) {
+        return Ok(false);
+    }
+    for _ in 0..16 {
+        let place = dice.roll(units.len().saturating_add(1));
+        if unit_at(doc, version, place) != units.get(place).copied() {
+            return Ok(false);
+        }
+    }
+    Ok(true)
+}
+
 /// Whether the operation made the edit and the version that the plain program has after it; and what that one shows.
 fn is_next(
     alloc: Global,
@@ -152,7 +185,9 @@ fn is_next(
     let after = plain.visible(alloc)?;
     let next = version.saturating_add(1);
     let edit = edit_of(op.stamp(), op.kind(), before, &after);
-    let all = edit_at(doc, next) == Some(edit) && shows(doc, next, &after, dice)?;
+    let all = edit_at(doc, next) == Some(edit)
+        && shows(doc, next, &after, dice)?
+        && has_units(alloc, doc, next, &after, dice)?;
     Ok((all, after))
 }
 

@@ -1,10 +1,11 @@
 //! A document and its versions.
 ghost use Rattle.std.specs.Prelude.{◌≡◌, ◌≤◌, ◌<◌, ◌+◌, ◌-◌, ◌⊎◌, ◌++◌, ◌==◌, ℕ, [], ◌∷◌, Some, None, true, List, length, max, slice_get};
-ghost use Rattle.std.specs.Prelude.{option_map, take, drop, sum, IfOk, IfErr, OnOk, OnErr, IsErr, vec_len, vec_capacity};
+ghost use Rattle.std.specs.Prelude.{option_map, take, drop, sum, if◌then◌else◌, IfOk, IfErr, OnOk, OnErr, IsErr, vec_len, vec_capacity};
+ghost use Rattle.std.specs.Char.Utf16.{is_low_surrogate};
 ghost use Rattle.opid.specs.declared.refusal.Refusal.TheVariants.{BadVersion, Memory};
 ghost use Rattle.opid.specs.Operations.{Operation};
 ghost use Rattle.opid.specs.Delivery.{clock_of, is_ready};
-ghost use Rattle.opid.specs.Reading.{visible_at, reading, reading_at};
+ghost use Rattle.opid.specs.Reading.{visible_at, visible_in_at, reading, reading_at};
 ghost use Rattle.opid.specs.Lawful.{IsLawful, IsRisingAt};
 ghost use Rattle.opid.specs.Splice.{apply};
 ghost use Rattle.opid.specs.Edits.{edit_after, edits};
@@ -221,6 +222,29 @@ impl Doc {
         match self.tree.find(version as usize, place, &mut steps) {
             None => None,
             Some(elem) => Some(self.list.get(elem).0),
+        }
+    }
+
+    /// How many UTF-16 units the characters of the version have. Constant time.
+    pub fn units_at(&self, version: u32) -> usize
+        requires { version ≤ length self.now.log }
+        ensures { result ≡ length (visible_in_at true self.now.log version) }
+    {
+        self.tree.units(version as usize)
+    }
+
+    /// The stamp of the element that has the unit at the place in the version, if that is so long, and 1 where the unit is the
+    /// second of a pair, else 0. A place counts UTF-16 units. Takes logarithmic steps, and no memory.
+    pub fn unit_at(&self, version: u32, place: usize) -> Option<(Stamp, u8)>
+        requires { version ≤ length self.now.log }
+        ensures { result ≡ option_map (λ x. (x.stamp, if is_low_surrogate x.ch then 1 else 0))
+            (slice_get (visible_in_at true self.now.log version) place) }
+    {
+        let mut steps = Steps::new();
+        prove!(self.list.len() <= LIMIT);
+        match self.tree.find_units(version as usize, place, &mut steps) {
+            None => None,
+            Some((elem, second)) => Some((self.list.get(elem).0, second)),
         }
     }
 
