@@ -28,7 +28,8 @@ number_back n h = rw (lt-ltb n (2 ^ 32) h) refl
 two_back : (m n : ℕ) → m < 2 ^ 32 → n < 2 ^ 32 → pair_of (two_data m n) ≡ Ok (m, n)
 two_back m n h k = rw (lt-ltb m (2 ^ 32) h) (rw (lt-ltb n (2 ^ 32) k) refl)
 
-pairs_back : (ps : List (ℕ × ℕ)) → Each (λ p. (p.0 < 2 ^ 32) × (p.1 < 2 ^ 32)) ps → each pair_of (items_in (each_data pair_data ps)) ≡ Ok ps
+pub pairs_back : (ps : List (ℕ × ℕ)) → Each (λ p. (p.0 < 2 ^ 32) × (p.1 < 2 ^ 32)) ps
+    → each pair_of (items_in (each_data pair_data ps)) ≡ Ok ps
 pairs_back [] h = refl
 pairs_back (p ∷ ps) h = step (pairs_back ps h.1)
   where
@@ -40,16 +41,16 @@ pairs_back (p ∷ ps) h = step (pairs_back ps h.1)
 stamp_back : (s : Stamp) → IsStampInRange s → stamp_told (stamp_data s) ≡ Ok s
 stamp_back s h = ap (λ r. r >>= λ p. Ok (record { sum = p.0; site = p.1 })) (two_back s.sum s.site h.0 (omega (arith, h.1)))
 
-parent_back : (s : Stamp) → IsStampInRange s → parent_of (stamp_data s) ≡ Ok (Some s)
+pub parent_back : (s : Stamp) → IsStampInRange s → parent_of (stamp_data s) ≡ Ok (Some s)
 parent_back s h = ap (λ r. r >>= λ p. Ok (Some p)) (stamp_back s h)
 
 char_back : (c : ℕ) → IsTrue (all_scalars (c ∷ [])) → only_char (encode_utf8_all (c ∷ [])) ≡ Some c
 char_back c h = rw (chars-encodes (c ∷ []) h) refl
 
-abbrev offer_with : ℕ → List ℕ → OpKind → Offer
+abbrev pub offer_with : ℕ → List ℕ → OpKind → Offer
 offer_with s clock kind = record { site = s; pairs = pairs_of clock; kind = kind }
 
-offer_back : (s : ℕ) (clock : List ℕ) (kind : OpKind) → s < 32 → IsClock clock → IsKindInRange kind
+pub offer_back : (s : ℕ) (clock : List ℕ) (kind : OpKind) → s < 32 → IsClock clock → IsKindInRange kind
     → offer_of (op_data_of s clock kind) ≡ Ok (offer_with s clock kind)
 offer_back s clock (Ins None c) h k r =
     rw (pairs_back (pairs_of clock) (pairs_small clock k)) (rw (lt-ltb s (2 ^ 32) (omega arith)) (rw (chars-encodes (c ∷ []) r) refl))
@@ -82,7 +83,7 @@ sited_kind_back (Del t) r = ap (λ m. (m >>= λ n. Ok (record { sum = t.sum; sit
 abbrev sited_with : ℕ → List (ℕ × ℕ) → OpKind → Result Offer Refusal
 sited_with s ps kind = Ok (record { site = s; pairs = ps; kind = kind })
 
-sited_back : (s : ℕ) (clock : List ℕ) (kind : OpKind) → s < 32 → IsKindInRange kind
+pub sited_back : (s : ℕ) (clock : List ℕ) (kind : OpKind) → s < 32 → IsKindInRange kind
     → sited (offer_with s clock kind) ≡ Ok (offer_with s clock kind)
 sited_back s clock kind h r =
     ap (λ m. m >>= λ n. each sited_pair (pairs_of clock) >>= λ ps. sited_kind kind >>= λ k. sited_with n ps k) (site_back s h)
@@ -98,7 +99,7 @@ counted_back : (s : ℕ) (clock : List ℕ) (kind : OpKind) → 0 < entry clock 
     → counted s clock kind ≡ Ok (record { site = s; clock = clock; kind = kind })
 counted_back s clock kind h = rw (lt-ltb 0 (entry clock s) h) refl
 
-operation_back : (s : ℕ) (clock : List ℕ) (kind : OpKind) → IsClock clock → 0 < entry clock s
+pub operation_back : (s : ℕ) (clock : List ℕ) (kind : OpKind) → IsClock clock → 0 < entry clock s
     → operation (offer_with s clock kind) ≡ Ok (record { site = s; clock = clock; kind = kind })
 operation_back s clock kind h own = ap (λ m. m >>= λ c. counted s c kind) (clock_back clock h) ∙ counted_back s clock kind own
 

@@ -1,6 +1,7 @@
 -- Writing the items of a list one after another, as a loop does.
-use Rattle.std.proofs.Common.{◌≡◌, ℕ, zero, suc, ◌+◌, ◌<◌, List, [], ◌∷◌, ◌++◌, length, take, get_or, refl, sym, ap, ap₂, subst, ◌∙◌}
-use Rattle.std.proofs.Common.{add-one, arith}
+use Rattle.std.proofs.Common.{◌≡◌, ℕ, zero, suc, ◌+◌, ◌-◌, ◌<◌, List, [], ◌∷◌, ◌++◌, length, take, drop, get_or, refl, sym, ap, ap₂}
+use Rattle.std.proofs.Common.{subst, ◌∙◌, add-one, arith}
+use Rattle.std.proofs.lemmas.List.{take_all}
 use Rattle.std.specs.List.{AllByRecursion}
 use Rattle.serde_json.specs.Data.{Data, Items, no_items, item}
 use Rattle.serde_json.specs.View.{view, items_view}
@@ -35,3 +36,11 @@ all_more P [] i x h a k = absurd (omega arith)
 all_more P (y ∷ xs) zero x h a k = (k, tt)
 all_more P (y ∷ xs) (suc i) x h a k =
     rw add-one (a.0, subst (λ n. AllByRecursion P (take n xs)) (add-one i) (all_more P xs i x (omega arith) a.1 k))
+
+-- what holds of the first and of the rest holds of all
+pub all_behind : {A : Type 0} (P : A → Type 0) (xs : List A) (x : A) → x ≡ get_or xs 0 x → P x
+    → AllByRecursion P (take (length xs - 1) (drop 1 xs)) → AllByRecursion P xs
+all_behind P [] x e p a = tt
+all_behind P (y ∷ xs) x e p a =
+    let size : length (y ∷ xs) - 1 ≡ length xs = omega arith in
+    (subst P e p, subst (AllByRecursion P) (ap (λ n. take n xs) size ∙ take_all (length xs) xs (omega arith)) a)

@@ -17,14 +17,14 @@ pair_compact p = regroup_5 (codes "[") (decimal p.0) (codes ",") (decimal p.1) (
 stamp_compact : (s : Stamp) → compact_text (stamp_data s) ≡ stamp_text s
 stamp_compact s = regroup_5 (codes "[") (decimal s.sum) (codes ",") (decimal s.site) (codes "]")
 
-parent_compact : (p : Option Stamp) → compact_text (parent_data p) ≡ parent_text p
+pub parent_compact : (p : Option Stamp) → compact_text (parent_data p) ≡ parent_text p
 parent_compact None = refl
 parent_compact (Some s) = stamp_compact s
 
-clock_compact : (clock : List ℕ) → compact_text (array (pairs_data clock)) ≡ clock_text clock
+pub clock_compact : (clock : List ℕ) → compact_text (array (pairs_data clock)) ≡ clock_text clock
 clock_compact clock = list_compact pair_data pair_text pair_compact (pairs_of clock)
 
-regroup_9 : (a b c d e f g h i : List ℕ) → a ++ (b ++ (c ++ (d ++ (e ++ (f ++ (g ++ (h ++ i)))))))
+pub regroup_9 : (a b c d e f g h i : List ℕ) → a ++ (b ++ (c ++ (d ++ (e ++ (f ++ (g ++ (h ++ i)))))))
     ≡ a ++ b ++ c ++ d ++ e ++ f ++ g ++ h ++ i
 regroup_9 a b c d e f g h i = simp append_assoc
 

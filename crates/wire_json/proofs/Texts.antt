@@ -1,14 +1,15 @@
 -- The texts of replies, by serde_json's words.
-use Rattle.std.proofs.Common.{◌≡◌, ◌<◌, ◌≤◌, ◌^◌, ℕ, List, [], ◌∷◌, ◌++◌, map, codes, false, Some, decimal, refl, sym, ap, ap₂, ◌∙◌, arith}
+use Rattle.std.proofs.Common.{◌≡◌, ◌<◌, ◌≤◌, ◌^◌, ℕ, List, [], ◌∷◌, ◌++◌, map, codes, false, Some, None, decimal, refl, sym, ap, ap₂, ◌∙◌}
+use Rattle.std.proofs.Common.{arith}
 use Rattle.std.proofs.Common.{lit<, lit≤}
 use Rattle.std.specs.Prelude.{IsTrue, encode_utf8_all}
 use Rattle.std.specs.Str.{all_scalars, chars}
 use Rattle.std.specs.List.{AllByRecursion}
 use Rattle.std.proofs.lemmas.Fmt.{decimal_injective}
 use Rattle.std.proofs.lemmas.Str.{chars-encodes}
-use Rattle.json.specs.Print.{escape_byte, print}
+use Rattle.json.specs.Print.{escape_byte}
 use Rattle.json.specs.Json.{document, max_depth}
-use Rattle.json.specs.Tree.{depth, items_depth, HasNumbers, ItemsHaveNumbers, json_tokens}
+use Rattle.json.specs.Tree.{depth, items_depth, HasNumbers, ItemsHaveNumbers}
 use Rattle.json.proofs.Printed.Trees.{document-print}
 use Rattle.json.proofs.Printed.Decimals.{IsNumber-decimal}
 use Rattle.serde_json.specs.Data.{Data}
@@ -20,6 +21,8 @@ use Rattle.opid.specs.declared.refusal.Refusal.TheVariants.{BadVersion, BadPlace
 use Rattle.opid.specs.declared.refusal.Refusal.TheVariants.{OwnSite, Conflict, HoldFull, NotRising, UnknownElement, NotOlder, BadHave}
 use Rattle.opid.specs.declared.refusal.Refusal.TheVariants.{BadRange, Busy, Worn, Memory, SiteUsed, BadSnapshot, TooLong}
 use Rattle.opid.specs.Refusals.{number_of}
+use Rattle.opid.specs.declared.kind.OpKind.{OpKind}
+use Rattle.opid.specs.declared.kind.OpKind.TheVariants as kinds
 use Rattle.opid.specs.declared.edit.Edit as edit
 use Rattle.opid.specs.declared.edit.Edit.TheVariants.{Ins, Del, DelUnits, Nop}
 use Rattle.room.specs.declared.reply.Reply as reply
@@ -28,12 +31,15 @@ use Rattle.opid.specs.Operations.{Operation}
 use Rattle.room.specs.declared.outcome.Outcome as outcome
 use Rattle.room.specs.declared.outcome.Outcome.TheVariants as outcomes
 use Rattle.opid.proofs.Told.{number_of-injective}
-use Rattle.wire_json.proofs.OperationTexts.{op_compact, op_no_float}
-use Rattle.wire_json.proofs.Read.{different as one_text, small, op_numbers, op_depth}
-use Rattle.wire_json.specs.Text.{IsInRange, IsEditInRange, IsOperationInRange, IsOutcomeInRange, op_text, outcome_text, quote, text, listed}
-use Rattle.wire_json.specs.Text.{edit_text}
+use Rattle.wire_json.proofs.OperationTexts.{op_no_float}
+use Rattle.wire_json.proofs.Read.{small}
+use Rattle.wire_json.proofs.PackedTexts.{item_compact, items_numbers, items_shallow, one_outline}
+use Rattle.wire_json.proofs.PackedBack.{are_packed}
+use Rattle.wire_json.specs.Text.{IsInRange, IsEditInRange, IsOutcomeInRange, outcome_text, quote, text, listed}
+use Rattle.wire_json.specs.Text.{edit_text, item_text, packed_text}
+use Rattle.wire_json.specs.Packing.{Item, packed}
 use Rattle.wire_json.proofs.ListTexts.{regroup_3, regroup_5, regroup_7, list_compact}
-use Rattle.wire_json.specs.Written.{data_of, op_data, outcome_data, edit_data, each_data}
+use Rattle.wire_json.specs.Written.{data_of, item_data, item_data_of, outcome_data, edit_data, each_data}
 
 edit_compact : (e : edit.Edit) → compact_text (edit_data e) ≡ edit_text e
 unfolding escape_byte
@@ -62,8 +68,8 @@ compact (Edits «from» es) =
 compact Left = refl
 compact (Ops «from» ops) =
     ap (λ l. codes "{\"from\":" ++ (decimal «from» ++ (codes ",\"ops\":" ++ (l ++ codes ",\"r\":\"ops\"}"))))
-    (list_compact op_data op_text op_compact ops)
-    ∙ regroup_5 (codes "{\"from\":") (decimal «from») (codes ",\"ops\":") (listed (map op_text ops)) (codes ",\"r\":\"ops\"}")
+    (list_compact item_data item_text item_compact (packed ops))
+    ∙ regroup_5 (codes "{\"from\":") (decimal «from») (codes ",\"ops\":") (packed_text ops) (codes ",\"r\":\"ops\"}")
 compact (Put os) =
     ap (λ l. codes "{\"os\":" ++ (l ++ codes ",\"r\":\"put\"}")) (list_compact outcome_data outcome_text outcome_compact os)
     ∙ regroup_3 (codes "{\"os\":") (listed (map outcome_text os)) (codes ",\"r\":\"put\"}")
@@ -77,9 +83,15 @@ edits_no_float (Del k ∷ es) = edits_no_float es
 edits_no_float (DelUnits k w ∷ es) = edits_no_float es
 edits_no_float (Nop ∷ es) = edits_no_float es
 
-ops_no_float : (xs : List Operation) → items_have_float (each_data op_data xs) ≡ false
-ops_no_float [] = refl
-ops_no_float (x ∷ xs) = rw (op_no_float x) (ops_no_float xs)
+item_no_float : (x : Operation) (kind : OpKind) (cs : List ℕ) → has_float (item_data_of (record x { kind = kind }) cs) ≡ false
+item_no_float x kind [] = op_no_float (record x { kind = kind })
+item_no_float x (kinds.Ins None c) (d ∷ cs) = op_no_float (record x { kind = kinds.Ins None c })
+item_no_float x (kinds.Ins (Some p) c) (d ∷ cs) = op_no_float (record x { kind = kinds.Ins (Some p) c })
+item_no_float x (kinds.Del t) (d ∷ cs) = op_no_float (record x { kind = kinds.Del t })
+
+items_no_float : (items : List Item) → items_have_float (each_data item_data items) ≡ false
+items_no_float [] = refl
+items_no_float (i ∷ items) = rw (item_no_float i.first i.first.kind i.more) (items_no_float items)
 
 outcomes_no_float : (os : List outcome.Outcome) → items_have_float (each_data outcome_data os) ≡ false
 outcomes_no_float [] = refl
@@ -93,7 +105,7 @@ no_float (Joined s v x) = refl
 no_float (Ok «from» to) = refl
 no_float (Edits «from» es) = rw (edits_no_float es) refl
 no_float Left = refl
-no_float (Ops «from» ops) = rw (ops_no_float ops) refl
+no_float (Ops «from» ops) = rw (items_no_float (packed ops)) refl
 no_float (Put os) = rw (outcomes_no_float os) refl
 no_float (Text v x) = refl
 no_float (No why) = refl
@@ -140,10 +152,6 @@ edit_numbers (DelUnits k w ∷ es) h =
     ((tt, (IsNumber-decimal k h.0.0, (IsNumber-decimal w (narrow w h.0.1), tt))), edit_numbers es h.1)
 edit_numbers (Nop ∷ es) h = ((tt, tt), edit_numbers es h.1)
 
-ops_numbers : (xs : List Operation) → AllByRecursion IsOperationInRange xs → ItemsHaveNumbers (items_outline (each_data op_data xs))
-ops_numbers [] h = tt
-ops_numbers (x ∷ xs) h = (op_numbers x h.0.0 h.0.1, ops_numbers xs h.1)
-
 outcome_numbers : (os : List outcome.Outcome) → AllByRecursion IsOutcomeInRange os
     → ItemsHaveNumbers (items_outline (each_data outcome_data os))
 outcome_numbers [] h = tt
@@ -158,7 +166,7 @@ numbers (Joined s v x) h = (tt, (IsNumber-decimal s (small s h.0), (IsNumber-dec
 numbers (Ok «from» to) h = (IsNumber-decimal «from» (small «from» h.0), (tt, (IsNumber-decimal to (small to h.1), tt)))
 numbers (Edits «from» es) h = (edit_numbers es h.1, (IsNumber-decimal «from» (small «from» h.0), (tt, tt)))
 numbers Left h = (tt, tt)
-numbers (Ops «from» ops) h = (IsNumber-decimal «from» (small «from» h.0), (ops_numbers ops h.1, (tt, tt)))
+numbers (Ops «from» ops) h = (IsNumber-decimal «from» (small «from» h.0), (items_numbers (packed ops) (are_packed ops h.1), (tt, tt)))
 numbers (Put os) h = (outcome_numbers os h, (tt, tt))
 numbers (Text v x) h = (tt, (IsNumber-decimal v (small v h.0), (tt, tt)))
 numbers (No why) h = (IsNumber-decimal (number_of why) (number_small why), (tt, tt))
@@ -169,10 +177,6 @@ edits_shallow (Ins k c ∷ es) = omega (arith, edits_shallow es)
 edits_shallow (Del k ∷ es) = omega (arith, edits_shallow es)
 edits_shallow (DelUnits k w ∷ es) = omega (arith, edits_shallow es)
 edits_shallow (Nop ∷ es) = omega (arith, edits_shallow es)
-
-ops_shallow : (xs : List Operation) → items_depth (items_outline (each_data op_data xs)) ≤ 3
-ops_shallow [] = lit≤ tt
-ops_shallow (x ∷ xs) = omega (arith, op_depth x, ops_shallow xs)
 
 outcomes_shallow : (os : List outcome.Outcome) → items_depth (items_outline (each_data outcome_data os)) ≤ 1
 outcomes_shallow [] = lit≤ tt
@@ -186,7 +190,7 @@ shallow (Joined s v x) = lit≤ tt
 shallow (Ok «from» to) = lit≤ tt
 shallow (Edits «from» es) = omega (arith, edits_shallow es)
 shallow Left = lit≤ tt
-shallow (Ops «from» ops) = omega (arith, ops_shallow ops)
+shallow (Ops «from» ops) = omega (arith, items_shallow (packed ops))
 shallow (Put os) = omega (arith, outcomes_shallow os)
 shallow (Text v x) = lit≤ tt
 shallow (No why) = lit≤ tt
@@ -234,10 +238,6 @@ one_list P f one [] (y ∷ ys) h k e = cc
 one_list P f one (x ∷ xs) [] h k e = cc
 one_list P f one (x ∷ xs) (y ∷ ys) h k e = ap₂ (λ z zs. z ∷ zs) (one x y h.0 k.0 (cc)) (one_list P f one xs ys h.1 k.1 (cc))
 
-one_operation : (x y : Operation) → IsOperationInRange x → IsOperationInRange y → outline (op_data x) ≡ outline (op_data y) → x ≡ y
-one_operation x y h k e = one_text x y h.0 h.1 k.0 k.1 (sym (print-outline (op_data x) ∙ op_compact x) ∙ ap (λ t. print (json_tokens t)) e
-    ∙ print-outline (op_data y) ∙ op_compact y)
-
 one_outcome : (a b : outcome.Outcome) → IsOutcomeInRange a → IsOutcomeInRange b
     → outline (outcome_data a) ≡ outline (outcome_data b) → a ≡ b
 one_outcome (outcomes.Took t d) (outcomes.Took u f) h k e =
@@ -278,7 +278,7 @@ one_reply (Edits m es) (Edits i fs) h k e =
 one_reply Left Left h k e = refl
 one_reply (Ops m xs) (Ops i ys) h k e =
     let same_from = decimal_injective m i (small m h.0) (small i k.0) (cc) in
-    let same_operations = one_list IsOperationInRange op_data one_operation xs ys h.1 k.1 (cc) in
+    let same_operations = one_outline xs ys h.1 k.1 (cc) in
     cc
 one_reply (Put os) (Put ps) h k e = ap Put (one_list IsOutcomeInRange outcome_data one_outcome os ps h k (cc))
 one_reply (Text v x) (Text w y) h k e =

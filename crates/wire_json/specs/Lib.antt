@@ -2,6 +2,8 @@ pub mod Members
 pub mod Given
 pub mod Operations
 pub mod Offers
+pub mod Packing
+pub mod PackedOperations
 pub mod Text
 pub mod Written
 pub mod Request

@@ -1,5 +1,5 @@
 -- Which operation a JSON object tells, or why it is refused (operations and clocks: Roh, Jeon, Kim and Lee 2011; JSON: RFC
--- 8259). Each kind of fault is sought in all operations of a list before the next kind.
+-- 8259).
 use Rattle.std.specs.Prelude.{ℕ, ◌==◌, nat_lt, if◌then◌else◌, Option, Some, None, option_and_then, option_map}
 use Rattle.std.specs.Prelude.{is_some, Result, Ok, Err, List, length, [], ◌∷◌, codes, bytes_eq, slice_get}
 use Rattle.std.specs.Str.{chars}
@@ -149,7 +149,7 @@ operation o = do
   clock ← clock_told o.pairs
   counted o.site clock o.kind
 
--- ---- an operation object, and a list of them
+-- ---- an operation object
 
 -- the operation that a JSON value tells
 abbrev pub op_of : Data → Result Operation Refusal
@@ -157,10 +157,3 @@ op_of d = do
   offered ← offer_of d
   here ← sited offered
   operation here
-
--- the operations that JSON values tell: each fault is sought in all of them before the next
-abbrev pub ops_of : List Data → Result (List Operation) Refusal
-ops_of ds = do
-  offered ← each offer_of ds
-  here ← each sited offered
-  each operation here

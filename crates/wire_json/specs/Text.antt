@@ -17,6 +17,7 @@ use Rattle.room.specs.declared.outcome.Outcome as outcome
 use Rattle.room.specs.declared.outcome.Outcome.TheVariants as outcomes
 use Rattle.room.specs.declared.reply.Reply as reply
 use Rattle.room.specs.declared.reply.Reply.TheVariants.{Joined, Ok, Edits, Left, Ops, Put, Text, No}
+use Rattle.wire_json.specs.Packing.{Item, packed}
 
 -- the edit's place fits 64 bits, its number of code units 8, and its character is a Unicode scalar value
 abbrev pub IsEditInRange : edit.Edit → Type 0
@@ -110,6 +111,25 @@ op_text_of s clock (kinds.Del target) = codes "{\"c\":" ++ clock_text clock ++ c
 abbrev pub op_text : Operation → List ℕ
 op_text x = op_text_of x.site x.clock x.kind
 
+-- the text of a run: an insertion of this site and clock, and the characters of those that follow it
+abbrev pub run_text_of : ℕ → List ℕ → kind.OpKind → List ℕ → List ℕ
+run_text_of s clock (kinds.Ins parent c) cs = codes "{\"c\":" ++ clock_text clock ++ codes ",\"k\":\"r\",\"p\":" ++ parent_text parent
+    ++ codes ",\"s\":" ++ decimal s ++ codes ",\"x\":" ++ quote (c ∷ cs) ++ codes "}"
+run_text_of s clock (kinds.Del target) cs = op_text_of s clock (kinds.Del target)
+
+-- the text of an operation that stands alone, or of a run
+abbrev pub item_text_of : Operation → List ℕ → List ℕ
+item_text_of x [] = op_text x
+item_text_of x (c ∷ cs) = run_text_of x.site x.clock x.kind (c ∷ cs)
+
+-- the text of an item
+abbrev pub item_text : Item → List ℕ
+item_text i = item_text_of i.first i.more
+
+-- the one text of operations: packed
+abbrev pub packed_text : List Operation → List ℕ
+packed_text ops = listed (map item_text (packed ops))
+
 -- the text of an outcome
 abbrev pub outcome_text : outcome.Outcome → List ℕ
 outcome_text (outcomes.Took taken dropped) = codes "[\"took\"," ++ decimal taken ++ codes "," ++ decimal dropped ++ codes "]"
@@ -123,7 +143,7 @@ text (Joined s v x) = codes "{\"r\":\"joined\",\"s\":" ++ decimal s ++ codes ",\
     ++ codes "}"
 text (Ok «from» to) = codes "{\"from\":" ++ decimal «from» ++ codes ",\"r\":\"ok\",\"to\":" ++ decimal to ++ codes "}"
 text (Edits «from» es) = codes "{\"es\":" ++ listed (map edit_text es) ++ codes ",\"from\":" ++ decimal «from» ++ codes ",\"r\":\"edits\"}"
-text (Ops «from» ops) = codes "{\"from\":" ++ decimal «from» ++ codes ",\"ops\":" ++ listed (map op_text ops) ++ codes ",\"r\":\"ops\"}"
+text (Ops «from» ops) = codes "{\"from\":" ++ decimal «from» ++ codes ",\"ops\":" ++ packed_text ops ++ codes ",\"r\":\"ops\"}"
 text (Put os) = codes "{\"os\":" ++ listed (map outcome_text os) ++ codes ",\"r\":\"put\"}"
 text Left = codes "{\"r\":\"left\"}"
 text (Text v x) = codes "{\"r\":\"text\",\"v\":" ++ decimal v ++ codes ",\"x\":" ++ quote x ++ codes "}"

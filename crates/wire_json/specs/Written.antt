@@ -13,6 +13,7 @@ use Rattle.room.specs.declared.outcome.Outcome as outcome
 use Rattle.room.specs.declared.outcome.Outcome.TheVariants as outcomes
 use Rattle.room.specs.declared.reply.Reply as reply
 use Rattle.room.specs.declared.reply.Reply.TheVariants.{Joined, Ok, Edits, Left, Ops, Put, Text, No}
+use Rattle.wire_json.specs.Packing.{Item, packed}
 use Rattle.wire_json.specs.Text.{pairs_of}
 
 -- the value of a `joined`
@@ -97,10 +98,26 @@ op_data_of s clock (kinds.Del target) = deletion_data s clock target
 abbrev pub op_data : Operation → Data
 op_data x = op_data_of x.site x.clock x.kind
 
--- the value of operations from a place on
+-- the value of a run: an insertion of this site and clock, and the characters of those that follow it
+abbrev pub run_data_of : ℕ → List ℕ → kind.OpKind → List ℕ → Data
+run_data_of s clock (kinds.Ins parent c) cs = object (member (codes "c") (array (pairs_data clock))
+    (member (codes "k") (string (codes "r")) (member (codes "p") (parent_data parent)
+    (member (codes "s") (number (unsigned s)) (member (codes "x") (string (encode_utf8_all (c ∷ cs))) no_members)))))
+run_data_of s clock (kinds.Del target) cs = op_data_of s clock (kinds.Del target)
+
+-- the value of an operation that stands alone, or of a run
+abbrev pub item_data_of : Operation → List ℕ → Data
+item_data_of x [] = op_data x
+item_data_of x (c ∷ cs) = run_data_of x.site x.clock x.kind (c ∷ cs)
+
+-- the value of an item
+abbrev pub item_data : Item → Data
+item_data i = item_data_of i.first i.more
+
+-- the value of operations from a place on, packed
 abbrev pub part_data : ℕ → List Operation → Data
 part_data «from» ops = object (member (codes "from") (number (unsigned «from»))
-    (member (codes "ops") (array (each_data op_data ops)) (member (codes "r") (string (codes "ops")) no_members)))
+    (member (codes "ops") (array (each_data item_data (packed ops))) (member (codes "r") (string (codes "ops")) no_members)))
 
 -- the value of an outcome
 abbrev pub outcome_data : outcome.Outcome → Data

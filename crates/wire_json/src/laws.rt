@@ -1,11 +1,15 @@
 //! Laws of the texts of replies and of operations.
-ghost use Rattle.std.specs.Prelude.{◌≡◌, option_map, Some, Ok};
+ghost use Rattle.std.specs.Prelude.{◌≡◌, option_map, Some, Ok, List};
+ghost use Rattle.std.specs.List.{AllByRecursion};
 ghost use Rattle.serde_json.specs.Read.{read};
 ghost use Rattle.opid.specs.Operations.{Operation};
 ghost use Rattle.causal_clock.specs.Kinds.{IsOperation};
 ghost use Rattle.room.specs.declared.reply.Reply.{Reply};
-ghost use Rattle.wire_json.specs.Operations.{op_of};
-ghost use Rattle.wire_json.specs.Text.{IsInRange, IsKindInRange, text, op_text};
+ghost use Rattle.wire_json.specs.Operations.{op_of, items_in};
+ghost use Rattle.wire_json.specs.Packing.{unfolded_all, packed};
+ghost use Rattle.wire_json.specs.PackedOperations.{packed_ops_of};
+ghost use Rattle.wire_json.specs.Text.{IsInRange, IsKindInRange, IsOperationInRange, text, op_text, packed_text};
+ghost use Rattle.wire_json.specs.Written.{each_data, item_data};
 
 /// Two different replies have different texts: a client can tell each reply from its line alone.
 pub fn different_replies()
@@ -21,4 +25,22 @@ pub fn operations_read_back()
 pub fn different_operations()
     ensures { (x y : Operation) → IsOperation x → IsKindInRange x.kind → IsOperation y → IsKindInRange y.kind
         → op_text x ≡ op_text y → x ≡ y }
+{}
+
+/// Unfolding what is packed gives the operations back, in their order.
+pub fn packing_unfolds()
+    ensures { (ops : List Operation) → unfolded_all (packed ops) ≡ ops }
+{}
+
+/// The JSON values of packed operations tell just those operations: what an `ops` reply holds is read in a `put` as the
+/// same single operations.
+pub fn packed_values_read_back()
+    ensures { (ops : List Operation) → AllByRecursion IsOperationInRange ops
+        → packed_ops_of (items_in (each_data item_data (packed ops))) ≡ Ok ops }
+{}
+
+/// Two different lists of operations have different packed texts.
+pub fn different_packed_operations()
+    ensures { (a b : List Operation) → AllByRecursion IsOperationInRange a → AllByRecursion IsOperationInRange b
+        → packed_text a ≡ packed_text b → a ≡ b }
 {}

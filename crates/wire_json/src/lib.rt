@@ -1,6 +1,7 @@
 //! Requests and replies as JSON texts: which call the bytes of a request ask for, and the one text of each reply.
 #![tactic(auto)]
 
+mod items;
 mod laws;
 mod offer;
 mod opening;
@@ -8,12 +9,16 @@ mod opening;
 mod operation_tests;
 mod operation_values;
 mod operations;
+mod packing;
 mod reading;
 #[cfg(test)]
 mod tests;
 mod writing;
 
-pub use laws::{different_operations, different_replies, operations_read_back};
+pub use laws::{
+    different_operations, different_packed_operations, different_replies, operations_read_back,
+    packed_values_read_back, packing_unfolds,
+};
 pub use opening::read_open;
 pub use operation_values::write_op;
 pub use operations::{read_list, read_op};

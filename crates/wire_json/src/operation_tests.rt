@@ -1,6 +1,6 @@
 //! Operation objects as JSON shows them.
-use crate::operation_values::op_values;
-use crate::operations::read_ops;
+use crate::items::read_items;
+use crate::packing::packed_values;
 use crate::{read_op, write_op};
 use causal_clock::Op;
 use opid::{OpKind, Refusal};
@@ -23,7 +23,7 @@ fn op_of(alloc: Global, text: &str) -> Result<Op, Refusal> {
 
 fn ops_of(alloc: Global, text: &str) -> Result<Vec<Op>, Refusal> {
     match Value::from_str(alloc, text) {
-        Ok(Value::Array(values)) => read_ops(alloc, values.as_slice()),
+        Ok(Value::Array(values)) => read_items(alloc, values.as_slice()),
         _ => Err(Refusal::BadJson),
     }
 }
@@ -158,7 +158,7 @@ fn writes_a_list(rt: HostRuntime) -> Result<(), Fail> {
     let alloc = rt.alloc();
     let text = format!(in alloc; "[{H_AT_THE_HEAD},{DELETION}]")?;
     let ops = ops_of(alloc, text.as_str())?;
-    let list = Value::Array(op_values(alloc, ops.as_slice())?);
+    let list = Value::Array(packed_values(alloc, ops.as_slice())?);
     assert!(rt; list.to_string(alloc)?.as_str() == text.as_str());
     Ok(())
 }

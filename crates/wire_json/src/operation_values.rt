@@ -27,19 +27,6 @@ pub fn write_op(alloc: Global, op: &Op) -> Result<String, Refusal>
     Ok(value.to_string(alloc)?)
 }
 
-/// The JSON values of operations, in their order.
-pub(crate) fn op_values(alloc: Global, ops: &[Op]) -> Result<Vec<Value>, AllocError>
-    ensures values { IfOk result (λ list. items_view list.items ≡ each_data op_data ops.now) }
-    ensures in_range { OnOk result (AllByRecursion IsOperationInRange ops.now) }
-{
-    let mut list = Vec::with_capacity(alloc, ops.len())?;
-    for op in ops {
-        let value = op_value(alloc, op)?;
-        push(&mut list, value)?;
-    }
-    Ok(list)
-}
-
 /// The JSON value of an operation.
 pub(crate) fn op_value(alloc: Global, op: &Op) -> Result<Value, AllocError>
     ensures value { IfOk result (λ out. view out ≡ op_data op.now) }
@@ -47,11 +34,19 @@ pub(crate) fn op_value(alloc: Global, op: &Op) -> Result<Value, AllocError>
 {
     let site = op.site();
     let clock = op.clock();
-    check_kind(op.kind());
+    check_op(op);
     match op.kind() {
         OpKind::Ins { parent, ch } => insertion_value(alloc, site, &clock, parent, ch),
         OpKind::Del { target } => deletion_value(alloc, site, &clock, target),
     }
+}
+
+// An operation is within its range, as the types of its parts know.
+pub(crate) fn check_op(op: &Op)
+    ensures { IsOperationInRange op.now }
+{
+    let _ = op.site();
+    check_kind(op.kind());
 }
 
 // What an operation names is within its range, as the types of its parts know.
@@ -100,7 +95,7 @@ fn deletion_value(
     json!(in alloc; {"c": pairs, "k": "d", "s": site, "t": target})
 }
 
-fn clock_values(alloc: Global, clock: &Clock) -> Result<Vec<Value>, AllocError>
+pub(crate) fn clock_values(alloc: Global, clock: &Clock) -> Result<Vec<Value>, AllocError>
     ensures { IfOk result (λ list. items_view list.items ≡ pairs_data clock.now) }
 {
     let mut list = Vec::new(alloc);
@@ -125,7 +120,7 @@ fn entry_of(clock: &Clock, number: u8) -> u32
     }
 }
 
-fn parent_value(alloc: Global, parent: Option<Stamp>) -> Result<Value, AllocError>
+pub(crate) fn parent_value(alloc: Global, parent: Option<Stamp>) -> Result<Value, AllocError>
     ensures { IfOk result (λ out. view out ≡ parent_data parent) }
 {
     match parent {

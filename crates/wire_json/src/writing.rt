@@ -7,7 +7,7 @@ ghost use Rattle.wire_json.specs.Text.{IsInRange, IsEditInRange, IsOperationInRa
 ghost use Rattle.wire_json.specs.Written.{joined_data, ok_data, edit_data, each_data, edits_data, left_data, part_data, outcome_data};
 ghost use Rattle.wire_json.specs.Written.{put_data, text_data, no_data, data_of};
 
-use crate::operation_values::op_values;
+use crate::packing::packed_values;
 use causal_clock::Op;
 use opid::{Edit, Refusal};
 use room::{Outcome, Reply};
@@ -90,7 +90,7 @@ fn part(alloc: Global, from: u32, ops: &[Op]) -> Result<Value, AllocError>
     ensures value { IfOk result (λ out. view out ≡ part_data from ops.now) }
     ensures in_range { OnOk result (AllByRecursion IsOperationInRange ops.now) }
 {
-    let list = op_values(alloc, ops)?;
+    let list = packed_values(alloc, ops)?;
     json!(in alloc; {"from": from, "ops": list, "r": "ops"})
 }
 

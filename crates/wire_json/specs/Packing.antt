@@ -1,0 +1,86 @@
+-- Operations packed into runs (the server's own): a run is an insertion and those that its site typed behind it, each directly
+-- behind the one before. An operation is packed from the left: it joins the run before it where it is that run's next one and
+-- the run has fewer than 64 characters.
+use Rattle.std.specs.Prelude.{ℕ, ◌+◌, ◌==◌, nat_lt, Bool, true, false, ◌&&◌, if◌then◌else◌, Some, None, List, [], ◌∷◌, ◌++◌, length}
+use Rattle.std.specs.Prelude.{bytes_eq}
+use Rattle.opid.specs.declared.stamp.Stamp.{Stamp}
+use Rattle.opid.specs.declared.kind.OpKind.{OpKind}
+use Rattle.opid.specs.declared.kind.OpKind.TheVariants.{Ins, Del}
+use Rattle.opid.specs.Clocks.{raised}
+use Rattle.opid.specs.Stamps.{is_same}
+use Rattle.opid.specs.Operations.{Operation, stamp_of}
+use Rattle.opid.specs.Asked.{insertion_run}
+
+-- ---- what a run stands for
+
+-- the insertion of a character that the site of x makes next, with the element of x as its parent
+abbrev pub next : Operation → ℕ → Operation
+next x c = record { site = x.site; clock = raised x.clock x.site; kind = Ins (Some (stamp_of x)) c }
+
+-- the insertions of these characters, each the next one after that before it: what its site asks for that types them behind x
+abbrev pub following : Operation → List ℕ → List Operation
+following x cs = insertion_run x.site x.clock (Some (stamp_of x)) cs
+
+-- an operation, and the characters of the insertions that follow it: none where it stands alone
+pub record Item : Type 0 where
+  pub first : Operation
+  pub more : List ℕ
+
+-- the operations of an item
+abbrev pub unfolded : Item → List Operation
+unfolded i = i.first ∷ following i.first i.more
+
+-- the operations of all items
+abbrev pub unfolded_all : List Item → List Operation
+unfolded_all [] = []
+unfolded_all (i ∷ items) = unfolded i ++ unfolded_all items
+
+-- ---- packing from the left
+
+-- the last of an operation and those that follow it
+abbrev pub last_of : Operation → List ℕ → Operation
+last_of x [] = x
+last_of x (c ∷ cs) = last_of (next x c) cs
+
+-- it is an insertion
+abbrev pub is_insertion : OpKind → Bool
+is_insertion (Ins parent ch) = true
+is_insertion (Del target) = false
+
+-- it is an insertion with this element as its parent
+abbrev pub is_child : Stamp → OpKind → Bool
+is_child s (Ins None ch) = false
+is_child s (Ins (Some p) ch) = is_same p s
+is_child s (Del target) = false
+
+-- the character that an insertion puts in
+abbrev pub char_of : OpKind → ℕ
+char_of (Ins parent ch) = ch
+char_of (Del target) = 0
+
+-- x is an insertion, and y is the next one after it
+abbrev pub is_next : Operation → Operation → Bool
+is_next x y =
+    is_insertion x.kind && (y.site == x.site && (bytes_eq y.clock (raised x.clock x.site) && is_child (stamp_of x) y.kind))
+
+-- the item has fewer than 64 operations, and y is the next one after its last
+abbrev pub joins : Item → Operation → Bool
+joins i y = nat_lt (length i.more + 1) 64 && is_next (last_of i.first i.more) y
+
+-- an operation by itself
+abbrev pub alone : Operation → Item
+alone x = record { first = x; more = [] }
+
+-- the item with the character of one insertion more
+abbrev pub with_one_more : Item → Operation → Item
+with_one_more i y = record { first = i.first; more = i.more ++ char_of y.kind ∷ [] }
+
+-- the item goes on with the operations as far as they join it
+abbrev pub packed_behind : Item → List Operation → List Item
+packed_behind i [] = i ∷ []
+packed_behind i (y ∷ ys) = if joins i y then packed_behind (with_one_more i y) ys else i ∷ packed_behind (alone y) ys
+
+-- the operations, packed from the left
+abbrev pub packed : List Operation → List Item
+packed [] = []
+packed (x ∷ xs) = packed_behind (alone x) xs

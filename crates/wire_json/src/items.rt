@@ -1,0 +1,159 @@
+//! Reading operation objects and run objects: the fields of all, then the sites of all, then the clocks of all.
+ghost use Rattle.std.specs.Prelude.{◌≡◌, ◌≤◌, ◌<◌, ◌+◌, ◌++◌, ◌⊎◌, ◌∷◌, Ok, Err, List, length, sum, IfOk, IfErr, OnOk};
+ghost use Rattle.std.specs.Str.{chars};
+ghost use Rattle.serde_json.specs.View.{view, items_view};
+ghost use Rattle.opid.specs.declared.refusal.Refusal.TheVariants.{Memory};
+ghost use Rattle.opid.specs.Operations.{Operation};
+ghost use Rattle.wire_json.specs.Operations.{each, items_in};
+ghost use Rattle.wire_json.specs.Packing.{next, following};
+ghost use Rattle.wire_json.specs.PackedOperations.{item_offer_of, item_sited, item_operations, run_of, run_chars, all_operations};
+ghost use Rattle.wire_json.specs.PackedOperations.{packed_ops_of};
+ghost use Rattle.wire_json.specs.Given.{Gives};
+
+use crate::offer::{ItemOffer, Offer, OfferedKind, SitedItem};
+use crate::operations::{
+    check_clock, check_pairs, check_sites, count_chars, read_list, read_member, read_offer,
+    read_parent,
+};
+use crate::reading::{check_keys, read_number, read_text};
+use causal_clock::{MAX_SUM, Op};
+use opid::{OpKind, Refusal};
+use serde_json::Value;
+use std::alloc::Global;
+
+/// The single operations that JSON values tell, each an operation object or a run object, refused as `read_op` does: each
+/// fault is sought in all values before the next. `Memory` may stand in the place of any answer.
+pub(crate) fn read_items(alloc: Global, values: &[Value]) -> Result<Vec<Op>, Refusal>
+    ensures { Gives (λ ops. ops.items) result (packed_ops_of (items_in (items_view values.now))) }
+{
+    let offers = read_item_offers(alloc, values)?;
+    let sited = check_item_sites(alloc, offers.as_slice())?;
+    unfold_all(alloc, sited.as_slice())
+}
+
+fn read_item_offers<'v>(alloc: Global, values: &'v [Value]) -> Result<Vec<ItemOffer<'v>>, Refusal>
+    ensures { Gives (λ v. v.items) result (each item_offer_of (items_in (items_view values.now))) }
+{
+    let mut offers = Vec::new(alloc);
+    for value in values {
+        let offer = read_item(alloc, value)?;
+        offers.push(offer)?;
+    }
+    Ok(offers)
+}
+
+fn check_item_sites<'a, 'v>(
+    alloc: Global,
+    offers: &'a [ItemOffer<'v>],
+) -> Result<Vec<SitedItem<'a, 'v>>, Refusal>
+    ensures { Gives (λ v. v.items) result (each item_sited offers.now) }
+{
+    let mut all = Vec::new(alloc);
+    for offer in offers {
+        let first = check_sites(&offer.first)?;
+        let more = offer.more.as_slice();
+        all.push(SitedItem { first, more })?;
+    }
+    Ok(all)
+}
+
+fn unfold_all(alloc: Global, offers: &[SitedItem<'_, '_>]) -> Result<Vec<Op>, Refusal>
+    ensures { Gives (λ v. v.items) result (all_operations offers.now) }
+{
+    let mut ops = Vec::new(alloc);
+    for offer in offers {
+        unfold(&mut ops, offer)?;
+    }
+    Ok(ops)
+}
+
+fn read_item<'v>(alloc: Global, value: &'v Value) -> Result<ItemOffer<'v>, Refusal>
+    ensures { Gives (λ o. o) result (item_offer_of (view value.now)) }
+{
+    match read_text(value, "k")? {
+        "r" => read_run(alloc, value),
+        _ => {
+            let first = read_offer(value)?;
+            let more = Vec::new(alloc);
+            Ok(ItemOffer { first, more })
+        }
+    }
+}
+
+fn read_run<'v>(alloc: Global, value: &'v Value) -> Result<ItemOffer<'v>, Refusal>
+    ensures { Gives (λ o. o) result (run_of (view value.now)) }
+{
+    check_keys(value, &["c", "k", "p", "s", "x"])?;
+    let pairs = read_list(value, "c")?;
+    check_pairs(pairs)?;
+    let parent = read_parent(read_member(value, "p")?)?;
+    let site = read_number(value, "s")?;
+    let (ch, more) = read_chars(alloc, read_text(value, "x")?)?;
+    let kind = OfferedKind::Ins { parent, ch };
+    let first = Offer { site, pairs, kind };
+    Ok(ItemOffer { first, more })
+}
+
+// The first character of a text of 2 to 64, and those behind it.
+fn read_chars(alloc: Global, text: &str) -> Result<(char, Vec<char>), Refusal>
+    ensures { Gives (λ p. (p.0, p.1.items)) result (run_chars (chars text.now)) }
+{
+    let count = count_chars(text);
+    if count < 2 || count > 64 {
+        return Err(Refusal::BadField);
+    }
+    let all = all_chars(alloc, text)?;
+    match all.as_slice() {
+        [first, rest @ ..] => Ok((*first, rest.to_vec(alloc)?)),
+        [] => Err(Refusal::BadField),
+    }
+}
+
+fn all_chars(alloc: Global, text: &str) -> Result<Vec<char>, Refusal>
+    ensures ok { IfOk result (λ v. v.items ≡ chars text.now) }
+    ensures memory { IfErr result (λ e. e ≡ Memory) }
+{
+    Ok(text.chars().collect(alloc)?)
+}
+
+// Adds the operations of an item.
+fn unfold(ops: &mut Vec<Op>, offer: &SitedItem<'_, '_>) -> Result<(), Refusal>
+    ensures ok { OnOk result ((xs : List Operation) × (item_operations offer.now ≡ Ok xs) × (ops.new.items ≡ ops.old.items ++ xs)) }
+    ensures err { IfErr result (λ e. (e ≡ Memory) ⊎ (item_operations offer.now ≡ Err e)) }
+{
+    let first = check_clock(&offer.first)?;
+    let sum = first.clock().sum();
+    if offer.more.len() > (MAX_SUM - sum) as usize {
+        return Err(Refusal::BadClock);
+    }
+    unfold_run(ops, first, offer.more)
+}
+
+// Adds an operation and the insertions that follow it.
+fn unfold_run(ops: &mut Vec<Op>, first: Op, more: &[char]) -> Result<(), Refusal>
+    requires { sum first.clock + length more.now ≤ MAX_SUM }
+    ensures ok { OnOk result (ops.new.items ≡ ops.old.items ++ (first ∷ following first more.now)) }
+    ensures memory { IfErr result (λ e. e ≡ Memory) }
+{
+    ops.push(first)?;
+    let mut last = first;
+    for ch in more {
+        last = next_op(&last, *ch);
+        ops.push(last)?;
+    }
+    Ok(())
+}
+
+// The insertion of a character that follows an operation.
+pub(crate) fn next_op(last: &Op, ch: char) -> Op
+    requires { sum last.now.clock < MAX_SUM }
+    ensures value { result ≡ next last.now ch }
+    ensures total { sum result.clock ≡ sum last.now.clock + 1 }
+{
+    let site = last.site();
+    let parent = Some(last.stamp());
+    let Ok(op) = Op::new(site, last.clock().raised(site), OpKind::Ins { parent, ch }) else {
+        unreachable!();
+    };
+    op
+}

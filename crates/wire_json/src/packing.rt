@@ -1,0 +1,153 @@
+//! Packing operations into runs, from the left.
+ghost use Rattle.std.specs.Prelude.{◌≡◌, ◌<◌, ◌++◌, ◌∷◌, true, map, length, IfOk, OnOk, string_bytes, encode_utf8_all};
+ghost use Rattle.std.specs.List.{AllByRecursion};
+ghost use Rattle.opid.specs.declared.kind.OpKind.TheVariants as kinds;
+ghost use Rattle.serde_json.specs.View.{view, items_view};
+ghost use Rattle.wire_json.specs.Packing.{joins, is_next, alone, with_one_more, packed};
+ghost use Rattle.wire_json.specs.Text.{IsOperationInRange};
+ghost use Rattle.wire_json.specs.Written.{each_data, item_data, run_data_of};
+
+use crate::items::next_op;
+use crate::operation_values::{check_op, clock_values, op_value, parent_value};
+use causal_clock::{Clock, MAX_SUM, Op};
+use opid::{OpKind, Site, Stamp};
+use serde_json::{Value, json, push};
+use std::alloc::{AllocError, Global};
+use std::marker::Model;
+
+/// A run has at most so many insertions.
+const MAX_RUN: usize = 64;
+
+/// An operation, and the characters of the insertions that follow it.
+#[derive(Drop)]
+struct Item {
+    first: Op,
+    last: Op,
+    more: Vec<char>,
+}
+
+impl Model for Item {
+    ghost use Rattle.std.specs.Prelude.{◌≡◌};
+    ghost use Rattle.wire_json.specs.Packing.{Item as Packed, last_of};
+
+    ghost Value = { Packed };
+
+    ghost view = { λ i. record { first = i.first; more = i.more.items } };
+
+    ghost invariant = { λ i. i.last ≡ last_of i.first i.more.items };
+}
+
+impl Item {
+    fn new(alloc: Global, op: Op) -> Item
+        ensures { result ≡ alone op }
+    {
+        Item {
+            first: op,
+            last: op,
+            more: Vec::new(alloc),
+        }
+    }
+
+    /// Whether the operation joins the run.
+    fn is_joined_by(&self, op: &Op) -> bool
+        ensures { result ≡ joins self.now op.now }
+    {
+        self.more.len() + 1 < MAX_RUN && is_next(&self.last, op)
+    }
+
+    fn push(&mut self, op: &Op) -> Result<(), AllocError>
+        requires { joins self.old op.now ≡ true }
+        ensures { OnOk result (self.new ≡ with_one_more self.old op.now) }
+    {
+        match op.kind() {
+            OpKind::Ins { parent: _, ch } => self.more.push(ch)?,
+            OpKind::Del { target: _ } => unreachable!(),
+        }
+        self.last = *op;
+        Ok(())
+    }
+}
+
+// Whether the first is an insertion, and the second the next one after it.
+fn is_next(x: &Op, y: &Op) -> bool
+    ensures { result ≡ is_next x.now y.now }
+{
+    let _ = x.site();
+    let _ = y.site();
+    match (x.kind(), y.kind()) {
+        (OpKind::Ins { parent: _, ch: _ }, OpKind::Ins { parent: _, ch }) => {
+            x.clock().sum() < MAX_SUM && *y == next_op(x, ch)
+        }
+        _ => false,
+    }
+}
+
+/// The JSON values of operations, packed from the left: an insertion joins the run before it where it is that run's next
+/// one and the run has fewer than 64 characters. Takes time and memory in proportion to the operations.
+pub(crate) fn packed_values(alloc: Global, ops: &[Op]) -> Result<Vec<Value>, AllocError>
+    ensures values { IfOk result (λ list. items_view list.items ≡ each_data item_data (packed ops.now)) }
+    ensures in_range { OnOk result (AllByRecursion IsOperationInRange ops.now) }
+{
+    let mut list = Vec::with_capacity(alloc, ops.len())?;
+    let [first, rest @ ..] = ops else {
+        return Ok(list);
+    };
+    check_op(first);
+    let mut item = Item::new(alloc, *first);
+    for op in rest {
+        check_op(op);
+        if item.is_joined_by(op) {
+            item.push(op)?;
+        } else {
+            let value = item_value(alloc, &item)?;
+            push(&mut list, value)?;
+            item = Item::new(alloc, *op);
+        }
+    }
+    let value = item_value(alloc, &item)?;
+    push(&mut list, value)?;
+    Ok(list)
+}
+
+fn item_value(alloc: Global, item: &Item) -> Result<Value, AllocError>
+    ensures { IfOk result (λ out. view out ≡ item_data item.now) }
+{
+    let first = &item.first;
+    match item.more.as_slice() {
+        [] => op_value(alloc, first),
+        more => match first.kind() {
+            OpKind::Ins { parent, ch } => {
+                run_value(alloc, first.site(), &first.clock(), parent, ch, more)
+            }
+            OpKind::Del { target: _ } => op_value(alloc, first),
+        },
+    }
+}
+
+fn run_value(
+    alloc: Global,
+    site: Site,
+    clock: &Clock,
+    parent: Option<Stamp>,
+    ch: char,
+    more: &[char],
+) -> Result<Value, AllocError>
+    ensures { IfOk result (λ out. view out ≡ run_data_of site clock.now (kinds.Ins parent ch) more.now) }
+{
+    let site = u32::from(site.number());
+    let pairs = clock_values(alloc, clock)?;
+    let parent = parent_value(alloc, parent)?;
+    let text = text_of(alloc, ch, more)?;
+    json!(in alloc; {"c": pairs, "k": "r", "p": parent, "s": site, "x": text})
+}
+
+fn text_of(alloc: Global, first: char, more: &[char]) -> Result<String, AllocError>
+    ensures { IfOk result (λ s. string_bytes s ≡ encode_utf8_all (first ∷ more.now)) }
+{
+    let mut text = String::new(alloc);
+    text.push(first)?;
+    for ch in more {
+        text.push(*ch)?;
+    }
+    Ok(text)
+}
