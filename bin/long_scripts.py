@@ -68,7 +68,7 @@ def random_event(dice, played):
     if kind == "read":
         return played.call(site, t="read")
     if kind == "ops":
-        return played.call(site, t="ops", after=dice.randint(0, len(room.log) + 1), max=dice.randint(0, 4))
+        return played.call(site, t="ops", after=dice.randint(0, len(room.log) + 1), max=dice.choice([*range(5), 64, 65]))
     if kind == "join" or not room.sessions:
         return played.call(site, t="join")
     s = dice.choice([*room.sessions])

@@ -8,6 +8,7 @@ docs/SCRIPTS.md; the tree is that of Attiya and others (2016)."""
 import collections
 
 SITES, LIMIT, MOST_HELD, MOST_SESSIONS = 32, 131_072, 1_024, 64
+LONGEST_RUN = 64
 
 # A clock has a count for each site. An insertion has a parent (None: the head) and a character, a deletion a target.
 Operation = collections.namedtuple("Operation", "site clock kind place char stamp number")
@@ -76,13 +77,33 @@ def refusal(log, operation):
     return None
 
 
-def object_of(operation):
-    """An operation as replies have it."""
-    clock = [[site, count] for site, count in enumerate(operation.clock) if count]
-    where = list(operation.place) if operation.place else None
-    if operation.kind == "i":
-        return {"c": clock, "k": "i", "p": where, "s": operation.site, "x": operation.char}
-    return {"c": clock, "k": "d", "s": operation.site, "t": where}
+def follows(operation, before):
+    """Whether it is the insertion that the site of the one before makes next, directly behind that one's element."""
+    clock = [count + (site == before.site) for site, count in enumerate(before.clock)]
+    next_one = operation_of(before.site, tuple(clock), "i", before.stamp, operation.char)
+    return before.kind == "i" and operation == next_one
+
+
+def packed(operations):
+    """Operations as lists, from the left: each joins the list before it where it follows its last one and there is room."""
+    runs = []
+    for operation in operations:
+        if runs and len(runs[-1]) < LONGEST_RUN and follows(operation, runs[-1][-1]):
+            runs[-1].append(operation)
+        else:
+            runs.append([operation])
+    return runs
+
+
+def object_of(run):
+    """An operation, or a run of insertions, as replies have it."""
+    first = run[0]
+    clock = [[site, count] for site, count in enumerate(first.clock) if count]
+    where = list(first.place) if first.place else None
+    if first.kind == "i":
+        text = "".join(operation.char for operation in run)
+        return {"c": clock, "k": "i" if len(run) == 1 else "r", "p": where, "s": first.site, "x": text}
+    return {"c": clock, "k": "d", "s": first.site, "t": where}
 
 
 class Room:
@@ -117,7 +138,7 @@ class Room:
     def answer_ops(self, after, max):
         if after > len(self.log) or not 1 <= max <= 64:
             raise Refused(23)
-        return {"from": after, "ops": [object_of(operation) for operation in self.log[after : after + max]], "r": "ops"}
+        return {"from": after, "ops": [object_of(run) for run in packed(self.log[after : after + max])], "r": "ops"}
 
     def answer_pull(self, s, have, max):
         session = self.session(s)

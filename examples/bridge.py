@@ -15,10 +15,22 @@ import time
 
 from client import Lost, Refused, Socket
 
-MOST = 64  # operations of an `ops` or a `put`
+MOST = 64  # operations of an `ops` or a `put`, a run counting as many as it has characters
 SOON, LATE = 0.02, 1.0  # seconds between two polls
 NOT_YET = 18  # too many wait for what hasn't come
 NEVER = (17, 19, 20, 21)  # a forged operation, or one of another life of the room
+
+
+def unfolded(it):
+    """The operations of an object: a run stands for an insertion for each of its characters, each behind the one before."""
+    if it["k"] != "r":
+        return [it]
+    operations, clock, parent = [], dict(it["c"]), it["p"]
+    for character in it["x"]:
+        operations.append({"c": [list(pair) for pair in clock.items()], "k": "i", "p": parent, "s": it["s"], "x": character})
+        parent = [sum(clock.values()), it["s"]]
+        clock[it["s"]] += 1
+    return operations
 
 
 class Room:
@@ -37,8 +49,9 @@ class Room:
         return reply
 
     def news(self):
-        """The next operations of the log."""
-        return self.ask({"t": "ops", "after": self.seen, "max": MOST})["ops"]
+        """The next operations of the log, each by itself."""
+        objects = self.ask({"t": "ops", "after": self.seen, "max": MOST})["ops"]
+        return [operation for it in objects for operation in unfolded(it)]
 
     def put(self, operations):
         """Puts operations, at most 64, and gives those that have to come again since too many wait."""
