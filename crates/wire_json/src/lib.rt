@@ -12,6 +12,8 @@ mod operations;
 mod packing;
 mod reading;
 #[cfg(test)]
+mod run_tests;
+#[cfg(test)]
 mod tests;
 mod writing;
 

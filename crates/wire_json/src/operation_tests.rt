@@ -21,7 +21,7 @@ fn op_of(alloc: Global, text: &str) -> Result<Op, Refusal> {
     read_op(&value)
 }
 
-fn ops_of(alloc: Global, text: &str) -> Result<Vec<Op>, Refusal> {
+pub(crate) fn ops_of(alloc: Global, text: &str) -> Result<Vec<Op>, Refusal> {
     match Value::from_str(alloc, text) {
         Ok(Value::Array(values)) => read_items(alloc, values.as_slice()),
         _ => Err(Refusal::BadJson),

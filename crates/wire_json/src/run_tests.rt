@@ -1,0 +1,215 @@
+//! Runs as JSON shows them.
+use crate::operation_tests::ops_of;
+use crate::packing::packed_values;
+use causal_clock::{Clock, MAX_SUM, Op};
+use opid::{OpKind, Refusal, Site, Stamp};
+use serde_json::Value;
+use std::alloc::Global;
+use std::test::Fail;
+
+const ABC: &str = "[{\"c\":[[1,1]],\"k\":\"r\",\"p\":null,\"s\":1,\"x\":\"abc\"}]";
+
+const A_B_C: &str =
+    "[{\"c\":[[1,1]],\"k\":\"i\",\"p\":null,\"s\":1,\"x\":\"a\"},{\"c\":[[1,2]],\"k\":\"i\",\"p\":[1,1],\"s\":1,\"x\":\"b\"},\
+    {\"c\":[[1,3]],\"k\":\"i\",\"p\":[2,1],\"s\":1,\"x\":\"c\"}]";
+
+// The text of operations, packed.
+fn packed(alloc: Global, ops: &[Op]) -> Result<String, Refusal> {
+    let list = Value::Array(packed_values(alloc, ops)?);
+    Ok(list.to_string(alloc)?)
+}
+
+// The text of the operations that a text tells, packed.
+fn packed_again(alloc: Global, text: &str) -> Result<String, Refusal> {
+    let ops = ops_of(alloc, text)?;
+    packed(alloc, ops.as_slice())
+}
+
+// Whether operations are those that their packed text tells.
+fn are_read_back(alloc: Global, ops: &[Op]) -> Result<bool, Refusal> {
+    let text = packed(alloc, ops)?;
+    let read = ops_of(alloc, text.as_str())?;
+    Ok(read.as_slice() == ops)
+}
+
+// One operation more, of a site that knows all before it: at the head, behind the newest element, or its deletion.
+fn grow(ops: &mut Vec<Op>, site: Site, what: u32, ch: char) -> Result<(), Refusal> {
+    let (clock, newest) = match ops.last() {
+        Some(op) => (op.clock(), Some(op.stamp())),
+        None => (Clock::zero(), None),
+    };
+    if clock.sum() >= MAX_SUM {
+        return Err(Refusal::Full);
+    }
+    let op = Op::new(site, clock.raised(site), kind_of(what, newest, ch))?;
+    ops.push(op)?;
+    Ok(())
+}
+
+fn kind_of(what: u32, newest: Option<Stamp>, ch: char) -> OpKind {
+    match (what, newest) {
+        (0, _) => OpKind::Ins { parent: None, ch },
+        (1, Some(target)) => OpKind::Del { target },
+        _ => OpKind::Ins { parent: newest, ch },
+    }
+}
+
+// The log that a number's digits tell, of which each says by whom and what the next operation is.
+fn log_of(alloc: Global, number: u32, length: u32) -> Result<Vec<Op>, Refusal> {
+    let mut ops = Vec::new(alloc);
+    let mut left = number;
+    for _ in 0..length {
+        let digit = left % 10;
+        left /= 10;
+        let site = Site::new((digit % 2) as u8)?;
+        match digit / 2 {
+            0 => grow(&mut ops, site, 0, 'a')?,
+            1 => grow(&mut ops, site, 0, 'b')?,
+            2 => grow(&mut ops, site, 2, 'a')?,
+            3 => grow(&mut ops, site, 2, 'b')?,
+            _ => grow(&mut ops, site, 1, 'a')?,
+        }
+    }
+    Ok(ops)
+}
+
+// A log of 2,000 operations of four sites, most of them typed behind the one before.
+fn random_log(alloc: Global) -> Result<Vec<Op>, Refusal> {
+    let mut ops = Vec::new(alloc);
+    let mut site = Site::new(0)?;
+    let mut seed: u64 = 24;
+    for _ in 0..2_000 {
+        seed = seed
+            .wrapping_mul(6_364_136_223_846_793_005)
+            .wrapping_add(1_442_695_040_888_963_407);
+        let dice = (seed >> 33) as u32;
+        if dice % 40 == 0 {
+            site = Site::new((dice / 64 % 4) as u8)?;
+        }
+        grow(&mut ops, site, dice / 1024 % 80, 'é')?;
+    }
+    Ok(ops)
+}
+
+#[test]
+fn a_run_is_its_insertions(rt: HostRuntime) -> Result<(), Fail> {
+    let alloc = rt.alloc();
+    let run = ops_of(alloc, ABC)?;
+    let each = ops_of(alloc, A_B_C)?;
+    assert!(rt; run.as_slice() == each.as_slice());
+    assert!(rt; packed_again(alloc, A_B_C)?.as_str() == ABC);
+    assert!(rt; packed_again(alloc, ABC)?.as_str() == ABC);
+    let rest = packed(alloc, each.as_slice().get(1..).unwrap_or(&[]))?;
+    let wanted = "[{\"c\":[[1,2]],\"k\":\"r\",\"p\":[1,1],\"s\":1,\"x\":\"bc\"}]";
+    assert!(rt; rest.as_str() == wanted);
+    let empty: [Op; 0] = [];
+    assert!(rt; packed(alloc, &empty)?.as_str() == "[]");
+    Ok(())
+}
+
+#[test]
+fn a_run_has_at_most_64_characters(rt: HostRuntime) -> Result<(), Fail> {
+    let alloc = rt.alloc();
+    let mut ops = Vec::new(alloc);
+    for _ in 0..65 {
+        grow(&mut ops, Site::new(0)?, 2, 'a')?;
+    }
+    let wanted =
+        "[{\"c\":[[0,1]],\"k\":\"r\",\"p\":null,\"s\":0,\"x\":\"aaaaaaaaaaaaaaaaaaaaaaaaaaaaaaaaaaaaaaaaaaaaaaaaaaaaaaaaaaaaaaaa\"},\
+        {\"c\":[[0,65]],\"k\":\"i\",\"p\":[64,0],\"s\":0,\"x\":\"a\"}]";
+    assert!(rt; packed(alloc, ops.as_slice())?.as_str() == wanted);
+    assert!(rt; packed_again(alloc, wanted)?.as_str() == wanted);
+    Ok(())
+}
+
+// Over a deletion, of two sites, behind another element, with a clock that counts another's operation, at the limit.
+#[test]
+fn what_does_not_follow_stands_apart(rt: HostRuntime) -> Result<(), Fail> {
+    let alloc = rt.alloc();
+    for text in [
+        "[{\"c\":[[0,1]],\"k\":\"i\",\"p\":null,\"s\":0,\"x\":\"a\"},{\"c\":[[0,2]],\"k\":\"d\",\"s\":0,\"t\":[1,0]},\
+        {\"c\":[[0,3]],\"k\":\"i\",\"p\":[1,0],\"s\":0,\"x\":\"b\"},{\"c\":[[0,4]],\"k\":\"d\",\"s\":0,\"t\":[3,0]}]",
+        "[{\"c\":[[0,1]],\"k\":\"i\",\"p\":null,\"s\":0,\"x\":\"a\"},{\"c\":[[0,1],[1,1]],\"k\":\"i\",\"p\":[1,0],\"s\":1,\"x\":\"b\"}]",
+        "[{\"c\":[[0,1]],\"k\":\"i\",\"p\":null,\"s\":0,\"x\":\"a\"},{\"c\":[[0,2]],\"k\":\"i\",\"p\":null,\"s\":0,\"x\":\"b\"}]",
+        "[{\"c\":[[0,1]],\"k\":\"i\",\"p\":null,\"s\":0,\"x\":\"a\"},{\"c\":[[0,2],[1,1]],\"k\":\"i\",\"p\":[1,0],\"s\":0,\"x\":\"b\"}]",
+        "[{\"c\":[[0,131072]],\"k\":\"i\",\"p\":null,\"s\":0,\"x\":\"a\"},{\"c\":[[0,1]],\"k\":\"i\",\"p\":[131072,0],\"s\":0,\"x\":\"b\"}]",
+    ] {
+        assert!(rt; packed_again(alloc, text)?.as_str() == text);
+    }
+    Ok(())
+}
+
+#[test]
+fn tells_what_is_wrong_with_a_run(rt: HostRuntime) -> Result<(), Fail> {
+    let alloc = rt.alloc();
+    for (text, fault) in [
+        (
+            "[{\"c\":[[1,1]],\"k\":\"r\",\"p\":null,\"s\":1,\"x\":\"\"}]",
+            Refusal::BadField,
+        ),
+        (
+            "[{\"c\":[[1,1]],\"k\":\"r\",\"p\":null,\"s\":1,\"x\":\"a\"}]",
+            Refusal::BadField,
+        ),
+        (
+            "[{\"c\":[[1,1]],\"k\":\"r\",\"p\":null,\"s\":1,\"x\":\"aaaaaaaaaaaaaaaaaaaaaaaaaaaaaaaaaaaaaaaaaaaaaaaaaaaaaaaaaaaaaaaaa\"}]",
+            Refusal::BadField,
+        ),
+        (
+            "[{\"c\":[[1,1]],\"k\":\"r\",\"s\":1,\"t\":[1,0],\"x\":\"ab\"}]",
+            Refusal::BadField,
+        ),
+        (
+            "[{\"c\":[[1,1]],\"k\":\"r\",\"p\":[1,32],\"s\":1,\"x\":\"ab\"}]",
+            Refusal::BadSite,
+        ),
+        (
+            "[{\"c\":[[2,1]],\"k\":\"r\",\"p\":null,\"s\":1,\"x\":\"ab\"}]",
+            Refusal::BadClock,
+        ),
+        (
+            "[{\"c\":[[1,131072]],\"k\":\"r\",\"p\":null,\"s\":1,\"x\":\"ab\"}]",
+            Refusal::BadClock,
+        ),
+        (
+            "[{\"c\":[[1,0]],\"k\":\"d\",\"s\":1,\"t\":[1,0]},{\"c\":[[1,1]],\"k\":\"r\",\"p\":null,\"s\":1,\"x\":\"a\"}]",
+            Refusal::BadField,
+        ),
+    ] {
+        assert_eq!(rt; ops_of(alloc, text).err(), Some(fault));
+    }
+    let last = "[{\"c\":[[1,131071]],\"k\":\"r\",\"p\":null,\"s\":1,\"x\":\"ab\"}]";
+    assert!(rt; packed_again(alloc, last)?.as_str() == last);
+    Ok(())
+}
+
+// The first operation is site 0's insertion of an a: the other site and character have the same logs.
+#[test]
+fn every_short_log_is_read_back(rt: HostRuntime) -> Result<(), Fail> {
+    let alloc = rt.alloc();
+    let mut all = true;
+    for (length, logs) in [
+        (1, 1),
+        (2, 10),
+        (3, 100),
+        (4, 1_000),
+        (5, 10_000),
+        (6, 100_000),
+    ] {
+        for number in 0..logs {
+            let ops = log_of(alloc, 10 * number, length)?;
+            all &= are_read_back(alloc, ops.as_slice())?;
+        }
+    }
+    assert!(rt; all);
+    Ok(())
+}
+
+#[test]
+fn a_long_log_is_read_back(rt: HostRuntime) -> Result<(), Fail> {
+    let alloc = rt.alloc();
+    let ops = random_log(alloc)?;
+    assert_eq!(rt; ops.len(), 2_000);
+    assert!(rt; are_read_back(alloc, ops.as_slice())?);
+    Ok(())
+}
