@@ -1,16 +1,16 @@
 -- The UTF-16 units that a version's list tells are those of the log's version.
-use Rattle.std.proofs.Common.{◌≡◌, ℕ, ◌<◌, ◌≤◌, Bool, true, false, cond, not, inl, inr, Option, Some, None, List, [], ◌∷◌, ◌++◌, map, length}
+use Rattle.std.proofs.Common.{◌≡◌, ℕ, ◌<◌, ◌≤◌, Bool, true, false, cond, not, inl, inr, Option, Some, None, List, [], ◌∷◌, ◌++◌, map}
+use Rattle.std.proofs.Common.{length}
 use Rattle.std.proofs.Common.{take, refl, ap, ap₂, ◌∙◌, sym, subst, arith}
-use Rattle.std.specs.Prelude.{filter, slice_get, option_map, nat_lt}
+use Rattle.std.specs.Prelude.{filter, slice_get, option_map}
 use Rattle.std.specs.List.{AllByRecursion as Each}
 use Rattle.std.specs.Char.Utf16.{is_low_surrogate}
 use Rattle.std.proofs.lemmas.Bool.{cond-true, cond-false}
-use Rattle.std.proofs.lemmas.Bool.Decides.{nat_tests}
 use Rattle.std.proofs.lemmas.List.{length-map, map-append}
 use Rattle.opid.specs.declared.stamp.Stamp.{Stamp}
 use Rattle.opid.specs.Operations.{Operation, Insertion, insertions, is_deleted}
 use Rattle.opid.specs.Tree.{all}
-use Rattle.opid.specs.Units.{is_character, units_of, parts_of, items_in}
+use Rattle.opid.specs.Units.{units_of, parts_of, items_in}
 use Rattle.opid.specs.Reading.{visible_at, visible_in, visible_in_at}
 use Rattle.opid.specs.Edits.{place_of}
 use Rattle.opid.specs.Lawful.{IsLawful}
@@ -22,23 +22,11 @@ use Rattle.rga_list.specs.Listed.{entry_for, listed}
 use Rattle.counted_tree.specs.Entry.{units}
 use Rattle.counted_tree.specs.Versions.{Versions, version_list}
 use Rattle.versions.specs.Joined.{is_wide, plain, list_of, TellsVersions}
+use Rattle.versions.proofs.Widths.{width}
 use Rattle.versions.proofs.Joins.{get-map}
 use Rattle.versions.proofs.Versions.{number_at, IsFound, found_each, same_stamp}
 
--- ---- the width of a character
-
--- it has two units where it is wide, else one
-pub width : (ch : ℕ) → length (units_of ch) ≡ cond (is_wide ch) 2 1
-width ch = go _ _ (is_character ch) (nat_lt ch 0x10000) (is_wide ch) refl refl refl
-  where
-    go : (a b : ℕ) (t u w : Bool) → is_character ch ≡ t → nat_lt ch 0x10000 ≡ u → is_wide ch ≡ w
-        → length (cond t (cond u (ch ∷ []) (a ∷ b ∷ [])) (0xFFFD ∷ [])) ≡ cond w 2 1
-    go a b true true false p q r = refl
-    go a b true false true p q r = refl
-    go a b false u false p q r = refl
-    go a b true true true p q r = absurd (grind (arith, nat_tests))
-    go a b true false false p q r = absurd (grind (arith, nat_tests))
-    go a b false u true p q r = absurd (grind (arith, nat_tests))
+-- ---- wide characters
 
 narrow : (ch a : ℕ) → units_of ch ≡ a ∷ [] → is_wide ch ≡ false
 narrow ch a e = go (is_wide ch) (sym (width ch) ∙ ap length e)
@@ -142,7 +130,8 @@ unit_found log tree v k found l o t h f = go (slice_get (visible_in_at true log 
       y,
       q,
       same_unit _ _ (g ∙ ap (option_map (unit_of (take v log))) q),
-      Each-some (λ (z : Insertion). IsNamed log v z) (visible_in_at true log v) k y (named_each log v (visible_at log v) (found_each log v l o)) q,
+      Each-some (λ (z : Insertion). IsNamed log v z) (visible_in_at true log v) k y
+          (named_each log v (visible_at log v) (found_each log v l o)) q,
     )
 
 -- the stamp of a unit's element, and 1 where the unit is the second of a pair

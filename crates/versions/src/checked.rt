@@ -38,6 +38,14 @@ pub(crate) fn edit_at(doc: &Doc, version: u32) -> Option<Edit> {
     Some(doc.edit(version))
 }
 
+/// The same edit in UTF-16 units, if there is one.
+pub(crate) fn edit_units_at(doc: &Doc, version: u32) -> Option<Edit> {
+    if version == 0 || version > doc.version() {
+        return None;
+    }
+    Some(doc.edit_units(version))
+}
+
 /// How many characters the version has, if there is that version.
 pub(crate) fn len_at(doc: &Doc, version: u32) -> Option<usize> {
     if version > doc.version() {

@@ -2,9 +2,11 @@
 //! asks borrows the documents, since what a function owns costs its proof at each step.)
 ghost use Rattle.std.specs.Prelude.{◌<◌};
 
-use crate::checked::{edit_at, element_at, integrate, len_at, next_op, op_at, unit_at, units_at};
+use crate::checked::{
+    edit_at, edit_units_at, element_at, integrate, len_at, next_op, op_at, unit_at, units_at,
+};
 use crate::lives::Lives;
-use crate::plain::{Insertion, Plain, edit_of};
+use crate::plain::{Insertion, Plain, edit_of, edit_units_of};
 use crate::{Characters, Doc};
 use causal_clock::Clock;
 use opid::{OpKind, Refusal, Site, Stamp};
@@ -185,7 +187,9 @@ fn is_next(
     let after = plain.visible(alloc)?;
     let next = version.saturating_add(1);
     let edit = edit_of(op.stamp(), op.kind(), before, &after);
+    let edit_units = edit_units_of(op.stamp(), op.kind(), before, &after);
     let all = edit_at(doc, next) == Some(edit)
+        && edit_units_at(doc, next) == Some(edit_units)
         && shows(doc, next, &after, dice)?
         && has_units(alloc, doc, next, &after, dice)?;
     Ok((all, after))

@@ -8,7 +8,7 @@ ghost use Rattle.opid.specs.Delivery.{clock_of, is_ready};
 ghost use Rattle.opid.specs.Reading.{visible_at, visible_in_at, reading, reading_at};
 ghost use Rattle.opid.specs.Lawful.{IsLawful, IsRisingAt};
 ghost use Rattle.opid.specs.Splice.{apply};
-ghost use Rattle.opid.specs.Edits.{edit_after, edits};
+ghost use Rattle.opid.specs.Edits.{edit_after, edits, edit_after_in, edits_in};
 ghost use Rattle.causal_clock.specs.Kinds.{IsOperation};
 ghost use Rattle.versions.specs.Causes.{refusal_of};
 ghost use Rattle.versions.specs.Sums.{last_sum};
@@ -27,7 +27,8 @@ use std::alloc::{AllocError, Global};
 use std::marker::Model;
 
 /// A lawful log of at most 131,072 operations, every version of which can be read: version n is what its first n
-/// operations make. A place counts characters (Unicode scalar values) from 0.
+/// operations make. A place counts characters (Unicode scalar values) from 0, or UTF-16 units in the calls that are named
+/// for them.
 #[derive(Drop)]
 pub struct Doc {
     log: OpLog,
@@ -200,7 +201,18 @@ impl Doc {
         ensures value { slice_get (edits self.now.log) (n - 1) ≡ Some result }
         ensures after { (x : Operation) → slice_get self.now.log (n - 1) ≡ Some x → result ≡ edit_after (take (n - 1) self.now.log) x }
     {
-        self.edits[n as usize - 1].edit()
+        self.edits[n as usize - 1].edit(false)
+    }
+
+    /// The same edit, with its place in UTF-16 units. Constant time.
+    pub fn edit_units(&self, n: u32) -> Edit
+        requires first { 1 ≤ n }
+        requires last { n ≤ length self.now.log }
+        ensures value { slice_get (edits_in true self.now.log) (n - 1) ≡ Some result }
+        ensures after { (x : Operation) → slice_get self.now.log (n - 1) ≡ Some x
+            → result ≡ edit_after_in true (take (n - 1) self.now.log) x }
+    {
+        self.edits[n as usize - 1].edit(true)
     }
 
     /// How many characters there are in the version. Constant time.

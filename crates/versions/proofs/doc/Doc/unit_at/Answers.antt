@@ -9,8 +9,8 @@ pub get-requires : goal.get-requires
 get-requires c =
     let low : c.args.version ≤ length c.self.inside.log.ops =
     omega (arith, c.requires, ap (λ (r : Document). length r.log) c.self.view_is) in
-    unit_within c.self.inside.log.ops c.self.inside.tree c.self.inside.list.entries c.args.version c.args.place c.in-Some.elem c.in-Some.second
-    c.self.invariant.0.lawful c.self.invariant.0.told c.self.invariant.0.shown c.len.ensures.own low
+    unit_within c.self.inside.log.ops c.self.inside.tree c.self.inside.list.entries c.args.version c.args.place c.in-Some.elem
+    c.in-Some.second c.self.invariant.0.lawful c.self.invariant.0.told c.self.invariant.0.shown c.len.ensures.own low
     (sym c.in-Some.is ∙ c.find_units.ensures.found)
 
 pub returns-in-None : goal.returns-in-None
@@ -26,8 +26,8 @@ pub returns-in-Some : goal.returns-in-Some
 returns-in-Some c =
     let low : c.args.version ≤ length c.self.inside.log.ops =
     omega (arith, c.requires, ap (λ (r : Document). length r.log) c.self.view_is) in
-    unit_told c.self.inside.log.ops c.self.inside.tree c.self.inside.list.entries c.args.version c.args.place c.in-Some.elem c.in-Some.second
-    c.get.result.0 c.get.result.1 c.get.result.2 c.self.invariant.0.lawful c.self.invariant.0.told c.self.invariant.0.shown
+    unit_told c.self.inside.log.ops c.self.inside.tree c.self.inside.list.entries c.args.version c.args.place c.in-Some.elem
+    c.in-Some.second c.get.result.0 c.get.result.1 c.get.result.2 c.self.invariant.0.lawful c.self.invariant.0.told c.self.invariant.0.shown
     c.len.ensures.own low (sym c.in-Some.is ∙ c.find_units.ensures.found) c.get.ensures
     ∙ ap (λ (r : Document). option_map told_of (slice_get (visible_in_at true r.log c.args.version) c.args.place))
     c.self.view_is
