@@ -23,6 +23,11 @@ use std::alloc::Global;
 
 /// The single operations that JSON values tell, each an operation object or a run object, refused as `read_op` does: each
 /// fault is sought in all values before the next. `Memory` may stand in the place of any answer.
+///
+/// A run object has the keys of an insertion, `k` the text `r`, and `x` a text of 2 to 64 characters, else `BadField`. It
+/// stands for the insertions that its site asks for by typing that text at once: the first has its clock and parent, each
+/// next one the clock before it raised at the site, and the element before it as its parent. `BadClock` where the last
+/// clock's sum exceeds 131,072. Takes time and memory in proportion to the values and their single operations.
 pub(crate) fn read_items(alloc: Global, values: &[Value]) -> Result<Vec<Op>, Refusal>
     ensures { Gives (λ ops. ops.items) result (packed_ops_of (items_in (items_view values.now))) }
 {

@@ -14,7 +14,8 @@ use room::{Outcome, Reply};
 use serde_json::{Value, json, push};
 use std::alloc::{AllocError, Global};
 
-/// The one text of a reply: a compact JSON object, its keys in the order of their bytes, with no line feed.
+/// The one text of a reply: a compact JSON object, its keys in the order of their bytes, with no line feed. Operations are
+/// packed into runs from the left.
 ///
 /// Refused with `Memory`. Takes time and memory in proportion to the text.
 pub fn write_reply(alloc: Global, reply: &Reply) -> Result<String, Refusal>
