@@ -3,7 +3,6 @@ use Rattle.std.proofs.Common.{◌≡◌, ℕ, zero, suc, ◌+◌, ◌%◌, ◌<�
 use Rattle.std.proofs.Common.{set, get_or, refl, ap, ◌∙◌, sym, subst, arith, length-append, get_or-set_other, get_or-set_same}
 use mathlib.Core.Path.{ap₂}
 use Rattle.std.proofs.lemmas.Bool.{cases_eq, cond-true, cond-false, eq-eqb, eqb-true, false_from_ne_true}
-use Rattle.std.proofs.lemmas.List.Sums.{count_by-le-length}
 use Rattle.std.proofs.lemmas.List.{get_or_append_left, get_or_push, length_push}
 use Rattle.opid.specs.Operations.{Operation}
 use Rattle.opid.specs.Delivery.{clock_of, count_of}
@@ -196,22 +195,6 @@ pub width-latest : (es : List (ℕ × ℕ)) (rows : List Row) (ops : List Operat
     (s place : ℕ) (before : List ℕ) → IsPacked es rows ops clocks lasts numbers
     → s < 32 → place ≡ s → before ≡ get_or clocks place [] → before ≡ latest ops s
 width-latest es rows ops clocks lasts numbers s place before p l e b = b ∙ ap (λ k. get_or clocks k []) e ∙ (p.sites s l).clock
-
--- a site's count is within the log's
-pub number-few : (es : List (ℕ × ℕ)) (rows : List Row) (ops : List Operation) (clocks : List (List ℕ)) (lasts numbers : List ℕ) (s : ℕ)
-    → IsPacked es rows ops clocks lasts numbers → s < 32
-    → get_or numbers s 0 ≤ length rows
-number-few es rows ops clocks lasts numbers s p l =
-    omega (arith, (p.sites s l).number, p.each, count_by-le-length (λ (x : Operation). eqb x.site s) ops)
-
--- a site's last operation is there, and near one that tells its whole clock
-pub last-near : (es : List (ℕ × ℕ)) (rows : List Row) (ops : List Operation) (clocks : List (List ℕ)) (lasts numbers : List ℕ) (s : ℕ)
-    → IsPacked es rows ops clocks lasts numbers → s < 32
-    → 0 < get_or numbers s 0 → (get_or lasts s 0 < length rows) × ((row_at rows (get_or lasts s 0)).back < 64)
-last-near es rows ops clocks lasts numbers s p l h =
-    let own : IsSite rows ops clocks lasts numbers s = p.sites s l in
-    let some : 0 < count_of ops s = omega (arith, h, own.number) in
-    ((own.last some).before, omega (arith, own.near some))
 
 goes-back : (rows : List Row) (ops : List Operation) (clocks : List (List ℕ)) (lasts numbers : List ℕ) (x : Operation) (r : Row)
     → IsSite rows ops clocks lasts numbers x.site

@@ -36,14 +36,3 @@ last-other ops site end place d p = record {
 -- the site's own operation is the last one behind it
 pub last-own : (ops : List Operation) (site end : ℕ) → (operation_at ops end).site ≡ site → IsLastBefore ops site (end + 1) end
 last-own ops site end e = record { before = omega arith; own = e; last = λ j a b _. absurd (omega (arith, a, b)) }
-
--- there is one last one
-pub last-one : (ops : List Operation) (site end a b : ℕ) → IsLastBefore ops site end a → IsLastBefore ops site end b → a ≡ b
-last-one ops site end a b p q = go (cases_eq a b)
-  where
-    go : (a ≡ b) ⊎ (a ≡ b → ⊥) → a ≡ b
-    go (inl e) = e
-    go (inr d) = absurd (apart (λ l. p.last b l q.before q.own) (λ l. q.last a l p.before p.own))
-      where
-        apart : (a < b → ⊥) → (b < a → ⊥) → ⊥
-        apart f g = d (omega (arith, f, g))

@@ -1,6 +1,6 @@
 -- A walk through a log: nothing is kept at first, then one operation more.
 use Rattle.std.proofs.Common.{◌≡◌, ℕ, zero, suc, ◌+◌, ◌<◌, ◌≤◌, ◌⊎◌, inl, inr, eqb, List, [], ◌∷◌, ◌++◌, length, take, drop, replicate}
-use Rattle.std.proofs.Common.{set, get_or, slice_get, Option, Some, None, false, refl, ap, ◌∙◌, sym, subst, arith}
+use Rattle.std.proofs.Common.{set, get_or, slice_get, Option, Some, None, false, refl, ap, ◌∙◌, sym, arith}
 use Rattle.std.proofs.Common.{get_or-set_other, get_or-set_same}
 use Rattle.std.proofs.Math.ListN.{drop_of_length-le}
 use Rattle.std.proofs.Math.Seq.{take-suc}
@@ -10,9 +10,8 @@ use Rattle.std.proofs.lemmas.List.{drop_more, drop-append-le, length-drop, lengt
 use Rattle.opid.specs.Operations.{Operation}
 use Rattle.opid.specs.Delivery.{count_of}
 use Rattle.causal_clock.specs.declared.row.Row.{Row}
-use Rattle.causal_clock.specs.Packed.{no_op, no_clocks, operation_at, row_at, logged, AreRows, IsLastBefore}
+use Rattle.causal_clock.specs.Packed.{no_op, no_clocks, operation_at, row_at, logged, AreRows}
 use Rattle.causal_clock.specs.Replayed.{between, AreSeen, AreAllSeen}
-use Rattle.causal_clock.proofs.Lasts.{last-one, last-other, last-own}
 use Rattle.causal_clock.proofs.Telling.{count-push, length-told}
 
 none_at : (n i : ℕ) → (let none : Option (List ℕ) = None in get_or (replicate n none) i none) ≡ None
@@ -35,36 +34,6 @@ all_none seen passed e i h = absurd (omega (arith, h, ap (λ (v : List Operation
 
 some_same : (s t : List ℕ) → Some s ≡ Some t → s ≡ t
 some_same s t h = cc
-
--- the clock of the operation at the place is kept
-pub seen_more : (seen : List (Option (List ℕ))) (ops : List Operation) (place site : ℕ) (counts : List ℕ) → site < length seen
-    → (operation_at ops place).site ≡ site → counts ≡ (operation_at ops place).clock → AreSeen seen ops place
-    → AreSeen (set seen site (Some counts)) ops (place + 1)
-seen_more seen ops place site counts l own e h i t q = go (cases_eq i site)
-  where
-    go : (i ≡ site) ⊎ (i ≡ site → ⊥) → (at : ℕ) × IsLastBefore ops i (place + 1) at × (t ≡ (operation_at ops at).clock)
-    go (inl same) =
-        let there : counts ≡ t = some_same counts t (sym (get_or-set_same seen site (Some counts) None l)
-        ∙ ap (λ j. get_or (set seen site (Some counts)) j None) (sym same) ∙ q) in
-        (place, last-own ops i place (own ∙ sym same), sym there ∙ e)
-    go (inr other) =
-        let before = h i t (sym (get_or-set_other seen site i (Some counts) None other) ∙ q) in
-        (before.0, last-other ops i place before.0 (λ s. other (sym s ∙ own)) before.1, before.2)
-
--- the clock that is kept of a row's site is that of the operation that the row names
-pub kept_clock : (es : List (ℕ × ℕ)) (rows : List Row) (k : ℕ) (r : Row) (seen : List (Option (List ℕ))) (place : ℕ) (counts : List ℕ)
-    → AreRows es rows (logged es rows) → k < length rows → r ≡ row_at rows k → AreSeen seen (logged es rows) k
-    → place ≡ r.site → get_or seen place None ≡ Some counts → 0 < r.back → counts ≡ (operation_at (logged es rows) r.prev).clock
-kept_clock es rows k r seen place counts h l at s site kept back =
-    let line = h k l in
-    let own : place ≡ (operation_at (logged es rows) k).site = site ∙ ap (λ (v : Row). v.site) at ∙ line.site in
-    let last = s place counts kept in
-    let before : IsLastBefore (logged es rows) place k last.0 = last.1 in
-    let earlier : IsLastBefore (logged es rows) place k (row_at rows k).prev =
-    subst (λ i. IsLastBefore (logged es rows) i k (row_at rows k).prev) (sym own)
-    (line.earlier (omega (arith, back, ap (λ (v : Row). v.back) at))) in
-    last.2 ∙ ap (λ j. (operation_at (logged es rows) j).clock)
-    (last-one (logged es rows) place k last.0 (row_at rows k).prev before earlier ∙ sym (ap (λ (v : Row). v.prev) at))
 
 -- so a clock is kept of each site that was passed
 pub all_more : (seen : List (Option (List ℕ))) (passed : List Operation) (x : Operation) (counts : List ℕ) → x.site < length seen

@@ -12,15 +12,19 @@ use Rattle.causal_clock.specs.Stored.{latest, stored}
 abbrev pub no_kind : OpKind
 no_kind = Del (record { sum = 0; site = 0 })
 
+-- what stands for a row where there is none
 abbrev pub no_row : Row
 no_row = record { kind = no_kind; from = 0; prev = 0; site = 0; back = 0; count = 0 }
 
+-- what stands for an operation where there is none
 abbrev pub no_op : Operation
 no_op = record { site = 0; clock = []; kind = no_kind }
 
+-- the row at a place
 abbrev pub row_at : List Row → ℕ → Row
 row_at rows k = get_or rows k no_row
 
+-- the operation at a place
 abbrev pub operation_at : List Operation → ℕ → Operation
 operation_at ops k = get_or ops k no_op
 

@@ -32,6 +32,7 @@ impl Model for Op {
 
 impl Op {
     /// An operation of the site with this clock. Refused with `BadClock` exactly where the clock doesn't count it.
+    /// Copies 32 counts.
     pub fn new(site: Site, clock: Clock, kind: OpKind) -> Result<Op, Refusal>
         ensures value { IfOk result (λ op. op ≡ record { site = site; clock = clock; kind = kind }) }
         ensures accepted { IsOk result ↔ (0 < entry clock site) }
@@ -44,7 +45,7 @@ impl Op {
         Ok(Op { site, clock, kind })
     }
 
-    /// The site that made it.
+    /// The site that made it. Constant time.
     pub fn site(&self) -> Site
         ensures value { result ≡ self.now.site }
         ensures kept { IsOperation self.now }
@@ -52,7 +53,7 @@ impl Op {
         self.site
     }
 
-    /// Its clock: the operations that its site knew, and itself.
+    /// Its clock: the operations that its site knew, and itself. Copies 32 counts.
     pub fn clock(&self) -> Clock
         ensures value { result ≡ self.now.clock }
         ensures kept { IsOperation self.now }
@@ -60,14 +61,14 @@ impl Op {
         self.clock
     }
 
-    /// What it does to the document.
+    /// What it does to the document. Constant time.
     pub fn kind(&self) -> OpKind
         ensures { result ≡ self.now.kind }
     {
         self.kind
     }
 
-    /// Its stamp: the sum of its clock, and its site.
+    /// Its stamp: the sum of its clock, and its site. Constant time.
     pub fn stamp(&self) -> Stamp
         ensures { result ≡ stamp_of self.now }
     {
@@ -77,7 +78,7 @@ impl Op {
         }
     }
 
-    /// Its number: its site, and how many operations that site has made with it.
+    /// Its number: its site, and how many operations that site has made with it. Constant time.
     pub fn number(&self) -> (Site, u32)
         ensures value { result ≡ number_of self.now }
         ensures counted { 0 < result.1 }

@@ -22,7 +22,7 @@ impl<L: Ledger> Model for Reads<L> {
 }
 
 impl<L: Ledger> Reads<L> {
-    /// A counter at 0, over a ledger of this blank.
+    /// A counter at 0, over a ledger of this blank. Constant time.
     pub fn new(blank: Blank) -> Reads<L>
         requires name { blank.name ≡ L.name }
         requires parts { blank.parts ≡ L.parts }

@@ -66,7 +66,7 @@ impl<'a> Replay<'a> {
     }
 
     /// The next operation, where one is left, as `read_next` gives it. A loop over places that are known calls it: a `for`
-    /// over the operations doesn't tell their places.
+    /// over the operations doesn't tell their places. It costs what `read_next` costs.
     pub fn next_op(&mut self) -> Op
         requires { 0 < length self.old.left }
         ensures value { self.old.left ≡ result ∷ self.new.left }

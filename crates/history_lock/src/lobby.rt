@@ -75,6 +75,13 @@ impl<T: Trailed> TicketLock<T> {
         self.draw(pass)
     }
 
+    // Wants a wake and looks then, in this order: where a ticket is open at the look, its turn, or one behind it, ends later
+    // and finds that a wake is wanted. So none is lost.
+    fn want_and_look(&self) -> bool {
+        self.lobby.want();
+        self.is_free()
+    }
+
     // Waits until no ticket is open, and draws none. Who was woken has the turn that it takes then wake the next; without
     // that turn others may sleep until somebody takes one.
     fn wait_until_free<R: Wait>(&self, rt: &R) {
@@ -89,10 +96,7 @@ impl<T: Trailed> TicketLock<T> {
                 }
                 spin_loop();
             }
-            // Wants first and looks then, in this order: where a ticket is open at that look, its turn, or one behind it, ends later
-            // and finds that a wake is wanted. So none is lost.
-            self.lobby.want();
-            if self.is_free() {
+            if self.want_and_look() {
                 return;
             }
             self.lobby.wanted.park(rt, 1);

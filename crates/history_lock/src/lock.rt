@@ -59,7 +59,7 @@ pub enum TryFault {
 impl<T> Hold<T> {
     ghost use Rattle.history_lock.specs.Locks.{ticket_of};
 
-    /// The number of the turn: so many turns were finished before it.
+    /// The number of the turn: so many turns were finished before it. Constant time.
     pub fn ticket(&self) -> u64
         ensures { result ≡ ticket_of self.now }
     {

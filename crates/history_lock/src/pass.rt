@@ -61,14 +61,14 @@ pub struct Pass<T: Trailed> {
 impl<T: Trailed> Pass<T> {
     ghost use Rattle.history_lock.specs.Locks.{sight};
 
-    /// How many tickets it may still draw.
+    /// How many tickets it may still draw. Constant time.
     pub fn left(&self) -> u64
         ensures { result ≡ (sight self.now).left }
     {
         self.left
     }
 
-    /// Whether it has neither a ticket nor a hold.
+    /// Whether it has neither a ticket nor a hold. Constant time.
     pub fn is_idle(&self) -> bool
         ensures { result ≡ is_idle (sight self.now).stage }
     {

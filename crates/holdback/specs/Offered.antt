@@ -14,6 +14,7 @@ pub record HeldOperations : Type 0 where
   pub ops : List Operation
   pub room : ℕ
 
+-- the same site, and the same number there
 abbrev pub is_same_number : ℕ × ℕ → ℕ × ℕ → Bool
 is_same_number m n = m.0 == n.0 && m.1 == n.1
 
@@ -36,6 +37,7 @@ arrival_of (Err e) count = Err e
 arrival_of (Ok true) count = Ok Again
 arrival_of (Ok false) count = if nat_lt count 1024 then Ok Kept else Err HoldFull
 
+-- what becomes of an operation that is not ready, beside those that are held
 abbrev pub offered : Operation → List Operation → Result Arrival Refusal
 offered x held = arrival_of (look_for x held) (length held)
 

@@ -13,6 +13,7 @@ is_same_clock [] (b ∷ bs) = false
 is_same_clock (a ∷ more) [] = false
 is_same_clock (a ∷ more) (b ∷ bs) = a == b && is_same_clock more bs
 
+-- the same insertion, or the same deletion
 abbrev pub is_same_kind : OpKind → OpKind → Bool
 is_same_kind (Ins p a) (Ins q b) = is_same_parent p q && a == b
 is_same_kind (Ins p a) (Del t) = false

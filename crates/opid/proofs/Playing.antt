@@ -1,5 +1,5 @@
 -- The edits between two versions of a log lead from the reading of the one to that of the other.
-use Rattle.std.proofs.Common.{◌≡◌, ℕ, zero, suc, Bool, false, ◌+◌, ◌-◌, ◌≤◌, Some, List, [], ◌∷◌, ◌++◌, length, take, drop, refl, ap, ◌∙◌}
+use Rattle.std.proofs.Common.{◌≡◌, ℕ, zero, suc, Bool, ◌+◌, ◌-◌, ◌≤◌, Some, List, [], ◌∷◌, ◌++◌, length, take, drop, refl, ap, ◌∙◌}
 use Rattle.std.proofs.Common.{sym, subst, arith, append_assoc}
 use Rattle.std.specs.Prelude.{option_and_then}
 use Rattle.std.proofs.lemmas.List.{append-nil, length-drop, length-take-le, take-append-le, drop-append-le}
@@ -18,10 +18,6 @@ edits_from-length u ops (x ∷ xs) = ap suc (edits_from-length u (ops ++ x ∷ [
 
 pub edits_in-length : (u : Bool) (log : List Operation) → length (edits_in u log) ≡ length log
 edits_in-length u log = edits_from-length u [] log
-
--- the same where characters are counted
-pub edits-length : (log : List Operation) → length (edits log) ≡ length log
-edits-length log = edits_in-length false log
 
 drop-edits : (u : Bool) (ops xs : List Operation) (i : ℕ) → drop i (edits_from_in u ops xs) ≡ edits_from_in u (ops ++ take i xs) (drop i xs)
 drop-edits u ops [] zero = refl

@@ -1,14 +1,13 @@
 -- Insertions by rising stamp, and when they make a tree.
 use Rattle.std.proofs.Common.{◌≡◌, Bool, true, false, cond, Option, Some, None, List, [], ◌∷◌, ◌++◌, refl, ap, ◌∙◌, sym, subst}
-use Rattle.std.proofs.lemmas.Bool.{cond-true, cond-false, both_ways, false_from_ne_true, or_parts, or_left}
-use Rattle.std.proofs.lemmas.List.Folds.{list_any-append}
+use Rattle.std.proofs.lemmas.Bool.{cond-true, cond-false, both_ways, false_from_ne_true, or_parts}
 use Rattle.std.specs.List.{AllByRecursion as Each, list_any}
 use Rattle.opid.specs.declared.stamp.Stamp.{Stamp}
 use Rattle.opid.specs.Stamps.{is_before, is_same, is_same_parent}
 use Rattle.opid.specs.Operations.{Insertion}
 use Rattle.opid.specs.Tree.{is_child_of, insert_rising, rising}
 use Rattle.opid.proofs.Order.{is_before-trans, is_before-asym, is_before-total, is_same-eq, is_same-sym}
-use Rattle.opid.proofs.Walk.{Lacks, Childless, IsRising, IsOlder, ParentsOlder, Each-weaker, Above-trans}
+use Rattle.opid.proofs.Walk.{Lacks, Childless, IsRising, ParentsOlder, Each-weaker, Above-trans}
 
 pub Each-none : {X : Type 0} (t : X → Bool) (xs : List X) → list_any t xs ≡ false → Each (λ x. t x ≡ false) xs
 Each-none t [] h = tt
@@ -90,25 +89,3 @@ Childless-new s xs t n = Each-weaker (λ y. HasParent xs y.parent) (λ y. is_chi
     go None h = refl
     go (Some p) h = false_from_ne_true (is_same p s) (λ e.
         both_ways _ n (subst (λ r. list_any (λ x. is_same r x.stamp) xs ≡ true) (is_same-eq p s e) h))
-
-HasParent-push : (xs : List Insertion) (x : Insertion) (o : Option Stamp) → HasParent xs o → HasParent (xs ++ x ∷ []) o
-HasParent-push xs x None h = tt
-HasParent-push xs x (Some p) h = list_any-append (λ x. is_same p x.stamp) xs (x ∷ []) ∙ or_left _ _ h
-
-pub IsTree-nil : IsTree []
-IsTree-nil = record { rises = tt; older = tt; closed = tt }
-
-pub IsTree-push : (xs : List Insertion) (x : Insertion) → IsTree xs → list_any (λ y. is_same x.stamp y.stamp) xs ≡ false
-    → IsOlder x.parent x.stamp → HasParent xs x.parent → IsTree (xs ++ x ∷ [])
-IsTree-push xs x t n o h =
-    let lacks : Lacks x.stamp xs = Each-none (λ y. is_same x.stamp y.stamp) xs n in
-    let eq : insert_rising x (rising xs) ≡ rising (xs ++ x ∷ []) = sym (rising-push xs x lacks) in
-    record {
-      rises = subst IsRising eq (IsRising-insert_rising x (rising xs)
-          (Each-rising (λ y. is_same x.stamp y.stamp ≡ false) xs lacks) t.rises);
-      older = subst ParentsOlder eq (Each-insert_rising (λ y. IsOlder y.parent y.stamp) x (rising xs) o t.older);
-      closed = subst (Each (λ y. HasParent (xs ++ x ∷ []) y.parent)) eq
-          (Each-insert_rising (λ y. HasParent (xs ++ x ∷ []) y.parent) x (rising xs) (HasParent-push xs x x.parent h)
-          (Each-weaker (λ y. HasParent xs y.parent) (λ y. HasParent (xs ++ x ∷ []) y.parent) (λ y k. HasParent-push xs x y.parent k)
-          (rising xs) t.closed));
-    }

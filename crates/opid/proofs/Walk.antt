@@ -81,10 +81,6 @@ preorder-childless (x ∷ xs) p h =
     ap (λ r. r ++ cond (is_child_of p x) (x ∷ preorder xs (Some x.stamp)) []) (preorder-childless xs p h.1)
     ∙ cond-false (is_child_of p x) _ _ h.0
 
-pub insert_rising-above : (x : Insertion) (xs : List Insertion) → Above x.stamp xs → insert_rising x xs ≡ x ∷ xs
-insert_rising-above x [] h = refl
-insert_rising-above x (y ∷ ys) h = cond-true _ _ _ h.0
-
 pub stand-past : (x : Insertion) (ls bs : List Insertion) → Above x.stamp ls → stand x (ls ++ bs) ≡ ls ++ stand x bs
 stand-past x [] bs h = refl
 stand-past x (a ∷ ls) bs h = cond-true _ _ _ h.0 ∙ ap (λ r. a ∷ r) (stand-past x ls bs h.1)

@@ -55,11 +55,14 @@ IsPlaced_in units log v k xs =
 abbrev pub parent_at : List Operation → ℕ → ℕ → Option Stamp
 parent_at log v k = parent_in_at false log v k
 
+-- what an insertion asks for, where characters are counted
 abbrev pub asked_insertions : List Operation → ℕ → ℕ → ℕ → List ℕ → List Operation
 asked_insertions log site v k chars = asked_insertions_in false log site v k chars
 
+-- what a deletion asks for, where characters are counted
 abbrev pub asked_deletions : List Operation → ℕ → ℕ → ℕ → ℕ → List Operation
 asked_deletions log site v k c = asked_deletions_in false log site v k c
 
+-- the insertions stand at the place of the version, where characters are counted
 abbrev pub IsPlaced : List Operation → ℕ → ℕ → List Operation → Type 0
 IsPlaced log v k xs = IsPlaced_in false log v k xs

@@ -13,6 +13,7 @@ pub record Operation : Type 0 where
   pub clock : List ℕ
   pub kind : OpKind
 
+-- the stamp of an operation with this clock at a site
 abbrev pub stamp_at : ℕ → List ℕ → Stamp
 stamp_at site clock = record { sum = sum clock; site = site }
 
@@ -30,10 +31,12 @@ pub record Insertion : Type 0 where
   pub parent : Option Stamp
   pub ch : ℕ
 
+-- the insertion of an operation with this stamp and kind, if it is one
 abbrev pub inserted_by : Stamp → OpKind → List Insertion
 inserted_by s (Ins parent ch) = record { stamp = s; parent = parent; ch = ch } ∷ []
 inserted_by s (Del target) = []
 
+-- the stamp of the element that an operation of this kind deletes, if it deletes one
 abbrev pub targets_of : OpKind → List Stamp
 targets_of (Ins parent ch) = []
 targets_of (Del target) = target ∷ []

@@ -35,5 +35,6 @@ play_in units text (e ∷ es) = option_and_then (λ t. play_in units t es) (appl
 abbrev pub apply : List ℕ → Edit → Option (List ℕ)
 apply text e = apply_in false text e
 
+-- the text after the edits, one after another, where characters are counted; none where one of them does not apply
 abbrev pub play : List ℕ → List Edit → Option (List ℕ)
 play text es = play_in false text es

@@ -6,6 +6,7 @@ use Rattle.opid.specs.declared.stamp.Stamp.{Stamp}
 abbrev pub is_before : Stamp → Stamp → Bool
 is_before a b = nat_lt a.sum b.sum || (a.sum == b.sum && nat_lt a.site b.site)
 
+-- the same stamp: the same sum and the same site
 abbrev pub is_same : Stamp → Stamp → Bool
 is_same a b = a.sum == b.sum && a.site == b.site
 

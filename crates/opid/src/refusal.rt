@@ -69,7 +69,7 @@ pub enum Refusal {
 impl Refusal {
     ghost use Rattle.opid.specs.Refusals.{number_of, name_of};
 
-    /// The number by which replies tell it, 1 to 29.
+    /// The number by which replies tell it, 1 to 29. Constant time.
     pub fn number(self) -> u32
         ensures { result ≡ number_of self }
     {
@@ -106,7 +106,7 @@ impl Refusal {
         }
     }
 
-    /// The name by which messages tell it.
+    /// The name by which messages tell it. Constant time.
     pub fn name(self) -> &'static str
         ensures { result.now ≡ name_of self }
     {

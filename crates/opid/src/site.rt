@@ -27,7 +27,7 @@ impl Model for Site {
 }
 
 impl Site {
-    /// The site of this number. Refused with `BadSite` above 31.
+    /// The site of this number. Refused with `BadSite` above 31. Constant time.
     pub fn new(number: u8) -> Result<Site, Refusal>
         ensures value { IfOk result (λ s. s ≡ number) }
         ensures refused { IsErr result ↔ (31 < number) }
@@ -40,7 +40,7 @@ impl Site {
         }
     }
 
-    /// The site's number.
+    /// The site's number. Constant time.
     pub fn number(self) -> u8
         ensures value { result ≡ self }
         ensures range { result < 32 }

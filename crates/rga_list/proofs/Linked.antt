@@ -1,7 +1,7 @@
 -- An element put in by two links stands between the two.
 use Rattle.std.proofs.Common.{◌≡◌, ◌≢◌, ℕ, zero, suc, ◌<◌, ◌≤◌, ◌+◌, Option, Some, None, List, [], ◌∷◌, ◌++◌, map, length, set, refl, ap}
 use Rattle.std.proofs.Common.{◌∙◌, sym, subst, arith, length-append, length-set, get_or-set_other, get_or-set_same, inl, inr, ◌⊎◌, true}
-use Rattle.std.proofs.Common.{false, IfSome}
+use Rattle.std.proofs.Common.{IfSome}
 use Rattle.std.proofs.lemmas.Bool.{cases_eq}
 use mathlib.Core.Path.{ap₂}
 use Rattle.std.specs.List.{AllByRecursion as Each}
@@ -12,8 +12,8 @@ use Rattle.opid.specs.declared.stamp.Stamp.{Stamp}
 use Rattle.opid.specs.Stamps.{is_before}
 use Rattle.rga_list.specs.Entries.{Entry}
 use Rattle.rga_list.specs.declared.links.Node.{Node}
-use Rattle.rga_list.specs.Links.{blank, node_at, chain, order_of, entry_at, entries_of, Leads, AreOnce, IsOneOf, IsLinked, Walking, Walked}
-use Rattle.rga_list.specs.Links.{StopsAt, Ends, last_of}
+use Rattle.rga_list.specs.Links.{blank, node_at, chain, order_of, entry_at, entries_of, Leads, AreOnce, IsOneOf, IsLinked, Walking}
+use Rattle.rga_list.specs.Links.{Ends, last_of}
 
 pub Leads-join : (nodes : List Node) (a b c : Option ℕ) (xs ys : List ℕ) → Leads nodes a xs b → Leads nodes b ys c
     → Leads nodes a (xs ++ ys) c
@@ -245,19 +245,3 @@ pub Walking-place : (nodes : List Node) (s : Stamp) (before at last next : Optio
     → IfSome next (λ i. i < length nodes)
 Walking-place nodes s before at last None w = tt
 Walking-place nodes s before at last (Some i) w = Walking-within nodes s before at last i w
-
-pub Walked-stop : (nodes : List Node) (s : Stamp) (before at last : Option ℕ) (i : ℕ) → Walking nodes s before at last (Some i)
-    → is_before s (node_at nodes i).stamp ≡ false → Walked nodes s before at last
-Walked-stop nodes s before at last i (passed, rest, w, l) g = (Some i, passed, rest, w, go rest w.on)
-  where
-    go : (r : List ℕ) → Leads nodes (Some i) r None → StopsAt nodes s r
-    go [] h = tt
-    go (j ∷ js) h = let same : i ≡ j = cc (h.0) in subst (λ v. is_before s (node_at nodes v).stamp ≡ false) same g
-
-pub Walked-end : (nodes : List Node) (s : Stamp) (before at last : Option ℕ) → Walking nodes s before at last None
-    → Walked nodes s before at last
-Walked-end nodes s before at last (passed, rest, w, l) = (None, passed, rest, w, go rest w.on)
-  where
-    go : (r : List ℕ) → Leads nodes None r None → StopsAt nodes s r
-    go [] h = tt
-    go (j ∷ js) h = cc

@@ -66,10 +66,12 @@ abbrev pub entry_of : ℕ → List Entry → Option Entry
 entry_of k [] = None
 entry_of k (e ∷ es) = if e.elem == k then Some e else entry_of k es
 
+-- the element of the first entry
 abbrev pub first_of : List Entry → Option ℕ
 first_of [] = None
 first_of (e ∷ es) = Some e.elem
 
+-- the element right after another one
 abbrev pub elem_after : ℕ → List Entry → Option ℕ
 elem_after k [] = None
 elem_after k (e ∷ es) = if e.elem == k then first_of es else elem_after k es
@@ -104,6 +106,7 @@ parent_refusal entries None s = None
 parent_refusal entries (Some p) s =
     if not (has_stamp entries p) then Some UnknownElement else if not (is_before p s) then Some NotOlder else None
 
+-- why an insertion is refused, memory apart: the list is full, or the cause lies in its parent
 abbrev pub refusal_of : List Entry → Option Stamp → Stamp → Option Refusal
 refusal_of entries parent s = if nat_le 131072 (length entries) then Some Full else parent_refusal entries parent s
 

@@ -13,6 +13,7 @@ use Rattle.rga_list.specs.declared.links.Node.{Node}
 abbrev pub blank : Node
 blank = record { stamp = record { sum = 0; site = 0 }; ch = 0; shown = false; next = None }
 
+-- the node at a place
 abbrev pub node_at : List Node → ℕ → Node
 node_at nodes i = slice_index_or nodes i blank
 
@@ -26,9 +27,11 @@ chain (suc n) nodes (Some i) = i ∷ chain n nodes (node_at nodes i).next
 abbrev pub order_of : List Node → Option ℕ → List ℕ
 order_of nodes first = chain (length nodes) nodes first
 
+-- the entry that the node at a place stands for
 abbrev pub entry_at : List Node → ℕ → Entry
 entry_at nodes i = record { elem = i; stamp = (node_at nodes i).stamp; ch = (node_at nodes i).ch; shown = (node_at nodes i).shown }
 
+-- the entries along the links
 abbrev pub entries_of : List Node → Option ℕ → List Entry
 entries_of nodes first = map (entry_at nodes) (order_of nodes first)
 
@@ -95,6 +98,7 @@ abbrev pub last_of : Option ℕ → List ℕ → Option ℕ
 last_of before [] = before
 last_of before (i ∷ is) = last_of (Some i) is
 
+-- the walk stops here: at the end, or before a stamp that is not greater
 abbrev pub StopsAt : List Node → Stamp → List ℕ → Type 0
 StopsAt nodes s [] = Unit {0}
 StopsAt nodes s (i ∷ is) = is_before s (node_at nodes i).stamp ≡ false
@@ -110,10 +114,12 @@ pub record Walks (nodes : List Node) (s : Stamp) (before at : Option ℕ) (last 
 abbrev pub Ends : List Node → Option ℕ → Type 0
 Ends nodes at = (rest : List ℕ) × Leads nodes at rest None × (length rest ≤ length nodes)
 
+-- a walk from a place to its end
 abbrev pub Walked : List Node → Stamp → Option ℕ → Option ℕ → Option ℕ → Type 0
 Walked nodes s before at last =
     (next : Option ℕ) × (passed rest : List ℕ) × Walks nodes s before at last next passed rest × StopsAt nodes s rest
 
+-- a walk from a place so far
 abbrev pub Walking : List Node → Stamp → Option ℕ → Option ℕ → Option ℕ → Option ℕ → Type 0
 Walking nodes s before at last next = (passed rest : List ℕ) × Walks nodes s before at last next passed rest × (length rest ≤ length nodes)
 

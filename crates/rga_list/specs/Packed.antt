@@ -17,10 +17,12 @@ packed_next (Some k) = k
 abbrev pub node_of : Inside → Node
 node_of a = record { stamp = record { sum = a.sum; site = a.site }; ch = a.ch; shown = a.shown; next = next_of a.next }
 
+-- a number is read back from the link that it stands for, whether that is none or not
 packed_if : (t : Bool) (n : ℕ) → (n == 131072) ≡ t → packed_next (if t then None else Some n) ≡ n
 packed_if true n e = sym (eqb-true n 131072 e)
 packed_if false n e = refl
 
+-- what is kept is read back from what it stands for
 pub packed_next-next_of : (a : Inside)
     → (let r : Inside = record { sum = a.sum; ch = a.ch; next = packed_next (next_of a.next); site = a.site; shown = a.shown } in r) ≡ a
 packed_next-next_of a =

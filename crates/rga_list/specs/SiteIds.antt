@@ -1,4 +1,5 @@
--- The identifiers of one site: its sums in rising order, each with the element that it names.
+-- The identifiers of one site: its sums in rising order, each with the element that it names. No public clause cites this: it is
+-- the code's alone.
 use Rattle.std.specs.Prelude.{◌≡◌, ℕ, ◌<◌, ◌≤◌, ◌==◌, if◌then◌else◌, Option, Some, None, List, [], ◌∷◌}
 use Rattle.std.specs.List.{AllByRecursion}
 

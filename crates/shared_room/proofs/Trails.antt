@@ -129,10 +129,6 @@ bit_other a t ne = go (a == t) refl
     go false q = refl
     go true q = absurd (ne (grind (arith, nat_tests)))
 
-bit_at_most : (b : Bool) → bit b ≤ 1
-bit_at_most true = omega arith
-bit_at_most false = omega arith
-
 -- rising tickets from a later one on
 none_later : (u t : ℕ) (h : List (ℕ × Call)) → AreRisingFrom u h → t < u → times t h ≡ 0
 none_later u t [] r lt = refl
