@@ -116,8 +116,9 @@ impl VersionTree {
         find_in(&self.nodes, root, true, k, steps)
     }
 
-    /// Appends the elements that a version shows, in order, by one pass over its tree: a step for each of its elements.
-    /// Refused memory leaves a beginning of them there.
+    /// Appends the elements that a version shows, in order, by one pass over its tree: at most a step for each of its elements,
+    /// and at most twice as many steps for each that is shown as the number of all has binary digits. Refused memory leaves a
+    /// beginning of them there.
     pub fn push_shown(
         &self,
         version: usize,
@@ -127,10 +128,13 @@ impl VersionTree {
         requires { version < length self.now.lists }
         ensures shown { OnOk result (into.new.items ≡ into.old.items ++ visible (version_list self.now version)) }
         ensures cost { steps.new ≤ steps.old + length (version_list self.now version) }
+        ensures few { steps.new ≤ steps.old
+            + length (visible (version_list self.now version)) * (2 * digits (length (version_list self.now version))) }
     {
         let root = root_of(self.roots.as_slice(), version);
-        into.reserve(summary_at(&self.nodes, root).shown as usize)?;
-        push_shown_in(&self.nodes, root, into, steps)
+        let shown = summary_at(&self.nodes, root).shown;
+        into.reserve(shown as usize)?;
+        push_shown_in(&self.nodes, root, shown, into, steps)
     }
 
     /// How many elements a version shows. Constant time.

@@ -260,8 +260,8 @@ impl Doc {
         }
     }
 
-    /// The text of the version. Takes a step for each element of it, shown or not. Refused with `BadVersion` above the
-    /// newest, and with `Memory`.
+    /// The text of the version. Takes at most 36 steps for each element that it shows; for the newest, where at least one in
+    /// eight is shown, a step for each element, shown or not. Refused with `BadVersion` above the newest, and with `Memory`.
     pub fn reading(&self, version: u32) -> Result<Characters, Refusal>
         ensures ok { IfOk result (λ text. text ≡ reading_at self.now.log version) }
         ensures known { OnOk result (version ≤ length self.now.log) }
