@@ -1,19 +1,27 @@
 -- What is asked for, gathered one operation after another.
-use Rattle.std.proofs.Common.{◌≡◌, ℕ, ◌+◌, ◌-◌, ◌<◌, ◌≤◌, zero, suc, Option, Some, None, List, [], ◌∷◌, ◌++◌, length, sum, map, take, drop}
+use Rattle.std.proofs.Common.{◌≡◌, ℕ, ◌+◌, ◌-◌, ◌<◌, ◌≤◌, Bool, true, false, not, ◌||◌, Option, Some, None, List}
+use Rattle.std.proofs.Common.{[], ◌∷◌, ◌++◌, length, sum, map, take, drop}
 use Rattle.std.proofs.Common.{get_or, refl, ap, ap₂, ◌∙◌, sym, subst, arith, append_assoc}
-use Rattle.std.specs.Prelude.{slice_get, option_map}
+use Rattle.std.specs.Prelude.{nat_lt, slice_get, option_map}
+use Rattle.std.specs.Option.{option_map_or}
+use Rattle.std.specs.Char.Utf16.{is_low_surrogate}
+use Rattle.std.proofs.lemmas.Bool.{cond-true, cond-false}
+use Rattle.std.proofs.lemmas.Bool.Decides.{nat_tests}
 use Rattle.std.proofs.lemmas.List.{append-nil, drop_all, length-drop, length-map, length-take-le}
 use Rattle.opid.specs.declared.stamp.Stamp.{Stamp}
 use Rattle.opid.specs.declared.kind.OpKind.TheVariants.{Ins, Del}
 use Rattle.opid.specs.Clocks.{raised}
 use Rattle.opid.specs.Operations.{Operation, Insertion, stamp_at, stamp_of}
 use Rattle.opid.specs.Delivery.{clock_of}
-use Rattle.opid.specs.Reading.{visible_at}
 use Rattle.opid.specs.Lawful.{IsLawful}
-use Rattle.opid.specs.Asked.{parent_at, insertion_run, deletion_run, asked_insertions, asked_deletions, IsPlaced}
+use Rattle.opid.specs.Reading.{visible_in_at, reading_in_at}
+use Rattle.opid.specs.Splice.{is_inside}
+use Rattle.opid.specs.Asked.{parent_in_at, insertion_run, deletion_run, each_once, asked_insertions_in, asked_deletions_in, IsPlaced_in}
 use Rattle.opid.proofs.Counts.{sum-clock_of}
-use Rattle.opid.proofs.Runs.{asked_insertions-lawful, asked_deletions-lawful}
-use Rattle.opid.proofs.Placing.{asked_insertions-placed}
+use Rattle.opid.proofs.Counted.{asked_insertions_in-lawful, asked_insertions_in-placed, asked_deletions_in-lawful}
+use Rattle.opid.proofs.Placing.{get-within}
+use Rattle.position_translate.specs.Causes.{is_bad_place, element_count}
+use Rattle.position_translate.proofs.Insides.{is_second}
 use Rattle.opid.proofs.Gathered.{rest_at, take_none, between_at}
 
 -- ---- insertions: what was made so far, and the run of the rest
@@ -49,44 +57,101 @@ insertion_all site made clock parent cs n whole h so_far =
 
 -- ---- deletions
 
--- the stamps at the places from `first` to before `end`
-abbrev pub stamps : List Insertion → ℕ → ℕ → List Stamp
-stamps xs first end = map (λ x. x.stamp) (take (end - first) (drop first xs))
+-- the elements at the places from `first` to before `end`, each once
+abbrev pub once : Bool → List Insertion → ℕ → ℕ → List Insertion
+once u xs first end = each_once u (take (end - first) (drop first xs))
 
-stamps_at : (xs : List Insertion) (p end : ℕ) (t : Stamp) → p < end → Some t ≡ option_map (λ x. x.stamp) (slice_get xs p)
-    → stamps xs p end ≡ t ∷ stamps xs (p + 1) end
-stamps_at xs p end t h e = go (slice_get xs p) refl e
+-- their stamps
+abbrev pub stamps : Bool → List Insertion → ℕ → ℕ → List Stamp
+stamps u xs first end = map (λ x. x.stamp) (once u xs first end)
+
+-- a place with the second of a pair adds no element, any other adds its own
+pub once_more : (u : Bool) (xs : List Insertion) (p end : ℕ) (x : Insertion) → p < end → slice_get xs p ≡ Some x
+    → is_second u xs p ≡ false → once u xs p end ≡ x ∷ once u xs (p + 1) end
+once_more false xs p end x h q s = between_at xs p end x h q
+once_more true xs p end x h q s =
+    ap (each_once true) (between_at xs p end x h q)
+    ∙ cond-true _ _ _ (ap not (sym (ap (λ (o : Option Insertion). option_map_or (λ (y : Insertion). is_low_surrogate y.ch) o false) q) ∙ s))
+
+pub once_same : (u : Bool) (xs : List Insertion) (p end : ℕ) → p < end → p < length xs → is_second u xs p ≡ true
+    → once u xs p end ≡ once u xs (p + 1) end
+once_same false xs p end h w s = cc
+once_same true xs p end h w s =
+    let e : (x : Insertion) × (slice_get xs p ≡ Some x) = get-within xs p w in
+    ap (each_once true) (between_at xs p end e.0 h e.1)
+    ∙ cond-false _ _ _ (ap not
+    (sym (ap (λ (o : Option Insertion). option_map_or (λ (y : Insertion). is_low_surrogate y.ch) o false) e.1) ∙ s))
+
+stamp_there : (xs : List Insertion) (p : ℕ) (t : Stamp) → Some t ≡ option_map (λ x. x.stamp) (slice_get xs p)
+    → (x : Insertion) × (slice_get xs p ≡ Some x) × (x.stamp ≡ t)
+stamp_there xs p t e = go (slice_get xs p) refl e
   where
-    go : (o : Option Insertion) → slice_get xs p ≡ o → Some t ≡ option_map (λ x. x.stamp) o → stamps xs p end ≡ t ∷ stamps xs (p + 1) end
-    go None q e = cc
-    go (Some x) q e =
-        let same : x.stamp ≡ t = cc in
-        ap (map (λ (y : Insertion). y.stamp)) (between_at xs p end x h q) ∙ ap (λ s. s ∷ stamps xs (p + 1) end) same
+    same : (a b : Stamp) → Some a ≡ Some b → b ≡ a
+    same a b h = cc
 
-pub deletion_more : (site : ℕ) (made : List Operation) (clock clock' : List ℕ) (xs : List Insertion) (p end : ℕ) (t : Stamp)
+    go : (o : Option Insertion) → slice_get xs p ≡ o → Some t ≡ option_map (λ x. x.stamp) o
+        → (x : Insertion) × (slice_get xs p ≡ Some x) × (x.stamp ≡ t)
+    go None q h = absurd (none h)
+      where
+        none : Some t ≡ None → ⊥
+        none r = cc
+    go (Some x) q h = (x, q, same t x.stamp h)
+
+stamps_at : (u : Bool) (xs : List Insertion) (p end : ℕ) (t : Stamp) → p < end → Some t ≡ option_map (λ x. x.stamp) (slice_get xs p)
+    → is_second u xs p ≡ false → stamps u xs p end ≡ t ∷ stamps u xs (p + 1) end
+stamps_at u xs p end t h e s =
+    let x : (x : Insertion) × (slice_get xs p ≡ Some x) × (x.stamp ≡ t) = stamp_there xs p t e in
+    ap (map (λ (y : Insertion). y.stamp)) (once_more u xs p end x.0 h x.1 s) ∙ ap (λ r. r ∷ stamps u xs (p + 1) end) x.2
+
+pub deletion_more : (site : ℕ) (made : List Operation) (clock clock' : List ℕ) (u : Bool) (xs : List Insertion) (p end : ℕ) (t : Stamp)
     (op : Operation) (whole : List Operation)
-    → p < end → Some t ≡ option_map (λ x. x.stamp) (slice_get xs p) → op ≡ record { site = site; clock = raised clock site; kind = Del t }
-    → clock' ≡ op.clock
-    → made ++ deletion_run site clock (stamps xs p end) ≡ whole
-    → (made ++ op ∷ []) ++ deletion_run site clock' (stamps xs (p + 1) end) ≡ whole
-deletion_more site made clock clock' xs p end t op whole h at is counts so_far =
-    append_assoc made (op ∷ []) (deletion_run site clock' (stamps xs (p + 1) end))
+    → p < end → Some t ≡ option_map (λ x. x.stamp) (slice_get xs p) → is_second u xs p ≡ false
+    → op ≡ record { site = site; clock = raised clock site; kind = Del t } → clock' ≡ op.clock
+    → made ++ deletion_run site clock (stamps u xs p end) ≡ whole
+    → (made ++ op ∷ []) ++ deletion_run site clock' (stamps u xs (p + 1) end) ≡ whole
+deletion_more site made clock clock' u xs p end t op whole h at first is counts so_far =
+    append_assoc made (op ∷ []) (deletion_run site clock' (stamps u xs (p + 1) end))
     ∙ ap (λ (os : List Operation). made ++ os) (sym one)
     ∙ so_far
   where
-    behind : deletion_run site clock' (stamps xs (p + 1) end) ≡ deletion_run site (raised clock site) (stamps xs (p + 1) end)
-    behind = ap (λ (w : List ℕ). deletion_run site w (stamps xs (p + 1) end)) (counts ∙ ap (λ (x : Operation). x.clock) is)
+    behind : deletion_run site clock' (stamps u xs (p + 1) end) ≡ deletion_run site (raised clock site) (stamps u xs (p + 1) end)
+    behind = ap (λ (w : List ℕ). deletion_run site w (stamps u xs (p + 1) end)) (counts ∙ ap (λ (x : Operation). x.clock) is)
 
-    one : deletion_run site clock (stamps xs p end) ≡ op ∷ deletion_run site clock' (stamps xs (p + 1) end)
-    one = ap (deletion_run site clock) (stamps_at xs p end t h at)
+    one : deletion_run site clock (stamps u xs p end) ≡ op ∷ deletion_run site clock' (stamps u xs (p + 1) end)
+    one = ap (deletion_run site clock) (stamps_at u xs p end t h at first)
         ∙ ap₂ (λ (x : Operation) (os : List Operation). x ∷ os) (sym is) (sym behind)
 
-pub deletion_all : (site : ℕ) (made : List Operation) (clock : List ℕ) (xs : List Insertion) (p end : ℕ) (whole : List Operation)
-    → end ≤ p → made ++ deletion_run site clock (stamps xs p end) ≡ whole → made ≡ whole
-deletion_all site made clock xs p end whole h so_far =
+pub deletion_same : (site : ℕ) (made : List Operation) (clock : List ℕ) (u : Bool) (xs : List Insertion) (p end : ℕ)
+    (whole : List Operation)
+    → p < end → p < length xs → is_second u xs p ≡ true → made ++ deletion_run site clock (stamps u xs p end) ≡ whole
+    → made ++ deletion_run site clock (stamps u xs (p + 1) end) ≡ whole
+deletion_same site made clock u xs p end whole h w s so_far =
+    ap (λ (ys : List Insertion). made ++ deletion_run site clock (map (λ x. x.stamp) ys)) (sym (once_same u xs p end h w s)) ∙ so_far
+
+-- how many are still to come
+pub fewer : (u : Bool) (xs : List Insertion) (p end : ℕ) → p < end → p < length xs → is_second u xs p ≡ false
+    → length (once u xs p end) ≡ length (once u xs (p + 1) end) + 1
+fewer u xs p end h w s =
+    let e : (x : Insertion) × (slice_get xs p ≡ Some x) = get-within xs p w in
+    omega (arith, ap length (once_more u xs p end e.0 h e.1 s))
+
+pub as_many : (u : Bool) (xs : List Insertion) (p end : ℕ) → p < end → p < length xs → is_second u xs p ≡ true
+    → length (once u xs p end) ≡ length (once u xs (p + 1) end)
+as_many u xs p end h w s = ap length (once_same u xs p end h w s)
+
+-- none stand at no places
+pub once_none : (u : Bool) (xs : List Insertion) (p end : ℕ) → end ≤ p → once u xs p end ≡ []
+once_none u xs p end h = ap (each_once u) (take_none (drop p xs) (end - p) (omega (arith, h))) ∙ go u
+  where
+    go : (u : Bool) → each_once u [] ≡ []
+    go false = refl
+    go true = refl
+
+pub deletion_all : (site : ℕ) (made : List Operation) (clock : List ℕ) (u : Bool) (xs : List Insertion) (p end : ℕ) (whole : List Operation)
+    → end ≤ p → made ++ deletion_run site clock (stamps u xs p end) ≡ whole → made ≡ whole
+deletion_all site made clock u xs p end whole h so_far =
     sym (append-nil made)
-    ∙ ap (λ (ys : List Insertion). made ++ deletion_run site clock (map (λ x. x.stamp) ys))
-    (sym (take_none (drop p xs) (end - p) (omega (arith, h))))
+    ∙ ap (λ (ys : List Insertion). made ++ deletion_run site clock (map (λ x. x.stamp) ys)) (sym (once_none u xs p end h))
     ∙ so_far
 
 length-insertion_run : (site : ℕ) (clock : List ℕ) (parent : Option Stamp) (cs : List ℕ)
@@ -99,51 +164,83 @@ length-deletion_run : (site : ℕ) (clock : List ℕ) (ts : List Stamp) → leng
 length-deletion_run site clock [] = refl
 length-deletion_run site clock (t ∷ ts) = omega (arith, length-deletion_run site (raised clock site) ts)
 
--- there is an element at each place inside
-pub not_none : (xs : List Insertion) (p : ℕ) → p < length xs → None ≡ option_map (λ x. x.stamp) (slice_get xs p) → ⊥
-not_none [] p h e = omega (arith, h)
-not_none (x ∷ xs) zero h e = cc
-not_none (x ∷ xs) (suc p) h e = not_none xs p (omega (arith, h)) e
-
 -- ---- what the calls answer, when all checks have passed
 
 pub few_for : (log : List Operation) (clock : List ℕ) (n : ℕ) → IsLawful log → clock ≡ clock_of log → length log + n ≤ 131072
     → sum clock + n ≤ 131072
 few_for log clock n l e h = omega (arith, ap sum e, sum-clock_of log l, h)
 
-pub asked_deletions-is : (log ops : List Operation) (clock : List ℕ) (site v k c : ℕ) → clock ≡ clock_of log
-    → ops ≡ deletion_run site clock (stamps (visible_at log v) k (k + c)) → ops ≡ asked_deletions log site v k c
-asked_deletions-is log ops clock site v k c e is =
-    is ∙ ap₂ (λ (w : List ℕ) (n : ℕ). deletion_run site w (map (λ (x : Insertion). x.stamp) (take n (drop k (visible_at log v))))) e
+pub asked_deletions-is : (u : Bool) (log ops : List Operation) (clock : List ℕ) (site v k c : ℕ) → clock ≡ clock_of log
+    → is_inside u (reading_in_at u log v) k ≡ false → is_inside u (reading_in_at u log v) (k + c) ≡ false
+    → ops ≡ deletion_run site clock (stamps u (visible_in_at u log v) k (k + c)) → ops ≡ asked_deletions_in u log site v k c
+asked_deletions-is u log ops clock site v k c e p q is =
+    is ∙ ap₂ (λ (w : List ℕ) (n : ℕ).
+    deletion_run site w (map (λ (x : Insertion). x.stamp) (each_once u (take n (drop k (visible_in_at u log v)))))) e
     (omega arith)
+    ∙ sym (cond-false _ _ _ (ap₂ (λ (x y : Bool). x || y) p q))
 
-pub asked_insertions-is : (log ops : List Operation) (clock : List ℕ) (site v k : ℕ) (parent : Option Stamp) (cs : List ℕ)
-    → clock ≡ clock_of log → parent ≡ parent_at log v k
-    → ops ≡ insertion_run site clock parent cs → ops ≡ asked_insertions log site v k cs
-asked_insertions-is log ops clock site v k parent cs e p is = is ∙ ap₂ (λ (w : List ℕ) (o : Option Stamp). insertion_run site w o cs) e p
+-- a place that is not bad is between characters, and within
+pub outside_pairs : (u : Bool) (log : List Operation) (v k : ℕ) → is_bad_place u log v k ≡ false
+    → is_inside u (reading_in_at u log v) k ≡ false
+outside_pairs u log v k h = go (is_inside u (reading_in_at u log v) k) (nat_lt (length (visible_in_at u log v)) k) h
+  where
+    go : (a b : Bool) → (a || b) ≡ false → a ≡ false
+    go false b e = refl
+    go true b e = cc
 
-pub insertions_lawful : (log ops : List Operation) (site v k : ℕ) (cs : List ℕ) → IsLawful log → site < 32
-    → ops ≡ asked_insertions log site v k cs → IsLawful (log ++ ops)
-insertions_lawful log ops site v k cs l b e = subst (λ xs. IsLawful (log ++ xs)) (sym e) (asked_insertions-lawful log site v k cs l b)
+pub within : (u : Bool) (log : List Operation) (v k : ℕ) → is_bad_place u log v k ≡ false → k ≤ length (visible_in_at u log v)
+within u log v k h =
+    let e : nat_lt (length (visible_in_at u log v)) k ≡ false =
+    go (is_inside u (reading_in_at u log v) k) (nat_lt (length (visible_in_at u log v)) k) h in
+    grind (arith, nat_tests)
+  where
+    go : (a b : Bool) → (a || b) ≡ false → b ≡ false
+    go false b e = e
+    go true b e = cc
 
-pub insertions_placed : (log ops : List Operation) (site v k : ℕ) (cs : List ℕ) → IsLawful log → site < 32 → k ≤ length (visible_at log v)
-    → ops ≡ asked_insertions log site v k cs → IsPlaced log v k ops
-insertions_placed log ops site v k cs l b h e = subst (IsPlaced log v k) (sym e) (asked_insertions-placed log site v k cs l b h)
+pub asked_insertions-is : (u : Bool) (log ops : List Operation) (clock : List ℕ) (site v k : ℕ) (parent : Option Stamp) (cs : List ℕ)
+    → clock ≡ clock_of log → is_bad_place u log v k ≡ false → parent ≡ parent_in_at u log v k
+    → ops ≡ insertion_run site clock parent cs → ops ≡ asked_insertions_in u log site v k cs
+asked_insertions-is u log ops clock site v k parent cs e h p is =
+    is ∙ ap₂ (λ (w : List ℕ) (o : Option Stamp). insertion_run site w o cs) e p ∙ sym (cond-false _ _ _ (outside_pairs u log v k h))
 
-pub deletions_lawful : (log ops : List Operation) (site v k c : ℕ) → IsLawful log → site < 32 → ops ≡ asked_deletions log site v k c
-    → IsLawful (log ++ ops)
-deletions_lawful log ops site v k c l b e = subst (λ xs. IsLawful (log ++ xs)) (sym e) (asked_deletions-lawful log site v k c l b)
+pub insertions_lawful : (u : Bool) (log ops : List Operation) (site v k : ℕ) (cs : List ℕ) → IsLawful log → site < 32
+    → is_bad_place u log v k ≡ false → ops ≡ asked_insertions_in u log site v k cs → IsLawful (log ++ ops)
+insertions_lawful u log ops site v k cs l b h e =
+    subst (λ xs. IsLawful (log ++ xs)) (sym e) (asked_insertions_in-lawful u log site v k cs l b (within u log v k h))
+
+pub insertions_placed : (u : Bool) (log ops : List Operation) (site v k : ℕ) (cs : List ℕ) → IsLawful log → site < 32
+    → is_bad_place u log v k ≡ false → ops ≡ asked_insertions_in u log site v k cs → IsPlaced_in u log v k ops
+insertions_placed u log ops site v k cs l b h e =
+    subst (IsPlaced_in u log v k) (sym e) (asked_insertions_in-placed u log site v k cs l b (within u log v k h)
+    (outside_pairs u log v k h))
+
+pub deletions_lawful : (u : Bool) (log ops : List Operation) (site v k c : ℕ) → IsLawful log → site < 32
+    → k + c ≤ length (visible_in_at u log v)
+    → is_inside u (reading_in_at u log v) k ≡ false → is_inside u (reading_in_at u log v) (k + c) ≡ false
+    → ops ≡ asked_deletions_in u log site v k c → IsLawful (log ++ ops)
+deletions_lawful u log ops site v k c l b h p q e =
+    subst (λ xs. IsLawful (log ++ xs)) (sym e) (asked_deletions_in-lawful u log site v k c l b h p q)
 
 -- one for each character
-pub length-asked_insertions : (log ops : List Operation) (site v k : ℕ) (cs : List ℕ) → ops ≡ asked_insertions log site v k cs
-    → length ops ≡ length cs
-length-asked_insertions log ops site v k cs e = ap length e ∙ length-insertion_run site (clock_of log) (parent_at log v k) cs
+pub length-asked_insertions : (u : Bool) (log ops : List Operation) (site v k : ℕ) (cs : List ℕ) → is_bad_place u log v k ≡ false
+    → ops ≡ asked_insertions_in u log site v k cs → length ops ≡ length cs
+length-asked_insertions u log ops site v k cs h e =
+    ap length (e ∙ cond-false _ _ _ (outside_pairs u log v k h)) ∙ length-insertion_run site (clock_of log) (parent_in_at u log v k) cs
 
 -- one for each element that stands within
-pub length-asked_deletions : (log ops : List Operation) (site v k c : ℕ) → k + c ≤ length (visible_at log v)
-    → ops ≡ asked_deletions log site v k c → length ops ≡ c
-length-asked_deletions log ops site v k c h e =
+pub length-once : (u : Bool) (log : List Operation) (v k c : ℕ) → k + c ≤ length (visible_in_at u log v)
+    → length (once u (visible_in_at u log v) k (k + c)) ≡ element_count u log v k c
+length-once true log v k c h = ap (λ n. length (each_once true (take n (drop k (visible_in_at true log v))))) (omega arith)
+length-once false log v k c h =
+    ap (λ n. length (take n (drop k (visible_in_at false log v)))) (omega arith)
+    ∙ length-take-le c (drop k (visible_in_at false log v)) (omega (arith, h, length-drop k (visible_in_at false log v)))
+
+pub length-asked_deletions : (u : Bool) (log ops : List Operation) (clock : List ℕ) (site v k c : ℕ)
+    → k + c ≤ length (visible_in_at u log v)
+    → ops ≡ deletion_run site clock (stamps u (visible_in_at u log v) k (k + c)) → length ops ≡ element_count u log v k c
+length-asked_deletions u log ops clock site v k c h e =
     ap length e
-    ∙ length-deletion_run site (clock_of log) (map (λ x. x.stamp) (take c (drop k (visible_at log v))))
-    ∙ length-map (take c (drop k (visible_at log v))) (λ (x : Insertion). x.stamp)
-    ∙ length-take-le c (drop k (visible_at log v)) (omega (arith, h, length-drop k (visible_at log v)))
+    ∙ length-deletion_run site clock (stamps u (visible_in_at u log v) k (k + c))
+    ∙ length-map (once u (visible_in_at u log v) k (k + c)) (λ (x : Insertion). x.stamp)
+    ∙ length-once u log v k c h

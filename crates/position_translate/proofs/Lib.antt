@@ -1,1 +1,2 @@
+pub mod Insides
 pub mod Asking

@@ -1,12 +1,14 @@
 //! Deletions from a place of a version on.
-ghost use Rattle.std.specs.Prelude.{◌≡◌, ◌≤◌, ◌+◌, ◌-◌, ◌++◌, ◌⊎◌, Some, None, length, sum, map, take, drop, IfOk, IfErr, OnOk, vec_len};
+ghost use Rattle.std.specs.Prelude.{◌≡◌, ◌≤◌, ◌+◌, ◌-◌, ◌++◌, ◌⊎◌, Some, None, true, length, sum, map};
+ghost use Rattle.std.specs.Prelude.{take, drop, IfOk, IfErr, OnOk, vec_len};
 ghost use Rattle.opid.specs.declared.refusal.Refusal.TheVariants.{Memory};
-ghost use Rattle.opid.specs.Reading.{visible_at};
+ghost use Rattle.opid.specs.Reading.{visible_in_at};
 ghost use Rattle.opid.specs.Lawful.{IsLawful};
-ghost use Rattle.opid.specs.Asked.{deletion_run, asked_deletions};
-ghost use Rattle.position_translate.specs.Causes.{deletion_refusal};
+ghost use Rattle.opid.specs.Asked.{deletion_run, each_once, asked_deletions, asked_deletions_in};
+ghost use Rattle.position_translate.specs.Causes.{deletion_refusal, deletion_refusal_in, element_count};
 
 use crate::next::next_op;
+use crate::places::{is_inside, len_at, stamp_at};
 use causal_clock::{Clock, Op};
 use opid::{MAX_COUNT, OpKind, Refusal, Site};
 use std::alloc::{AllocError, Global};
@@ -36,6 +38,50 @@ pub fn delete_ops(
     ensures cause { IfErr result (λ e. (deletion_refusal doc.now.log version place count ≡ Some e)
         ⊎ ((deletion_refusal doc.now.log version place count ≡ None) × (e ≡ Memory))) }
 {
+    deletions_at(alloc, doc, false, site, version, place, count)
+}
+
+/// The same where the place and the count are of UTF-16 units: one deletion for each element that has its units there. Takes
+/// for each unit the steps of `Doc::unit_at` three times.
+///
+/// Refused as `delete_ops` is, and with `BadPlace` where either end is inside a pair.
+pub fn delete_ops_units(
+    alloc: Global,
+    doc: &Doc,
+    site: Site,
+    version: u32,
+    place: u32,
+    count: u32,
+) -> Result<Vec<Op>, Refusal>
+    ensures ok { IfOk result (λ ops. ops.items ≡ asked_deletions_in true doc.now.log site version place count) }
+    ensures accepted { OnOk result (deletion_refusal_in true doc.now.log version place count ≡ None) }
+    ensures counted { IfOk result (λ ops. vec_len ops ≡ element_count true doc.now.log version place count) }
+    ensures fits { IfOk result (λ ops. length doc.now.log + vec_len ops ≤ MAX_OPERATIONS) }
+    ensures lawful { IfOk result (λ ops. IsLawful (doc.now.log ++ ops.items)) }
+    ensures cause { IfErr result (λ e. (deletion_refusal_in true doc.now.log version place count ≡ Some e)
+        ⊎ ((deletion_refusal_in true doc.now.log version place count ≡ None) × (e ≡ Memory))) }
+{
+    deletions_at(alloc, doc, true, site, version, place, count)
+}
+
+/// The deletions that are asked for from the place of the version on, as places are counted.
+fn deletions_at(
+    alloc: Global,
+    doc: &Doc,
+    units: bool,
+    site: Site,
+    version: u32,
+    place: u32,
+    count: u32,
+) -> Result<Vec<Op>, Refusal>
+    ensures ok { IfOk result (λ ops. ops.items ≡ asked_deletions_in units doc.now.log site version place count) }
+    ensures accepted { OnOk result (deletion_refusal_in units doc.now.log version place count ≡ None) }
+    ensures counted { IfOk result (λ ops. vec_len ops ≡ element_count units doc.now.log version place count) }
+    ensures fits { IfOk result (λ ops. length doc.now.log + vec_len ops ≤ MAX_OPERATIONS) }
+    ensures lawful { IfOk result (λ ops. IsLawful (doc.now.log ++ ops.items)) }
+    ensures cause { IfErr result (λ e. (deletion_refusal_in units doc.now.log version place count ≡ Some e)
+        ⊎ ((deletion_refusal_in units doc.now.log version place count ≡ None) × (e ≡ Memory))) }
+{
     prove!(site.number() < 32);
     if version > doc.version() {
         return Err(Refusal::BadVersion);
@@ -46,19 +92,40 @@ pub fn delete_ops(
     }
     let first = place as usize;
     let end = first + count;
-    if end > doc.len_at(version) {
+    if is_inside(doc, units, version, first)
+        || is_inside(doc, units, version, end)
+        || end > len_at(doc, units, version)
+    {
         return Err(Refusal::BadPlace);
     }
-    if count > MAX_OPERATIONS - doc.version() as usize {
+    let elements = elements_in(doc, units, version, first, end);
+    if elements > MAX_OPERATIONS - doc.version() as usize {
         return Err(Refusal::Full);
     }
-    Ok(run(alloc, doc, site, doc.clock(), version, first, end)?)
+    Ok(run(alloc, doc, units, site, doc.clock(), version, first, end)?)
+}
+
+/// How many elements stand at the places from `first` to before `end` of the version, none of which ends is inside a pair.
+fn elements_in(doc: &Doc, units: bool, version: u32, first: usize, end: usize) -> usize
+    requires known { version ≤ length doc.now.log }
+    requires places { first ≤ end }
+    requires inside { end ≤ length (visible_in_at units doc.now.log version) }
+    ensures { result ≡ length (each_once units (take (end - first) (drop first (visible_in_at units doc.now.log version)))) }
+{
+    let mut elements = 0;
+    for place in first..end {
+        if !is_inside(doc, units, version, place) {
+            elements += 1;
+        }
+    }
+    elements
 }
 
 /// Deletions of a site, one for each of the elements at the places from `first` to before `end` of the version.
 fn run(
     alloc: Global,
     doc: &Doc,
+    units: bool,
     site: Site,
     clock: Clock,
     version: u32,
@@ -67,20 +134,23 @@ fn run(
 ) -> Result<Vec<Op>, AllocError>
     requires known { version ≤ length doc.now.log }
     requires places { first ≤ end }
-    requires inside { end ≤ length (visible_at doc.now.log version) }
-    requires few { sum clock + (end - first) ≤ MAX_OPERATIONS }
-    ensures { IfOk result (λ ops. ops.items
-        ≡ deletion_run site clock (map (λ x. x.stamp) (take (end - first) (drop first (visible_at doc.now.log version))))) }
+    requires inside { end ≤ length (visible_in_at units doc.now.log version) }
+    requires few { sum clock + length (each_once units (take (end - first) (drop first (visible_in_at units doc.now.log version))))
+        ≤ MAX_OPERATIONS }
+    ensures { IfOk result (λ ops. ops.items ≡ deletion_run site clock
+        (map (λ x. x.stamp) (each_once units (take (end - first) (drop first (visible_in_at units doc.now.log version)))))) }
 {
     let mut ops = Vec::with_capacity(alloc, end - first)?;
     let mut clock = clock;
     for place in first..end {
-        let Some(target) = doc.element_at(version, place) else {
-            unreachable!();
-        };
-        let op = next_op(&clock, site, OpKind::Del { target });
-        clock = op.clock();
-        ops.push(op)?;
+        if !is_inside(doc, units, version, place) {
+            let Some(target) = stamp_at(doc, units, version, place) else {
+                unreachable!();
+            };
+            let op = next_op(&clock, site, OpKind::Del { target });
+            clock = op.clock();
+            ops.push(op)?;
+        }
     }
     Ok(ops)
 }

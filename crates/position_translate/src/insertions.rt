@@ -1,13 +1,14 @@
 //! Insertions at a place of a version.
-ghost use Rattle.std.specs.Prelude.{◌≡◌, ◌≤◌, ◌<◌, ◌+◌, ◌++◌, ◌⊎◌, Some, None, length, sum, IfOk, IfErr, OnOk, MatchOption, vec_len};
+ghost use Rattle.std.specs.Prelude.{◌≡◌, ◌≤◌, ◌+◌, ◌++◌, ◌⊎◌, Some, None, true, false, length};
+ghost use Rattle.std.specs.Prelude.{sum, IfOk, IfErr, OnOk, MatchOption, vec_len};
 ghost use Rattle.std.specs.Str.{chars};
 ghost use Rattle.opid.specs.declared.refusal.Refusal.TheVariants.{Memory};
-ghost use Rattle.opid.specs.Reading.{visible_at};
 ghost use Rattle.opid.specs.Lawful.{IsLawful};
-ghost use Rattle.opid.specs.Asked.{parent_at, insertion_run, asked_insertions, IsPlaced};
-ghost use Rattle.position_translate.specs.Causes.{insertion_refusal};
+ghost use Rattle.opid.specs.Asked.{parent_in_at, insertion_run, asked_insertions, asked_insertions_in, IsPlaced, IsPlaced_in};
+ghost use Rattle.position_translate.specs.Causes.{is_bad_place, insertion_refusal, insertion_refusal_in};
 
 use crate::next::next_op;
+use crate::places::{is_inside, len_at, stamp_at};
 use causal_clock::{Clock, Op};
 use opid::{MAX_COUNT, OpKind, Refusal, Site, Stamp};
 use std::alloc::{AllocError, Global};
@@ -38,6 +39,52 @@ pub fn insert_ops(
     ensures cause { IfErr result (λ e. (insertion_refusal doc.now.log version place (chars text.now) ≡ Some e)
         ⊎ ((insertion_refusal doc.now.log version place (chars text.now) ≡ None) × (e ≡ Memory))) }
 {
+    insertions_at(alloc, doc, false, site, version, place, text)
+}
+
+/// The same where the place counts UTF-16 units: the text is put in at that unit of the version. Takes the steps of
+/// `Doc::unit_at` twice, and one for each character.
+///
+/// Refused as `insert_ops` is, and with `BadPlace` where the place is inside a pair.
+pub fn insert_ops_units(
+    alloc: Global,
+    doc: &Doc,
+    site: Site,
+    version: u32,
+    place: u32,
+    text: &str,
+) -> Result<Vec<Op>, Refusal>
+    ensures ok { IfOk result (λ ops. ops.items ≡ asked_insertions_in true doc.now.log site version place (chars text.now)) }
+    ensures accepted { OnOk result (insertion_refusal_in true doc.now.log version place (chars text.now) ≡ None) }
+    ensures counted { IfOk result (λ ops. vec_len ops ≡ length (chars text.now)) }
+    ensures fits { IfOk result (λ ops. length doc.now.log + vec_len ops ≤ MAX_OPERATIONS) }
+    ensures lawful { IfOk result (λ ops. IsLawful (doc.now.log ++ ops.items)) }
+    ensures placed { IfOk result (λ ops. IsPlaced_in true doc.now.log version place ops.items) }
+    ensures cause { IfErr result (λ e. (insertion_refusal_in true doc.now.log version place (chars text.now) ≡ Some e)
+        ⊎ ((insertion_refusal_in true doc.now.log version place (chars text.now) ≡ None) × (e ≡ Memory))) }
+{
+    insertions_at(alloc, doc, true, site, version, place, text)
+}
+
+/// The insertions that are asked for at the place of the version, as places are counted.
+fn insertions_at(
+    alloc: Global,
+    doc: &Doc,
+    units: bool,
+    site: Site,
+    version: u32,
+    place: u32,
+    text: &str,
+) -> Result<Vec<Op>, Refusal>
+    ensures ok { IfOk result (λ ops. ops.items ≡ asked_insertions_in units doc.now.log site version place (chars text.now)) }
+    ensures accepted { OnOk result (insertion_refusal_in units doc.now.log version place (chars text.now) ≡ None) }
+    ensures counted { IfOk result (λ ops. vec_len ops ≡ length (chars text.now)) }
+    ensures fits { IfOk result (λ ops. length doc.now.log + vec_len ops ≤ MAX_OPERATIONS) }
+    ensures lawful { IfOk result (λ ops. IsLawful (doc.now.log ++ ops.items)) }
+    ensures placed { IfOk result (λ ops. IsPlaced_in units doc.now.log version place ops.items) }
+    ensures cause { IfErr result (λ e. (insertion_refusal_in units doc.now.log version place (chars text.now) ≡ Some e)
+        ⊎ ((insertion_refusal_in units doc.now.log version place (chars text.now) ≡ None) × (e ≡ Memory))) }
+{
     prove!(site.number() < 32);
     if version > doc.version() {
         return Err(Refusal::BadVersion);
@@ -46,7 +93,7 @@ pub fn insert_ops(
     if count == 0 || count > MAX_COUNT as usize {
         return Err(Refusal::BadText);
     }
-    let Some(parent) = parent_in(doc, version, place) else {
+    let Some(parent) = parent_in(doc, units, version, place) else {
         return Err(Refusal::BadPlace);
     };
     if count > MAX_OPERATIONS - doc.version() as usize {
@@ -62,16 +109,22 @@ fn characters_in(text: &str) -> usize
     text.chars().count()
 }
 
-/// The parent of what is put in at the place of the version: none for the head. `None` where the version is shorter.
-fn parent_in(doc: &Doc, version: u32, place: u32) -> Option<Option<Stamp>>
+/// The parent of what is put in at the place of the version: none for the head. `None` where there is no such place.
+fn parent_in(doc: &Doc, units: bool, version: u32, place: u32) -> Option<Option<Stamp>>
     requires { version ≤ length doc.now.log }
-    ensures { MatchOption result (length (visible_at doc.now.log version) < place)
-        (λ parent. (place ≤ length (visible_at doc.now.log version)) × (parent ≡ parent_at doc.now.log version place)) }
+    ensures { MatchOption result (is_bad_place units doc.now.log version place ≡ true)
+        (λ parent. (is_bad_place units doc.now.log version place ≡ false) × (parent ≡ parent_in_at units doc.now.log version place)) }
 {
+    let place = place as usize;
+    if is_inside(doc, units, version, place) || place > len_at(doc, units, version) {
+        return None;
+    }
     if place == 0 {
         return Some(None);
     }
-    let before = doc.element_at(version, place as usize - 1)?;
+    let Some(before) = stamp_at(doc, units, version, place - 1) else {
+        unreachable!();
+    };
     Some(Some(before))
 }
 

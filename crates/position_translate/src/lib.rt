@@ -5,6 +5,7 @@
 mod deletions;
 mod insertions;
 mod next;
+mod places;
 
-pub use deletions::delete_ops;
-pub use insertions::insert_ops;
+pub use deletions::{delete_ops, delete_ops_units};
+pub use insertions::{insert_ops, insert_ops_units};

@@ -1,7 +1,7 @@
 -- Operations that go behind a log one after another.
 use Rattle.std.proofs.Common.{◌≡◌, ℕ, ◌+◌, ◌<◌, ◌≤◌, ◌⊎◌, inl, inr, Some, None, List, [], ◌∷◌, ◌++◌, length, drop, get_or, ap, ◌∙◌, sym}
 use Rattle.std.proofs.Common.{subst, arith, append_assoc}
-use Rattle.std.proofs.lemmas.List.{append-nil, drop_all, length-append, length-drop}
+use Rattle.std.proofs.lemmas.List.{length-append, length-drop}
 use Rattle.opid.specs.declared.refusal.Refusal.{Refusal}
 use Rattle.opid.specs.declared.refusal.Refusal.TheVariants.{Memory}
 use Rattle.opid.specs.Operations.{Operation}
@@ -48,6 +48,3 @@ pub one_more : (first log log' ops : List Operation) (n : ℕ) (x : Operation) �
 one_more first log log' ops n x h e so_far is =
     ap (λ l. l ++ drop (n + 1) ops) is ∙ append_assoc log (x ∷ []) (drop (n + 1) ops)
     ∙ ap (λ xs. log ++ xs) (sym (rest_at ops n x h e)) ∙ so_far
-
-pub all_added : (first log ops : List Operation) (n : ℕ) → length ops ≤ n → log ++ drop n ops ≡ first ++ ops → log ≡ first ++ ops
-all_added first log ops n h so_far = sym (append-nil log) ∙ ap (λ xs. log ++ xs) (sym (drop_all n ops h)) ∙ so_far

@@ -36,6 +36,7 @@ abbrev pub hold : List Operation → List Operation → Operation → Delivered
 hold log held x = if nat_lt (length held) 1024 then record { outcome = Ok Kept; log = log; held = held ++ x ∷ [] }
     else unchanged (Err HoldFull) log held
 
+-- an operation was taken, and what it set free was settled
 abbrev pub settled : Settling → Delivered
 settled s = record { outcome = Ok (Took s.taken s.dropped); log = s.log; held = s.held }
 
@@ -48,6 +49,7 @@ integrate None log held x = settled (settle (record { log = log ++ x ∷ []; hel
 abbrev pub deliver_new : List Operation → List Operation → Operation → Delivered
 deliver_new log held x = if is_ready log x then integrate (refusal_of log x) log held x else hold log held x
 
+-- what becomes of an operation whose number was looked up: it is refused, known, or new
 abbrev pub deliver_found : Result Bool Refusal → List Operation → List Operation → Operation → Delivered
 deliver_found (Err e) log held x = unchanged (Err e) log held
 deliver_found (Ok true) log held x = unchanged (Ok Again) log held

@@ -5,6 +5,7 @@ use Rattle.holdback.specs.Offered as holding
 use Rattle.replica.specs.declared.settle.Tally.{Tally}
 use Rattle.replica.specs.Settle.{Settling}
 
+-- a log, what is held back and the counts so far, as what settles
 abbrev pub settling_of : document.Document → holding.HeldOperations → Tally → Settling
 settling_of log held tally = record { log = log.log; held = held.ops; taken = tally.taken; dropped = tally.dropped }
 

@@ -13,6 +13,7 @@ pub record AllPlaces : Type 0 where
   pub rows : List (List ℕ)
   pub room : ℕ
 
+-- the places that are kept of a site
 abbrev pub places_at : List (List ℕ) → ℕ → List ℕ
 places_at rows site = slice_index_or rows site []
 
@@ -21,6 +22,7 @@ abbrev pub places_from : ℕ → ℕ → List Operation → List ℕ
 places_from start site [] = []
 places_from start site (x ∷ log) = if x.site == site then start ∷ places_from (start + 1) site log else places_from (start + 1) site log
 
+-- the places of the site's operations in the log
 abbrev pub places_of : ℕ → List Operation → List ℕ
 places_of site log = places_from 0 site log
 

@@ -23,6 +23,7 @@ appended_or_dropped (Some e) x s = record s { dropped = s.dropped + 1 }
 abbrev pub taken_out : Settling → Settling
 taken_out s = record s { held = without_first_ready (clock_of s.log) s.held }
 
+-- one round with the operation that is ready, if there is one
 abbrev pub round_with : Option Operation → Settling → Settling
 round_with None s = s
 round_with (Some x) s = appended_or_dropped (refusal_of s.log x) x (taken_out s)

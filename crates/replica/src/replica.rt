@@ -1,10 +1,12 @@
 //! A replica of a document.
-ghost use Rattle.std.specs.Prelude.{◌≡◌, ◌≤◌, ◌+◌, ◌-◌, ◌⊎◌, ◌++◌, [], Some, None, Ok, Err, length, max, IsOk, IfOk, IfErr, OnOk, OnErr};
+ghost use Rattle.std.specs.Prelude.{◌≡◌, ◌≤◌, ◌+◌, ◌-◌, ◌⊎◌, ◌++◌, [], true, Some, None, Ok, Err};
+ghost use Rattle.std.specs.Prelude.{length, max, IsOk, IfOk, IfErr, OnOk, OnErr};
 ghost use Rattle.opid.specs.declared.refusal.Refusal.TheVariants.{Memory};
 ghost use Rattle.std.specs.Str.{chars};
 ghost use Rattle.opid.specs.Lawful.{IsLawful};
-ghost use Rattle.opid.specs.Asked.{asked_insertions, asked_deletions};
-ghost use Rattle.position_translate.specs.Causes.{insertion_refusal, deletion_refusal};
+ghost use Rattle.opid.specs.Asked.{asked_insertions, asked_deletions, asked_insertions_in, asked_deletions_in};
+ghost use Rattle.position_translate.specs.Causes.{insertion_refusal, deletion_refusal, insertion_refusal_in};
+ghost use Rattle.position_translate.specs.Causes.{deletion_refusal_in, element_count};
 ghost use Rattle.replica.specs.Deliver.{deliver, taken_by};
 ghost use Rattle.replica.specs.Part.{part_of};
 
@@ -16,7 +18,7 @@ use crate::submissions::append_all;
 use causal_clock::Op;
 use holdback::{Held, MAX_HELD};
 use opid::{Refusal, Site};
-use position_translate::{delete_ops, insert_ops};
+use position_translate::{delete_ops, delete_ops_units, insert_ops, insert_ops_units};
 use std::alloc::Global;
 use std::marker::Model;
 use versions::{Doc, MAX_OPERATIONS};
@@ -82,14 +84,14 @@ impl Replica {
         Ok(replica)
     }
 
-    /// The site.
+    /// The site. Constant time.
     pub fn site(&self) -> Site
         ensures { result ≡ self.now.site }
     {
         self.site
     }
 
-    /// The document that the log makes.
+    /// The document that the log makes. Constant time.
     pub fn doc(&self) -> &Doc
         ensures value { result.now.log ≡ self.now.log }
         ensures lawful { IsLawful self.now.log }
@@ -131,6 +133,31 @@ impl Replica {
         Ok(reply)
     }
 
+    /// The same where the place counts UTF-16 units. Refused as `insert_ops_units` is; then nothing has changed. Takes the steps of
+    /// `insert_ops_units`, and of an integration for each character.
+    pub fn submit_ins_units(
+        &mut self,
+        version: u32,
+        place: u32,
+        text: &str,
+    ) -> Result<(u32, u32), Refusal>
+        ensures reply { IfOk result (λ r. r ≡ (length self.old.log, length self.old.log + length (chars text.now))) }
+        ensures accepted { OnOk result (insertion_refusal_in true self.old.log version place (chars text.now) ≡ None) }
+        ensures next { OnOk result (self.new ≡ record self.old {
+          log = self.old.log ++ asked_insertions_in true self.old.log self.old.site version place (chars text.now);
+          room = self.old.room - length (chars text.now);
+        }) }
+        ensures cause { IfErr result (λ e. (insertion_refusal_in true self.old.log version place (chars text.now) ≡ Some e)
+            ⊎ ((insertion_refusal_in true self.old.log version place (chars text.now) ≡ None) × (e ≡ Memory))) }
+        ensures err { OnErr result (self.new ≡ self.old) }
+    {
+        let doc = self.log.doc();
+        let ops = insert_ops_units(self.alloc, doc, self.site, version, place, text)?;
+        let reply = append_all(&mut self.log, &ops)?;
+        self.room = self.room.saturating_sub(ops.len());
+        Ok(reply)
+    }
+
     /// Deletes so many characters from a place of a version on, as the replica's own next operations, and tells the
     /// versions that this led from and to. Refused as `delete_ops` is, with `BadVersion`, `BadCount`, `BadPlace`, `Full`
     /// and `Memory`; then nothing has changed. Takes the steps of `delete_ops`, and of an integration for each.
@@ -152,6 +179,33 @@ impl Replica {
     {
         let doc = self.log.doc();
         let ops = delete_ops(self.alloc, doc, self.site, version, place, count)?;
+        let reply = append_all(&mut self.log, &ops)?;
+        self.room = self.room.saturating_sub(ops.len());
+        Ok(reply)
+    }
+
+    /// The same where the place and the count are of UTF-16 units: the elements that stand there are deleted, of which there may be
+    /// fewer. Refused as `delete_ops_units` is; then nothing has changed. Takes the steps of `delete_ops_units`, and of an
+    /// integration for each element.
+    pub fn submit_del_units(
+        &mut self,
+        version: u32,
+        place: u32,
+        count: u32,
+    ) -> Result<(u32, u32), Refusal>
+        ensures reply { IfOk result (λ r. r
+            ≡ (length self.old.log, length self.old.log + element_count true self.old.log version place count)) }
+        ensures accepted { OnOk result (deletion_refusal_in true self.old.log version place count ≡ None) }
+        ensures next { OnOk result (self.new ≡ record self.old {
+          log = self.old.log ++ asked_deletions_in true self.old.log self.old.site version place count;
+          room = self.old.room - element_count true self.old.log version place count;
+        }) }
+        ensures cause { IfErr result (λ e. (deletion_refusal_in true self.old.log version place count ≡ Some e)
+            ⊎ ((deletion_refusal_in true self.old.log version place count ≡ None) × (e ≡ Memory))) }
+        ensures err { OnErr result (self.new ≡ self.old) }
+    {
+        let doc = self.log.doc();
+        let ops = delete_ops_units(self.alloc, doc, self.site, version, place, count)?;
         let reply = append_all(&mut self.log, &ops)?;
         self.room = self.room.saturating_sub(ops.len());
         Ok(reply)

@@ -1,6 +1,6 @@
 //! The world: rooms of several sites, one event after another.
 ghost use Rattle.std.specs.Prelude.{◌≡◌, ℕ, List, ◌+◌, ◌^◌, ◌⊎◌, ◌<◌, ◌≤◌, [], ◌∷◌, Some, None, length, take, slice_get, slice_set, IfOk};
-ghost use Rattle.std.specs.Prelude.{OnOk, OnErr, IfSome, IfNone, is_some, option_and_then, option_map, IfErr, ◌++◌};
+ghost use Rattle.std.specs.Prelude.{OnOk, OnErr, IfSome, IfNone, IsSome, is_some, option_and_then, option_map, IfErr, ◌++◌};
 ghost use Rattle.opid.specs.Lawful.{IsLawful};
 ghost use Rattle.opid.specs.declared.refusal.Refusal.TheVariants.{NoRoom, Memory};
 ghost use Rattle.opid.specs.Reading.{reading};
@@ -122,7 +122,8 @@ impl World {
     /// with `NoRoom` and with `Memory`.
     pub fn reading(&self, site: Site) -> Result<Characters, Refusal>
         ensures ok { IfOk result (λ text. Some text ≡ option_map (λ a. reading a.state.log) (room_of site self.now)) }
-        ensures cause { IfErr result (λ e. ((e ≡ NoRoom) × (room_of site self.now ≡ None)) ⊎ (e ≡ Memory)) }
+        ensures cause { IfErr result (λ e. ((e ≡ NoRoom) × (room_of site self.now ≡ None))
+            ⊎ ((e ≡ Memory) × IsSome (room_of site self.now))) }
     {
         match self.place_of(site) {
             None => Err(Refusal::NoRoom),

@@ -3,7 +3,7 @@ use Rattle.std.proofs.Common.{◌≡◌, ℕ, zero, suc, ◌+◌, ◌-◌, ◌<�
 use Rattle.std.proofs.Common.{List, [], ◌∷◌, ◌++◌, length, drop, get_or, refl, ap, ◌∙◌, sym, arith, append_assoc, add-one, drop-cons}
 use mathlib.Core.Path.{ap₂}
 use Rattle.std.specs.Prelude.{nat_le, nat_lt, if◌then◌else◌, IfOk, IfErr, OnErr}
-use Rattle.std.proofs.lemmas.List.{append-nil, length-append, drop_all}
+use Rattle.std.proofs.lemmas.List.{append-nil, length-append}
 use Rattle.opid.specs.declared.refusal.Refusal.{Refusal}
 use Rattle.opid.specs.declared.refusal.Refusal.TheVariants.{OwnSite, HoldFull, Memory}
 use Rattle.opid.specs.Operations.{Operation}
@@ -256,11 +256,3 @@ handed_on R T ops n d result before after o whole b s is pushed so_far =
         ap (λ k. hand_over T.site T.log T.held (drop k ops)) (add-one n)
         ∙ ap (λ i. hand_over i T.log T.held (drop (suc n) ops)) s.site
         ∙ ap₂ (λ (l h : List Operation). hand_over R.site l h (drop (suc n) ops)) s.log s.held
-
-pub handed_all : (R : ReplicaState) (ops : List Operation) (n : ℕ) (before : List Outcome) (whole : Handed) → length ops ≤ n
-    → with_before before (hand_over R.site R.log R.held (drop n ops)) ≡ whole
-    → record { outcomes = before; log = R.log; held = R.held } ≡ whole
-handed_all R ops n before whole h so_far =
-    ap (λ (os : List Outcome). let q : Handed = record { outcomes = os; log = R.log; held = R.held } in q) (sym (append-nil before))
-    ∙ ap (λ (xs : List Operation). with_before before (hand_over R.site R.log R.held xs)) (sym (drop_all n ops h))
-    ∙ so_far

@@ -8,12 +8,13 @@ use Rattle.opid.specs.declared.refusal.Refusal.TheVariants.{BadVersion, BadPlace
 use Rattle.opid.specs.Operations.{Operation, insertions}
 use Rattle.opid.specs.Reading.{visible, visible_at}
 use Rattle.opid.specs.Lawful.{IsLawful}
-use Rattle.opid.specs.Asked.{asked_insertions, asked_deletions, IsPlaced}
+use Rattle.opid.specs.Delivery.{clock_of}
+use Rattle.opid.specs.Asked.{asked_insertions, asked_deletions, deletion_run, IsPlaced}
 use Rattle.opid.proofs.Logs.{IsLawful-take}
 use Rattle.opid.proofs.Placing.{asked_insertions-placed}
 use Rattle.opid.specs.Limits.{is_bad_count}
 use Rattle.position_translate.specs.Causes.{insertion_refusal, deletion_refusal}
-use Rattle.position_translate.proofs.Asking.{length-asked_insertions, length-asked_deletions}
+use Rattle.position_translate.proofs.Asking.{length-asked_insertions, length-asked_deletions, asked_deletions-is, stamps}
 use Rattle.session_outbox.specs.declared.submission.Submission.TheVariants.{New}
 use Rattle.session_outbox.specs.Sessions.{session_with}
 use Rattle.session_outbox.specs.Answers.{submission_of}
@@ -105,7 +106,8 @@ accepted-goes S (Ins s n v k x) start end l b a e =
     let place : k ≤ length (visible_at S.log v) =
     at_most (length (visible_at S.log v)) k (none-place _ _ _ (is_bad_count (length x)) _ _ none) in
     let size : length (asked_insertions S.log S.site v k x) ≡ length x =
-    length-asked_insertions S.log (asked_insertions S.log S.site v k x) S.site v k x refl in
+    length-asked_insertions false S.log (asked_insertions S.log S.site v k x) S.site v k x
+    (none-place _ _ _ (is_bad_count (length x)) _ _ none) refl in
     let start_is : length S.log ≡ start = cc e in
     let end_is : length S.log + length x ≡ end = cc e in
     record {
@@ -120,8 +122,11 @@ accepted-goes S (Del s n v k c) start end l b a e =
     first_accepted (submission_of (session_with s S.outbox.sessions) n v) (deletion_refusal S.log v k c) a in
     let place : k + c ≤ length (visible_at S.log v) =
     at_most (length (visible_at S.log v)) (k + c) (none-place _ _ _ (is_bad_count c) _ _ none) in
+    let run : List Operation = deletion_run S.site (clock_of S.log) (stamps false (visible_at S.log v) k (k + c)) in
+    let is : run ≡ asked_deletions S.log S.site v k c =
+    asked_deletions-is false S.log run (clock_of S.log) S.site v k c refl refl refl refl in
     let size : length (asked_deletions S.log S.site v k c) ≡ c =
-    length-asked_deletions S.log (asked_deletions S.log S.site v k c) S.site v k c place refl in
+    ap length (sym is) ∙ length-asked_deletions false S.log run (clock_of S.log) S.site v k c place refl in
     let start_is : length S.log ≡ start = cc e in
     let end_is : length S.log + c ≡ end = cc e in
     record { from = sym start_is; to = omega (arith, end_is, size); grown = refl; placed = λ more. tt }

@@ -1,36 +1,79 @@
-use Rattle.std.proofs.Common.{◌∙◌, ◌+◌, ap, sym, sum, arith, ◌++◌}
-use Rattle.opid.specs.Reading.{visible_at}
+use Rattle.std.proofs.Common.{◌≡◌, ◌<◌, ◌∙◌, ◌+◌, ap, sym, sum, length, arith, ◌++◌}
+use Rattle.opid.specs.Reading.{visible_in_at}
 use Rattle.opid.specs.Asked.{deletion_run}
-use Rattle.position_translate.proofs.Asking.{stamps, deletion_more, deletion_all, not_none}
+use Rattle.position_translate.proofs.Insides.{is_second, inside_second}
+use Rattle.position_translate.proofs.Asking.{stamps, deletion_more, deletion_same, deletion_all, fewer, as_many}
 use Rattle.position_translate.proofs.deletions.run.Goals as goal
+use Rattle.position_translate.proofs.deletions.run.Goals.{then-not-is_inside+in-Some+in_ok-push, else-not-is_inside}
 
-pub loop-place-init : goal.loop-place-init
-loop-place-init c = record {
-  whole = ap (λ ops. ops ++ deletion_run c.args.site c.args.clock
-      (stamps (visible_at c.args.doc.now.log c.args.version) c.args.first c.args.end)) c.in_ok-ops.ensures.items;
-  few = omega (arith, c.requires.few, c.requires.places);
-}
-
-pub unreachable-requires : goal.unreachable-requires
-unreachable-requires c =
-    not_none (visible_at c.args.doc.now.log c.args.version) c.loop-place.place (omega (arith, c.loop-place-test.true, c.requires.inside))
-    (sym c.in_default.is ∙ c.element_at.ensures)
+pub next_op-op-requires : goal.next_op-op-requires
+next_op-op-requires c =
+    let told : is_second c.args.units (visible_in_at c.args.units c.args.doc.now.log c.args.version) c.loop-place.place
+    ≡ c.is_inside.result =
+    sym (c.is_inside.ensures ∙ inside_second c.args.units c.args.doc.now.log c.args.version c.loop-place.place) in
+    omega (
+      arith,
+      c.loop-place.invariant.few,
+      fewer c.args.units (visible_in_at c.args.units c.args.doc.now.log c.args.version) c.loop-place.place c.args.end c.loop-place-test.true
+          (omega (arith, c.loop-place-test.true, c.requires.inside)) (told ∙ c.if-not-is_inside.true),
+    )
 
 pub loop-place-preserved : goal.loop-place-preserved
-loop-place-preserved c = record {
-  whole =
-      ap (λ ops. ops ++ deletion_run c.args.site c.clock-clock.result
-      (stamps (visible_at c.args.doc.now.log c.args.version) (c.loop-place.place + 1) c.args.end)) c.in_ok-push.ensures.items
-      ∙ deletion_more c.args.site c.loop-place.ops.items c.loop-place.clock c.clock-clock.result
-      (visible_at c.args.doc.now.log c.args.version) c.loop-place.place c.args.end c.in-Some.target c.next_op-op.result
-      (deletion_run c.args.site c.args.clock (stamps (visible_at c.args.doc.now.log c.args.version) c.args.first c.args.end))
-      c.loop-place-test.true c.in-Some.ensures c.next_op-op.ensures.value c.clock-clock.ensures.value c.loop-place.invariant.whole;
-  few = omega (arith, c.loop-place.invariant.few, c.next_op-op.ensures.total, ap sum c.clock-clock.ensures.value);
-}
+loop-place-preserved c =
+    let told : is_second c.args.units (visible_in_at c.args.units c.args.doc.now.log c.args.version) c.loop-place.place
+    ≡ c.is_inside.result =
+    sym (c.is_inside.ensures ∙ inside_second c.args.units c.args.doc.now.log c.args.version c.loop-place.place) in
+    let low : c.loop-place.place < length (visible_in_at c.args.units c.args.doc.now.log c.args.version) =
+    omega (arith, c.loop-place-test.true, c.requires.inside) in
+    elim c.if-not-is_inside.branch [
+      | then-not-is_inside+in-Some+in_ok-push w ↦ record {
+        whole =
+            ap (λ ops. ops ++ deletion_run c.args.site c.if-not-is_inside.clock
+            (stamps c.args.units (visible_in_at c.args.units c.args.doc.now.log c.args.version) (c.loop-place.place + 1) c.args.end))
+            (ap (λ v. v.items) w.ops-is ∙ w.in_ok-push.ensures.items)
+            ∙ deletion_more c.args.site c.loop-place.ops.items c.loop-place.clock c.if-not-is_inside.clock c.args.units
+            (visible_in_at c.args.units c.args.doc.now.log c.args.version) c.loop-place.place c.args.end w.in-Some.target
+            w.next_op-op.result
+            (deletion_run c.args.site c.args.clock (stamps c.args.units
+            (visible_in_at c.args.units c.args.doc.now.log c.args.version) c.args.first c.args.end))
+            c.loop-place-test.true w.in-Some.ensures (told ∙ w.if-not-is_inside.true) w.next_op-op.ensures.value
+            (w.clock-is ∙ w.clock-clock.ensures.value) c.loop-place.invariant.whole;
+        few = omega (
+          arith,
+          c.loop-place.invariant.few,
+          w.next_op-op.ensures.total,
+          ap sum (w.clock-is ∙ w.clock-clock.ensures.value),
+          fewer c.args.units (visible_in_at c.args.units c.args.doc.now.log c.args.version) c.loop-place.place c.args.end
+              c.loop-place-test.true low (told ∙ w.if-not-is_inside.true),
+        );
+      }
+      | else-not-is_inside w ↦ record {
+        whole =
+            ap (λ ops. ops ++ deletion_run c.args.site c.if-not-is_inside.clock
+            (stamps c.args.units (visible_in_at c.args.units c.args.doc.now.log c.args.version) (c.loop-place.place + 1) c.args.end))
+            (ap (λ v. v.items) w.ops-is)
+            ∙ ap (λ k. c.loop-place.ops.items ++ deletion_run c.args.site k
+            (stamps c.args.units (visible_in_at c.args.units c.args.doc.now.log c.args.version)
+            (c.loop-place.place + 1) c.args.end)) w.clock-is
+            ∙ deletion_same c.args.site c.loop-place.ops.items c.loop-place.clock c.args.units
+            (visible_in_at c.args.units c.args.doc.now.log c.args.version) c.loop-place.place c.args.end
+            (deletion_run c.args.site c.args.clock (stamps c.args.units
+            (visible_in_at c.args.units c.args.doc.now.log c.args.version) c.args.first c.args.end))
+            c.loop-place-test.true low (told ∙ w.if-not-is_inside.false) c.loop-place.invariant.whole;
+        few = omega (
+          arith,
+          c.loop-place.invariant.few,
+          ap sum w.clock-is,
+          as_many c.args.units (visible_in_at c.args.units c.args.doc.now.log c.args.version) c.loop-place.place c.args.end
+              c.loop-place-test.true low (told ∙ w.if-not-is_inside.false),
+        );
+      }
+    ]
 
 pub returns : goal.returns
 returns c =
-    deletion_all c.args.site c.loop-place.ops.items c.loop-place.clock
-    (visible_at c.args.doc.now.log c.args.version) c.loop-place.place c.args.end
-    (deletion_run c.args.site c.args.clock (stamps (visible_at c.args.doc.now.log c.args.version) c.args.first c.args.end))
+    deletion_all c.args.site c.loop-place.ops.items c.loop-place.clock c.args.units
+    (visible_in_at c.args.units c.args.doc.now.log c.args.version) c.loop-place.place c.args.end
+    (deletion_run c.args.site c.args.clock
+    (stamps c.args.units (visible_in_at c.args.units c.args.doc.now.log c.args.version) c.args.first c.args.end))
     c.loop-place-test.false c.loop-place.invariant.whole
