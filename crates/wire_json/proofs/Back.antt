@@ -1,11 +1,8 @@
 -- An operation's JSON value is read back as that operation.
 use Rattle.std.proofs.Common.{◌≡◌, ℕ, ◌<◌, ◌^◌, List, [], ◌∷◌, Some, None, Result, Ok, refl, ap, ◌∙◌, arith}
-use Rattle.std.specs.Prelude.{IsTrue, encode_utf8_all}
-use Rattle.std.specs.Str.{all_scalars}
 use Rattle.std.specs.List.{AllByRecursion as Each}
 use Rattle.std.proofs.lemmas.Bool.{lt-ltb}
 use Rattle.std.proofs.lemmas.Str.{chars-encodes}
-use Rattle.serde_json.specs.Data.{number, unsigned}
 use Rattle.opid.specs.declared.refusal.Refusal.{Refusal}
 use Rattle.opid.specs.declared.stamp.Stamp.{Stamp}
 use Rattle.opid.specs.declared.kind.OpKind.{OpKind}
@@ -13,17 +10,14 @@ use Rattle.opid.specs.declared.kind.OpKind.TheVariants.{Ins, Del}
 use Rattle.opid.specs.Clocks.{entry}
 use Rattle.opid.specs.Operations.{Operation}
 use Rattle.causal_clock.specs.Kinds.{IsClock, IsOperation}
-use Rattle.wire_json.specs.Members.{◌>>=◌, number_of}
-use Rattle.wire_json.specs.Operations.{Offer, each, items_in, pair_of, stamp_told, parent_of, only_char, offer_of, site_of, sited_pair}
+use Rattle.wire_json.specs.Members.{◌>>=◌}
+use Rattle.wire_json.specs.Operations.{Offer, each, items_in, pair_of, stamp_told, parent_of, offer_of, site_of, sited_pair}
 use Rattle.wire_json.specs.Operations.{sited_kind, sited, counted, operation, op_of}
 use Rattle.wire_json.specs.Text.{IsStampInRange, IsKindInRange, pairs_of}
 use Rattle.wire_json.specs.Written.{each_data, two_data, pair_data, stamp_data, op_data_of, op_data}
 use Rattle.causal_clock.specs.Listing.{clock_told}
 use Rattle.causal_clock.proofs.Listings.{tells}
 use Rattle.wire_json.proofs.Pairs.{listing_of, clock_with_pairs, pairs_sited, pairs_small}
-
-number_back : (n : ℕ) → n < 2 ^ 32 → number_of (Some (number (unsigned n))) ≡ Ok n
-number_back n h = rw (lt-ltb n (2 ^ 32) h) refl
 
 two_back : (m n : ℕ) → m < 2 ^ 32 → n < 2 ^ 32 → pair_of (two_data m n) ≡ Ok (m, n)
 two_back m n h k = rw (lt-ltb m (2 ^ 32) h) (rw (lt-ltb n (2 ^ 32) k) refl)
@@ -43,9 +37,6 @@ stamp_back s h = ap (λ r. r >>= λ p. Ok (record { sum = p.0; site = p.1 })) (t
 
 pub parent_back : (s : Stamp) → IsStampInRange s → parent_of (stamp_data s) ≡ Ok (Some s)
 parent_back s h = ap (λ r. r >>= λ p. Ok (Some p)) (stamp_back s h)
-
-char_back : (c : ℕ) → IsTrue (all_scalars (c ∷ [])) → only_char (encode_utf8_all (c ∷ [])) ≡ Some c
-char_back c h = rw (chars-encodes (c ∷ []) h) refl
 
 abbrev pub offer_with : ℕ → List ℕ → OpKind → Offer
 offer_with s clock kind = record { site = s; pairs = pairs_of clock; kind = kind }

@@ -1,17 +1,16 @@
 -- Checking the items of a list one after another, which stay as they are.
-use Rattle.std.proofs.Common.{◌≡◌, ℕ, zero, suc, ◌+◌, ◌<◌, List, [], ◌∷◌, ◌++◌, length, take, drop, get_or, Bool, true, false, Result, Ok}
-use Rattle.std.proofs.Common.{Err, refl, sym, ap, ap₂, ◌∙◌, arith, subst, set}
+use Rattle.std.proofs.Common.{◌≡◌, ℕ, zero, suc, ◌+◌, ◌<◌, List, [], ◌∷◌, ◌++◌, length, take, get_or, Bool, true, false, Result, Ok}
+use Rattle.std.proofs.Common.{Err, refl, sym, ap, ◌∙◌, arith, subst, set}
 use Rattle.std.specs.Prelude.{nat_lt}
 use Rattle.std.specs.List.{AllByRecursion as Each}
 use Rattle.std.proofs.lemmas.List.{map_more, take_more_set}
 use Rattle.std.proofs.lemmas.Bool.{ltb-true, lt-ltb}
-use Rattle.serde_json.specs.View.{view, items_view}
+use Rattle.serde_json.specs.View.{view}
 use Rattle.serde_json.specs.declared.value.Value.{Value}
 use Rattle.opid.specs.declared.refusal.Refusal.{Refusal}
 use Rattle.wire_json.specs.Members.{◌>>=◌}
-use Rattle.wire_json.specs.Operations.{each, items_in, pair_of, site_of, sited_pair}
+use Rattle.wire_json.specs.Operations.{each, pair_of, site_of, sited_pair}
 use Rattle.wire_json.specs.Offers.{pair_in, pairs_in}
-use Rattle.wire_json.proofs.Loops.{with_front, each-map, item_goes_on, goes_on}
 
 pairs_more : (vs : List Value) (i : ℕ) (v : Value) (p : ℕ × ℕ) → i < length vs → v ≡ get_or vs i v → pair_in (view v) ≡ p
     → pairs_in (take (i + 1) vs) ≡ pairs_in (take i vs) ++ p ∷ []
@@ -20,14 +19,6 @@ pairs_more vs i v p h e is = map_more (λ (w : Value). pair_in (view w)) vs i v 
 
 is_in : (v : Value) (p : ℕ × ℕ) → pair_of (view v) ≡ Ok p → pair_in (view v) ≡ p
 is_in v p e = rw e refl
-
-pub pair_goes_on : (vs : List Value) (i : ℕ) (v : Value) (p : ℕ × ℕ) (total : Result (List (ℕ × ℕ)) Refusal) → i < length vs
-    → v ≡ get_or vs i v → pair_of (view v) ≡ Ok p
-    → with_front (pairs_in (take i vs)) (each pair_of (items_in (items_view (drop i vs)))) ≡ total
-    → with_front (pairs_in (take (i + 1) vs)) (each pair_of (items_in (items_view (drop (i + 1) vs)))) ≡ total
-pair_goes_on vs i v p total h e is so_far =
-    ap (λ front. with_front front (each pair_of (items_in (items_view (drop (i + 1) vs))))) (pairs_more vs i v p h e (is_in v p is))
-    ∙ item_goes_on pair_of (pairs_in (take i vs)) vs i v p total h e is so_far
 
 -- ---- sites
 
@@ -45,17 +36,6 @@ same_pair p q e = go (site_of p.0) refl e
     go : (r : Result ℕ Refusal) → site_of p.0 ≡ r → (r >>= λ s. Ok (s, p.1)) ≡ Ok q → (p.0 < 32) × (q ≡ p)
     go (Ok s) is e = let here = is_site p.0 s is in let made : (s, p.1) ≡ q = cc in (here.0, sym made ∙ ap (λ n. (n, p.1)) here.1)
     go (Err r) is e = cc
-
-pub site_goes_on : (vs : List Value) (i : ℕ) (v : Value) (q : ℕ × ℕ) (total : Result (List (ℕ × ℕ)) Refusal) → i < length vs
-    → v ≡ get_or vs i v → sited_pair (pair_in (view v)) ≡ Ok q
-    → with_front (pairs_in (take i vs)) (each sited_pair (pairs_in (drop i vs))) ≡ total
-    → with_front (pairs_in (take (i + 1) vs)) (each sited_pair (pairs_in (drop (i + 1) vs))) ≡ total
-site_goes_on vs i v q total h e is so_far =
-    let pair : Value → ℕ × ℕ = λ w. pair_in (view w) in
-    let same = (same_pair (pair v) q is).1 in
-    ap₂ with_front (pairs_more vs i v (pair v) h e refl) (each-map sited_pair pair (drop (i + 1) vs))
-    ∙ goes_on (λ w. sited_pair (pair w)) (pairs_in (take i vs)) vs i v (pair v) total h e (is ∙ ap Ok same)
-    (sym (ap (with_front (pairs_in (take i vs))) (each-map sited_pair pair (drop i vs))) ∙ so_far)
 
 -- ---- the pairs of sites, put into a list of fixed length
 

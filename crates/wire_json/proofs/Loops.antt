@@ -1,7 +1,6 @@
 -- Stepping through a list, as a loop does.
-use Rattle.std.proofs.Common.{◌≡◌, ℕ, zero, suc, ◌+◌, ◌≤◌, ◌<◌, ◌⊎◌, inl, inr, List, [], ◌∷◌, ◌++◌, length, drop, map, get_or, Result, Ok}
+use Rattle.std.proofs.Common.{◌≡◌, ℕ, zero, suc, ◌+◌, ◌<◌, ◌⊎◌, inl, inr, List, [], ◌∷◌, ◌++◌, length, drop, get_or, Result, Ok}
 use Rattle.std.proofs.Common.{Err, refl, sym, ap, ◌∙◌, append_assoc, add-one, arith}
-use Rattle.std.proofs.lemmas.List.{append-nil, drop_all}
 use Rattle.serde_json.specs.View.{view, items_view}
 use Rattle.serde_json.specs.declared.value.Value.{Value}
 use Rattle.serde_json.specs.Data.{Data}
@@ -39,15 +38,7 @@ pub ends : {A B : Type 0} (f : A → Result B Refusal) (front : List B) (xs : Li
 ends f front xs i x e total h at (inl m) so_far = inl m
 ends f front xs i x e total h at (inr is) so_far = inr (sym so_far ∙ rw (each-drop f xs i x h at) (rw is refl))
 
-pub is_done : {A B : Type 0} (f : A → Result B Refusal) (front : List B) (xs : List A) (i : ℕ) (total : Result (List B) Refusal)
-    → length xs ≤ i → with_front front (each f (drop i xs)) ≡ total → total ≡ Ok front
-is_done f front xs i total h so_far = sym so_far ∙ rw (drop_all i xs h) (ap Ok (append-nil front))
-
 -- ---- the same over a list that is seen as another
-
-pub each-map : {A B C : Type 0} (f : B → Result C Refusal) (g : A → B) (xs : List A) → each f (map g xs) ≡ each (λ x. f (g x)) xs
-each-map f g [] = refl
-each-map f g (x ∷ xs) = ap (λ r. f (g x) >>= λ y. r >>= λ ys. Ok (y ∷ ys)) (each-map f g xs)
 
 -- ---- the same over the items of a JSON list
 
@@ -66,13 +57,3 @@ pub item_goes_on : {B : Type 0} (f : Data → Result B Refusal) (front : List B)
 item_goes_on f front vs i v y total h e is so_far =
     seen f (front ++ y ∷ []) (drop (i + 1) vs) ∙ goes_on (λ w. f (view w)) front vs i v y total h e is
     (sym (seen f front (drop i vs)) ∙ so_far)
-
-pub item_ends : {B : Type 0} (f : Data → Result B Refusal) (front : List B) (vs : List Value) (i : ℕ) (v : Value) (e : Refusal)
-    (total : Result (List B) Refusal) → i < length vs → v ≡ get_or vs i v → (e ≡ Memory) ⊎ (f (view v) ≡ Err e)
-    → with_front front (each f (items_in (items_view (drop i vs)))) ≡ total → (e ≡ Memory) ⊎ (total ≡ Err e)
-item_ends f front vs i v e total h at is so_far =
-    ends (λ w. f (view w)) front vs i v e total h at is (sym (seen f front (drop i vs)) ∙ so_far)
-
-pub items_done : {B : Type 0} (f : Data → Result B Refusal) (front : List B) (vs : List Value) (i : ℕ) (total : Result (List B) Refusal)
-    → length vs ≤ i → with_front front (each f (items_in (items_view (drop i vs)))) ≡ total → total ≡ Ok front
-items_done f front vs i total h so_far = sym so_far ∙ rw (drop_all i vs h) (ap Ok (append-nil front))

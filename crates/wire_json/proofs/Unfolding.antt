@@ -1,9 +1,9 @@
 -- Unfolding items one after another, as loops do.
-use Rattle.std.proofs.Common.{◌≡◌, ◌+◌, ◌<◌, ◌≤◌, ◌⊎◌, inl, inr, ℕ, suc, List, [], ◌∷◌, ◌++◌, length, drop, get_or, Result, Ok, Err, refl}
-use Rattle.std.proofs.Common.{sym, ap, ◌∙◌, append_assoc, add-one, drop-cons}
-use Rattle.std.proofs.lemmas.List.{append-nil, drop_all}
+use Rattle.std.proofs.Common.{◌≡◌, ◌+◌, ◌<◌, ◌≤◌, ℕ, zero, suc, List, [], ◌∷◌, ◌++◌, length, take, drop, get_or, Result, Ok, Err, refl}
+use Rattle.std.proofs.Common.{sym, ap, ◌∙◌, arith, append_assoc, add-one, drop-cons}
+use Rattle.std.proofs.lemmas.List.{append-nil, drop_all, take_all, length-append, length-take}
+use Rattle.std.proofs.Math.Seq.{take-append_seam}
 use Rattle.opid.specs.declared.refusal.Refusal.{Refusal}
-use Rattle.opid.specs.declared.refusal.Refusal.TheVariants.{Memory}
 use Rattle.opid.specs.Operations.{Operation}
 use Rattle.opid.proofs.Gathered.{rest_at}
 use Rattle.wire_json.specs.Members.{◌>>=◌}
@@ -59,13 +59,27 @@ pub all_goes_on : (front : List Operation) (xs : List ItemOffer) (i : ℕ) (x : 
 all_goes_on front xs i x ys total h e is so_far =
     sym (stepped front xs i x (Ok ys) h e is ∙ regroup front ys (all_operations (drop (i + 1) xs))) ∙ so_far
 
-pub all_ends : (front : List Operation) (xs : List ItemOffer) (i : ℕ) (x : ItemOffer) (e : Refusal)
-    (total : Result (List Operation) Refusal) → i < length xs → x ≡ get_or xs i x → (e ≡ Memory) ⊎ (item_operations x ≡ Err e)
-    → with_front front (all_operations (drop i xs)) ≡ total → (e ≡ Memory) ⊎ (total ≡ Err e)
-all_ends front xs i x e total h at (inl m) so_far = inl m
-all_ends front xs i x e total h at (inr is) so_far = inr (sym so_far ∙ stepped front xs i x (Err e) h at is)
+-- ---- the first 65 of them
 
-pub all_done : (front : List Operation) (xs : List ItemOffer) (i : ℕ) (total : Result (List Operation) Refusal) → length xs ≤ i
-    → with_front front (all_operations (drop i xs)) ≡ total → total ≡ Ok front
-all_done front xs i total h so_far =
-    sym so_far ∙ ap (λ zs. with_front front (all_operations zs)) (drop_all i xs h) ∙ ap Ok (append-nil front)
+pub first_kept : (xs ys : List Operation) → length xs ≤ 65 → 65 ≤ length xs → xs ≡ take 65 (xs ++ ys)
+first_kept xs ys h k =
+    let e : length xs ≡ 65 = omega (arith, h, k) in
+    sym (take-append_seam xs ys) ∙ ap (λ n. take n (xs ++ ys)) e
+
+pub all_kept : (xs : List Operation) → length xs ≤ 65 → xs ≡ take 65 xs
+all_kept xs h = sym (take_all 65 xs h)
+
+-- what was kept of a beginning and goes on is kept of the whole
+pub kept_on : (front kept ys : List Operation) → kept ≡ take 65 front → take 65 (kept ++ ys) ≡ take 65 (front ++ ys)
+kept_on front kept ys e = ap (λ zs. take 65 (zs ++ ys)) e ∙ go front 65
+  where
+    go : (front : List Operation) (n : ℕ) → take n (take n front ++ ys) ≡ take n (front ++ ys)
+    go front zero = refl
+    go [] (suc n) = refl
+    go (x ∷ front) (suc n) = ap (λ zs. x ∷ zs) (go front n)
+
+pub few_kept : (front : List Operation) → length (take 65 front) ≤ 65
+few_kept front = omega (arith, length-take 65 front)
+
+pub one_kept : (xs : List Operation) (x : Operation) (items : List Operation) → items ≡ xs ++ x ∷ [] → length xs < 65 → length items ≤ 65
+one_kept xs x items e h = omega (arith, ap length e, length-append xs (x ∷ []), h)

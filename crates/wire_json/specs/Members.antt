@@ -10,6 +10,7 @@ use Rattle.opid.specs.declared.refusal.Refusal.TheVariants.{BadField}
 
 -- ---- a step that may be refused: the first refusal stands
 
+-- goes on with the value, or ends with the refusal
 infixl 10 ◌>>=◌
 abbrev pub ◌>>=◌ : {A B : Type 0} → Result A Refusal → (A → Result B Refusal) → Result B Refusal
 (Ok x) >>= f = f x

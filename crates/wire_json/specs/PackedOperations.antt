@@ -1,6 +1,6 @@
 -- Which operations a list of JSON objects tells where run objects may be among them, or why it is refused. Each kind of fault
 -- is sought in all objects before the next kind (JSON: RFC 8259; runs: the server's own).
-use Rattle.std.specs.Prelude.{ℕ, ◌+◌, nat_le, if◌then◌else◌, Result, Ok, Err, List, [], ◌∷◌, ◌++◌, length, codes, bytes_eq, sum}
+use Rattle.std.specs.Prelude.{ℕ, ◌+◌, nat_le, if◌then◌else◌, Result, Ok, Err, List, [], ◌∷◌, ◌++◌, length, take, codes, bytes_eq, sum}
 use Rattle.std.specs.Str.{chars}
 use Rattle.serde_json.specs.Data.{Data}
 use Rattle.serde_json.specs.Find.{get}
@@ -89,3 +89,14 @@ packed_ops_of ds = do
   offered ← each item_offer_of ds
   here ← each item_sited offered
   all_operations here
+
+-- of more than 64 operations, which a room refuses whatever they are, the first 65: so a few bytes that stand for many
+-- operations don't take memory for all of them
+abbrev pub first_of : Result (List Operation) Refusal → Result (List Operation) Refusal
+first_of told = do
+  ops ← told
+  Ok (take 65 ops)
+
+-- the operations that JSON values hand over
+abbrev pub handed_over : List Data → Result (List Operation) Refusal
+handed_over ds = first_of (packed_ops_of ds)

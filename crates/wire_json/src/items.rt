@@ -1,13 +1,13 @@
 //! Reading operation objects and run objects: the fields of all, then the sites of all, then the clocks of all.
-ghost use Rattle.std.specs.Prelude.{◌≡◌, ◌≤◌, ◌<◌, ◌+◌, ◌++◌, ◌⊎◌, ◌∷◌, Ok, Err, List, length, sum, IfOk, IfErr, OnOk};
+ghost use Rattle.std.specs.Prelude.{◌≡◌, ◌≤◌, ◌<◌, ◌+◌, ◌++◌, ◌⊎◌, ◌∷◌, Ok, Err, List, length, sum, take, IfOk, IfErr, OnOk};
 ghost use Rattle.std.specs.Str.{chars};
 ghost use Rattle.serde_json.specs.View.{view, items_view};
 ghost use Rattle.opid.specs.declared.refusal.Refusal.TheVariants.{Memory};
 ghost use Rattle.opid.specs.Operations.{Operation};
 ghost use Rattle.wire_json.specs.Operations.{each, items_in};
 ghost use Rattle.wire_json.specs.Packing.{next, following};
-ghost use Rattle.wire_json.specs.PackedOperations.{item_offer_of, item_sited, item_operations, run_of, run_chars, all_operations};
-ghost use Rattle.wire_json.specs.PackedOperations.{packed_ops_of};
+ghost use Rattle.wire_json.specs.PackedOperations.{item_offer_of, item_sited, item_operations, run_of, run_chars, all_operations, first_of};
+ghost use Rattle.wire_json.specs.PackedOperations.{handed_over};
 ghost use Rattle.wire_json.specs.Given.{Gives};
 
 use crate::offer::{ItemOffer, Offer, OfferedKind, SitedItem};
@@ -21,15 +21,18 @@ use opid::{OpKind, Refusal};
 use serde_json::Value;
 use std::alloc::Global;
 
-/// The single operations that JSON values tell, each an operation object or a run object, refused as `read_op` does: each
-/// fault is sought in all values before the next. `Memory` may stand in the place of any answer.
+// How many operations of a `put` are kept: one more than a room takes at once.
+const MOST: usize = 65;
+
+/// The single operations that JSON values hand over, at most the first 65, each an operation object or a run object, refused as
+/// `read_op` does: each fault is sought in all values before the next. `Memory` may stand in the place of any answer.
 ///
 /// A run object has the keys of an insertion, `k` the text `r`, and `x` a text of 2 to 64 characters, else `BadField`. It
 /// stands for the insertions that its site asks for by typing that text at once: the first has its clock and parent, each
 /// next one the clock before it raised at the site, and the element before it as its parent. `BadClock` where the last
-/// clock's sum exceeds 131,072. Takes time and memory in proportion to the values and their single operations.
+/// clock's sum exceeds 131,072. Takes time and memory in proportion to the values.
 pub(crate) fn read_items(alloc: Global, values: &[Value]) -> Result<Vec<Op>, Refusal>
-    ensures { Gives (λ ops. ops.items) result (packed_ops_of (items_in (items_view values.now))) }
+    ensures { Gives (λ ops. ops.items) result (handed_over (items_in (items_view values.now))) }
 {
     let offers = read_item_offers(alloc, values)?;
     let sited = check_item_sites(alloc, offers.as_slice())?;
@@ -63,7 +66,7 @@ fn check_item_sites<'a, 'v>(
 }
 
 fn unfold_all(alloc: Global, offers: &[SitedItem<'_, '_>]) -> Result<Vec<Op>, Refusal>
-    ensures { Gives (λ v. v.items) result (all_operations offers.now) }
+    ensures { Gives (λ v. v.items) result (first_of (all_operations offers.now)) }
 {
     let mut ops = Vec::new(alloc);
     for offer in offers {
@@ -121,9 +124,11 @@ fn all_chars(alloc: Global, text: &str) -> Result<Vec<char>, Refusal>
     Ok(text.chars().collect(alloc)?)
 }
 
-// Adds the operations of an item.
+// Adds the operations of an item, as long as there are fewer than 65.
 fn unfold(ops: &mut Vec<Op>, offer: &SitedItem<'_, '_>) -> Result<(), Refusal>
-    ensures ok { OnOk result ((xs : List Operation) × (item_operations offer.now ≡ Ok xs) × (ops.new.items ≡ ops.old.items ++ xs)) }
+    requires { length ops.old.items ≤ 65 }
+    ensures ok { OnOk result ((xs : List Operation) × (item_operations offer.now ≡ Ok xs)
+        × (ops.new.items ≡ take 65 (ops.old.items ++ xs))) }
     ensures err { IfErr result (λ e. (e ≡ Memory) ⊎ (item_operations offer.now ≡ Err e)) }
 {
     let first = check_clock(&offer.first)?;
@@ -134,15 +139,22 @@ fn unfold(ops: &mut Vec<Op>, offer: &SitedItem<'_, '_>) -> Result<(), Refusal>
     unfold_run(ops, first, offer.more)
 }
 
-// Adds an operation and the insertions that follow it.
+// Adds an operation and the insertions that follow it, as long as there are fewer than 65.
 fn unfold_run(ops: &mut Vec<Op>, first: Op, more: &[char]) -> Result<(), Refusal>
-    requires { sum first.clock + length more.now ≤ MAX_SUM }
-    ensures ok { OnOk result (ops.new.items ≡ ops.old.items ++ (first ∷ following first more.now)) }
+    requires sum { sum first.clock + length more.now ≤ MAX_SUM }
+    requires few { length ops.old.items ≤ 65 }
+    ensures ok { OnOk result (ops.new.items ≡ take 65 (ops.old.items ++ (first ∷ following first more.now))) }
     ensures memory { IfErr result (λ e. e ≡ Memory) }
 {
+    if ops.len() >= MOST {
+        return Ok(());
+    }
     ops.push(first)?;
     let mut last = first;
     for ch in more {
+        if ops.len() >= MOST {
+            return Ok(());
+        }
         last = next_op(&last, *ch);
         ops.push(last)?;
     }

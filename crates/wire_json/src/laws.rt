@@ -1,6 +1,7 @@
 //! Laws of the texts of replies and of operations.
-ghost use Rattle.std.specs.Prelude.{◌≡◌, option_map, Some, Ok, List};
+ghost use Rattle.std.specs.Prelude.{◌≡◌, option_map, option_and_then, Some, Ok, List};
 ghost use Rattle.std.specs.List.{AllByRecursion};
+ghost use Rattle.serde_json.specs.Find.{as_array};
 ghost use Rattle.serde_json.specs.Read.{read};
 ghost use Rattle.opid.specs.Operations.{Operation};
 ghost use Rattle.causal_clock.specs.Kinds.{IsOperation};
@@ -9,7 +10,6 @@ ghost use Rattle.wire_json.specs.Operations.{op_of, items_in};
 ghost use Rattle.wire_json.specs.Packing.{unfolded_all, packed};
 ghost use Rattle.wire_json.specs.PackedOperations.{packed_ops_of};
 ghost use Rattle.wire_json.specs.Text.{IsInRange, IsKindInRange, IsOperationInRange, text, op_text, packed_text};
-ghost use Rattle.wire_json.specs.Written.{each_data, item_data};
 
 /// Two different replies have different texts: a client can tell each reply from its line alone.
 pub fn different_replies()
@@ -32,11 +32,11 @@ pub fn packing_unfolds()
     ensures { (ops : List Operation) → unfolded_all (packed ops) ≡ ops }
 {}
 
-/// The JSON values of packed operations tell just those operations: what an `ops` reply holds is read in a `put` as the
-/// same single operations.
-pub fn packed_values_read_back()
+/// The text of packed operations is JSON that tells just those operations: what an `ops` reply holds is read in a `put` as
+/// the same single operations.
+pub fn packed_operations_read_back()
     ensures { (ops : List Operation) → AllByRecursion IsOperationInRange ops
-        → packed_ops_of (items_in (each_data item_data (packed ops))) ≡ Ok ops }
+        → option_map (λ ds. packed_ops_of (items_in ds)) (option_and_then as_array (read (packed_text ops))) ≡ Some (Ok ops) }
 {}
 
 /// Two different lists of operations have different packed texts.

@@ -19,7 +19,7 @@ mod writing;
 
 pub use laws::{
     different_operations, different_packed_operations, different_replies, operations_read_back,
-    packed_values_read_back, packing_unfolds,
+    packed_operations_read_back, packing_unfolds,
 };
 pub use opening::read_open;
 pub use operation_values::write_op;

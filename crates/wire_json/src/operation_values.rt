@@ -45,7 +45,7 @@ pub(crate) fn op_value(alloc: Global, op: &Op) -> Result<Value, AllocError>
 pub(crate) fn check_op(op: &Op)
     ensures { IsOperationInRange op.now }
 {
-    let _ = op.site();
+    prove!(op.site().number() < 32);
     check_kind(op.kind());
 }
 

@@ -72,8 +72,8 @@ impl Item {
 fn is_next(x: &Op, y: &Op) -> bool
     ensures { result ≡ is_next x.now y.now }
 {
-    let _ = x.site();
-    let _ = y.site();
+    prove!(x.site().number() < 32);
+    prove!(y.site().number() < 32);
     match (x.kind(), y.kind()) {
         (OpKind::Ins { parent: _, ch: _ }, OpKind::Ins { parent: _, ch }) => {
             x.clock().sum() < MAX_SUM && *y == next_op(x, ch)

@@ -32,42 +32,56 @@ fn are_read_back(alloc: Global, ops: &[Op]) -> Result<bool, Refusal> {
     Ok(read.as_slice() == ops)
 }
 
-// One operation more, of a site that knows all before it: at the head, behind the newest element, or its deletion.
-fn grow(ops: &mut Vec<Op>, site: Site, what: u32, ch: char) -> Result<(), Refusal> {
-    let (clock, newest) = match ops.last() {
-        Some(op) => (op.clock(), Some(op.stamp())),
-        None => (Clock::zero(), None),
+// One operation more, of a site that knows all before it, and its stamp.
+fn grow(ops: &mut Vec<Op>, site: Site, kind: OpKind) -> Result<Stamp, Refusal> {
+    let clock = match ops.last() {
+        Some(op) => op.clock(),
+        None => Clock::zero(),
     };
     if clock.sum() >= MAX_SUM {
         return Err(Refusal::Full);
     }
-    let op = Op::new(site, clock.raised(site), kind_of(what, newest, ch))?;
+    let op = Op::new(site, clock.raised(site), kind)?;
     ops.push(op)?;
-    Ok(())
+    Ok(op.stamp())
 }
 
-fn kind_of(what: u32, newest: Option<Stamp>, ch: char) -> OpKind {
-    match (what, newest) {
-        (0, _) => OpKind::Ins { parent: None, ch },
-        (1, Some(target)) => OpKind::Del { target },
-        _ => OpKind::Ins { parent: newest, ch },
+// One of all insertions and deletions over these elements: 0 is an insertion at the head, then come those behind an element,
+// and then the deletions.
+fn kind_of(what: usize, elements: &[Stamp], ch: char) -> OpKind {
+    if what == 0 {
+        return OpKind::Ins { parent: None, ch };
+    }
+    match elements.get(what - 1) {
+        Some(parent) => OpKind::Ins {
+            parent: Some(*parent),
+            ch,
+        },
+        None => match elements.get(what - 1 - elements.len()) {
+            Some(target) => OpKind::Del { target: *target },
+            None => OpKind::Ins { parent: None, ch },
+        },
     }
 }
 
-// The log that a number's digits tell, of which each says by whom and what the next operation is.
-fn log_of(alloc: Global, number: u32, length: u32) -> Result<Vec<Op>, Refusal> {
+// The log that a number's digits tell. Each says whose the next operation is, which of so many letters it puts in, and which it
+// is of all insertions and deletions over the elements so far.
+fn log_of(alloc: Global, number: usize, length: usize, letters: usize) -> Result<Vec<Op>, Refusal> {
     let mut ops = Vec::new(alloc);
+    let mut elements: Vec<Stamp> = Vec::new(alloc);
     let mut left = number;
     for _ in 0..length {
-        let digit = left % 10;
-        left /= 10;
-        let site = Site::new((digit % 2) as u8)?;
-        match digit / 2 {
-            0 => grow(&mut ops, site, 0, 'a')?,
-            1 => grow(&mut ops, site, 0, 'b')?,
-            2 => grow(&mut ops, site, 2, 'a')?,
-            3 => grow(&mut ops, site, 2, 'b')?,
-            _ => grow(&mut ops, site, 1, 'a')?,
+        let site = Site::new((left % 2) as u8)?;
+        let is_first = letters < 2 || left / 2 % 2 == 0;
+        left /= if letters < 2 { 2 } else { 4 };
+        let choices = elements.len() + elements.len() + 1;
+        let ch = if is_first { 'a' } else { 'b' };
+        let kind = kind_of(left % choices, elements.as_slice(), ch);
+        left /= choices;
+        let stamp = grow(&mut ops, site, kind)?;
+        match kind {
+            OpKind::Ins { parent: _, ch: _ } => elements.push(stamp)?,
+            OpKind::Del { target: _ } => {}
         }
     }
     Ok(ops)
@@ -86,7 +100,19 @@ fn random_log(alloc: Global) -> Result<Vec<Op>, Refusal> {
         if dice % 40 == 0 {
             site = Site::new((dice / 64 % 4) as u8)?;
         }
-        grow(&mut ops, site, dice / 1024 % 80, 'é')?;
+        let newest = ops.last().map(|op| op.stamp());
+        let kind = match (dice / 1024 % 80, newest) {
+            (0, _) => OpKind::Ins {
+                parent: None,
+                ch: 'é',
+            },
+            (1, Some(target)) => OpKind::Del { target },
+            _ => OpKind::Ins {
+                parent: newest,
+                ch: 'é',
+            },
+        };
+        grow(&mut ops, site, kind)?;
     }
     Ok(ops)
 }
@@ -111,8 +137,10 @@ fn a_run_is_its_insertions(rt: HostRuntime) -> Result<(), Fail> {
 fn a_run_has_at_most_64_characters(rt: HostRuntime) -> Result<(), Fail> {
     let alloc = rt.alloc();
     let mut ops = Vec::new(alloc);
+    let mut parent = None;
     for _ in 0..65 {
-        grow(&mut ops, Site::new(0)?, 2, 'a')?;
+        let typed = OpKind::Ins { parent, ch: 'a' };
+        parent = Some(grow(&mut ops, Site::new(0)?, typed)?);
     }
     let wanted =
         "[{\"c\":[[0,1]],\"k\":\"r\",\"p\":null,\"s\":0,\"x\":\"aaaaaaaaaaaaaaaaaaaaaaaaaaaaaaaaaaaaaaaaaaaaaaaaaaaaaaaaaaaaaaaa\"},\
@@ -183,21 +211,22 @@ fn tells_what_is_wrong_with_a_run(rt: HostRuntime) -> Result<(), Fail> {
     Ok(())
 }
 
-// The first operation is site 0's insertion of an a: the other site and character have the same logs.
+// Up to five operations with two letters, and six with one. The first operation is site 0's insertion of an a: the other site
+// and letter have the same logs.
 #[test]
 fn every_short_log_is_read_back(rt: HostRuntime) -> Result<(), Fail> {
     let alloc = rt.alloc();
     let mut all = true;
-    for (length, logs) in [
-        (1, 1),
-        (2, 10),
-        (3, 100),
-        (4, 1_000),
-        (5, 10_000),
-        (6, 100_000),
+    for (length, letters, logs) in [
+        (1, 2, 1),
+        (2, 2, 4 * 3),
+        (3, 2, 4 * 3 * 4 * 5),
+        (4, 2, 4 * 3 * 4 * 5 * 4 * 7),
+        (5, 2, 4 * 3 * 4 * 5 * 4 * 7 * 4 * 9),
+        (6, 1, 2 * 3 * 2 * 5 * 2 * 7 * 2 * 9 * 2 * 11),
     ] {
         for number in 0..logs {
-            let ops = log_of(alloc, 10 * number, length)?;
+            let ops = log_of(alloc, 2 * letters * number, length, letters)?;
             all &= are_read_back(alloc, ops.as_slice())?;
         }
     }
