@@ -1,11 +1,9 @@
 -- The part of a buffer that is held.
 use lib.Dec.{eqb}
 use Rattle.std.proofs.Common.{true, suc, ◌≡◌, ◌≢◌, ℕ, ◌+◌, ◌-◌, ◌<◌, ◌≤◌, List, ◌∷◌, ◌++◌, length, take, drop, get_or, Option, min, sym, ap}
-use Rattle.std.proofs.Common.{◌∙◌, arith, add-one, length-drop, drop-cons, zero-add}
-use Rattle.std.specs.List.{copy_within}
-use Rattle.std.proofs.Math.Seq.{take-add, paste}
+use Rattle.std.proofs.Common.{◌∙◌, arith, add-one, length-drop, drop-cons}
+use Rattle.std.proofs.Math.Seq.{take-add}
 use Rattle.std.proofs.lemmas.List.{drop-drop, get_or-take, get_or-drop, length-take, take-append-drop, drop-take}
-use Rattle.std.proofs.lemmas.List.Edits.{take-paste}
 use Rattle.std.proofs.lemmas.Grind.{common_steps}
 use Rattle.std.proofs.lemmas.Bool.{eq-eqb, eqb-true}
 use Rattle.std.proofs.lemmas.List.Elements.{All-from_get_or, All-append, All-same}
@@ -26,15 +24,6 @@ part_advanced start len n buf h k =
     let e : len ≡ n + (len - n) = omega arith in
     let d : drop n (drop start buf) ≡ drop (start + n) buf = drop-drop n start buf in
     ap (λ t. take (len - n) t) (sym d) ∙ sym (drop-take n (len - n) (drop start buf)) ∙ ap (λ t. drop n (take t (drop start buf))) (sym e)
-
--- moved to the front
-pub part_moved : (start len : ℕ) (buf : List ℕ) → start + len ≤ length buf
-    → take len (copy_within buf start (start + len) 0) ≡ part start len buf
-part_moved start len buf h =
-    let e : (start + len) - start ≡ len = omega arith in
-    let fits : len ≤ length (drop start buf) = grind (arith, common_steps) in
-    let none : 0 ≤ length buf = omega arith in
-    rw e (ap (λ n. take n (paste buf 0 (drop start buf) len)) (sym (zero-add len)) ∙ take-paste buf 0 (drop start buf) len none fits)
 
 -- with what was read behind it
 pub part_grown : (start len n : ℕ) (old new : List ℕ) → take (start + len) new ≡ take (start + len) old

@@ -1,6 +1,7 @@
 -- Calls one after another, and the failures that they count.
 use Rattle.std.proofs.Common.{◌≡◌, ◌≤◌, ◌⊎◌, inl, inr, ℕ, zero, suc, ◌+◌, ◌-◌, ◌^◌, List, [], ◌∷◌, ◌++◌, Ok, Err, refl, ap, subst, ◌∙◌}
-use Rattle.std.proofs.Common.{arith}
+use Rattle.std.proofs.Common.{arith, length}
+use Rattle.std.proofs.lemmas.List.{length-append}
 use Rattle.std.specs.Prelude.{Result}
 use Rattle.ws_server.specs.Calls.{Makes, for_a_block, failed_reads, failed_writes, CountsReads, CountsWrites}
 
@@ -23,8 +24,8 @@ failed_writes-append (Err e ∷ xs) ys = omega (arith, failed_writes-append xs y
 -- ---- reads
 
 -- no call was made
-pub reads_none : {S E : Type 0} (reads : S → Result ℕ E → S → Type 0) (a : S) (n k : ℕ) → CountsReads reads a n a k n
-reads_none reads a n k = record { results = []; made = refl; counted = inl (omega arith) }
+pub reads_none : {S E : Type 0} (reads : S → Result ℕ E → S → Type 0) (a : S) (k n : ℕ) → CountsReads reads a k n a k n
+reads_none reads a k n = record { results = []; made = refl; called = omega arith; counted = inl (omega arith) }
 
 each_block : {S E : Type 0} (reads : S → ℕ → Result ℕ E → S → Type 0) (most : ℕ) → 65536 ≤ most → (a b : S) (rs : List (Result ℕ E))
     → Makes (λ s r t. reads s most r t) a rs b → Makes (for_a_block reads) a rs b
@@ -32,32 +33,38 @@ each_block reads most l a b [] m = m
 each_block reads most l a b (r ∷ rs) m = (m.0, (most, l, m.1), each_block reads most l m.0 b rs m.2)
 
 -- one read, for a block
-pub reads_once : {S E : Type 0} (reads : S → ℕ → Result ℕ E → S → Type 0) (most : ℕ) → 65536 ≤ most → (a b : S) (n k k' n' : ℕ)
-    → (results : List (Result ℕ E)) × Makes (λ s r t. reads s most r t) a results b
-    × ((n' ≡ n + failed_reads results) ⊎ ((k ≡ 2 ^ 64 - 1) × (k' ≡ k) × (results ≡ []) × (n' ≡ n + 1)))
-    → CountsReads (for_a_block reads) a n b k' n'
-reads_once {S} {E} reads most l a b n k k' n' h = record { results = h.0; made = each_block reads most l a b h.0 h.1; counted = by h.2 }
+pub reads_once : {S E : Type 0} (reads : S → ℕ → Result ℕ E → S → Type 0) (most : ℕ) → 65536 ≤ most → (a b : S) (k n k' n' : ℕ)
+    → (results : List (Result ℕ E)) × Makes (λ s r t. reads s most r t) a results b × (k' ≡ k + length results)
+    × ((n' ≡ n + failed_reads results) ⊎ ((k' ≡ 2 ^ 64 - 1) × (results ≡ []) × (n' ≡ n + 1)))
+    → CountsReads (for_a_block reads) a k n b k' n'
+reads_once {S} {E} reads most l a b k n k' n' h = record {
+  results = h.0;
+  made = each_block reads most l a b h.0 h.1;
+  called = h.2;
+  counted = by h.3;
+}
   where
-    by : (n' ≡ n + failed_reads h.0) ⊎ ((k ≡ 2 ^ 64 - 1) × (k' ≡ k) × (h.0 ≡ []) × (n' ≡ n + 1))
+    by : (n' ≡ n + failed_reads h.0) ⊎ ((k' ≡ 2 ^ 64 - 1) × (h.0 ≡ []) × (n' ≡ n + 1))
         → (n' ≡ n + failed_reads h.0) ⊎ ((k' ≡ 2 ^ 64 - 1) × (n' ≡ n + failed_reads h.0 + 1))
     by (inl e) = inl e
-    by (inr e) = inr (e.1 ∙ e.0, omega (arith, e.3, ap (failed_reads {E = E}) e.2))
+    by (inr e) = inr (e.0, omega (arith, e.2, ap (failed_reads {E = E}) e.1))
 
 -- reads of which none failed, and more
-pub reads_more : {S E : Type 0} (reads : S → Result ℕ E → S → Type 0) (a b c : S) (n k n' k' n'' : ℕ)
-    → CountsReads reads a n b k n' → n' ≡ n → CountsReads reads b n' c k' n'' → CountsReads reads a n c k' n''
-reads_more reads a b c n k n' k' n'' h same g = record {
+pub reads_more : {S E : Type 0} (reads : S → Result ℕ E → S → Type 0) (a b c : S) (k n k' n' k'' n'' : ℕ)
+    → CountsReads reads a k n b k' n' → n' ≡ n → CountsReads reads b k' n' c k'' n'' → CountsReads reads a k n c k'' n''
+reads_more reads a b c k n k' n' k'' n'' h same g = record {
   results = h.results ++ g.results;
   made = Makes-append reads a b c h.results g.results h.made g.made;
+  called = omega (arith, h.called, g.called, length-append h.results g.results);
   counted = by (none h.counted) g.counted;
 }
   where
-    none : (n' ≡ n + failed_reads h.results) ⊎ ((k ≡ 2 ^ 64 - 1) × (n' ≡ n + failed_reads h.results + 1)) → failed_reads h.results ≡ 0
+    none : (n' ≡ n + failed_reads h.results) ⊎ ((k' ≡ 2 ^ 64 - 1) × (n' ≡ n + failed_reads h.results + 1)) → failed_reads h.results ≡ 0
     none (inl e) = omega (arith, e, same)
     none (inr e) = absurd (omega (arith, e.1, same))
 
-    by : failed_reads h.results ≡ 0 → (n'' ≡ n' + failed_reads g.results) ⊎ ((k' ≡ 2 ^ 64 - 1) × (n'' ≡ n' + failed_reads g.results + 1))
-        → (n'' ≡ n + failed_reads (h.results ++ g.results)) ⊎ ((k' ≡ 2 ^ 64 - 1) × (n'' ≡ n + failed_reads (h.results ++ g.results) + 1))
+    by : failed_reads h.results ≡ 0 → (n'' ≡ n' + failed_reads g.results) ⊎ ((k'' ≡ 2 ^ 64 - 1) × (n'' ≡ n' + failed_reads g.results + 1))
+        → (n'' ≡ n + failed_reads (h.results ++ g.results)) ⊎ ((k'' ≡ 2 ^ 64 - 1) × (n'' ≡ n + failed_reads (h.results ++ g.results) + 1))
     by z (inl e) = inl (omega (arith, e, z, same, failed_reads-append h.results g.results))
     by z (inr e) = inr (e.0, omega (arith, e.1, z, same, failed_reads-append h.results g.results))
 

@@ -138,12 +138,6 @@ Turn-last answers old new line left held text before after (Err Write) some plai
 Turn-last answers old new line left held text before after (Err Memory) some plain end a s =
     ([], s, ([], line, [], text, old, (All-nil IsLine, plain, inr (some, refl, end)), refl, a, refl, ended-missing text))
 
--- a turn at the input's end, with nothing held
-pub Turn-none : {S : Type 0} (answers : S → List ℕ → List ℕ → S → Type 0) (old : S) (line : List ℕ) (left : Option (List ℕ)) (held : List ℕ)
-    → length line ≡ 0 → IsAtEnd left → Turn answers old line left held [] (Ok false) old
-Turn-none answers old [] left held none end = (([], refl, refl), end)
-Turn-none answers old (b ∷ bs) left held none end = absurd (omega (arith, none))
-
 -- a turn whose read failed
 pub Turn-unread : {S : Type 0} (answers : S → List ℕ → List ℕ → S → Type 0) (old : S) (line : List ℕ) (left : Option (List ℕ))
     (held : List ℕ)

@@ -11,9 +11,11 @@ use Rattle.wire_json.specs.Request.{request}
 use Rattle.wire_json.specs.Text.{text}
 use Rattle.ws_server.specs.AnsweredRequests.{AnswersRequest, AnswersAsked}
 
+-- a line above 65,536 bytes is too long
 too_long : (line : List ℕ) → 65536 < length line → request line ≡ Err TooLong
 too_long line long = rw (lt-ltb 65536 (length line) long) refl
 
+-- and is answered so
 pub AnswersRequest-long : {S : Type 0} (step : S → Call → Reply → S → Type 0) (fault : S → Call → DeskFault → S → Type 0) (old : S)
     (line : List ℕ)
     → 65536 < length line → AnswersRequest step fault old line (text (No TooLong)) old

@@ -1,5 +1,5 @@
 -- Calls of a reader or of a writer, one after another, and how many failed. What a call may do is the reader's or the writer's own.
-use Rattle.std.specs.Prelude.{◌≡◌, ◌≤◌, ◌⊎◌, ℕ, zero, suc, ◌+◌, ◌-◌, ◌^◌, List, [], ◌∷◌, Result, Ok, Err}
+use Rattle.std.specs.Prelude.{◌≡◌, ◌≤◌, ◌⊎◌, ℕ, zero, suc, ◌+◌, ◌-◌, ◌^◌, List, [], ◌∷◌, length, Result, Ok, Err}
 
 -- from one state to another by calls with these results
 abbrev pub Makes : {S E : Type 0} → (S → Result ℕ E → S → Type 0) → S → List (Result ℕ E) → S → Type 0
@@ -23,13 +23,14 @@ failed_writes (Ok zero ∷ rs) = 1 + failed_writes rs
 failed_writes (Ok (suc n) ∷ rs) = failed_writes rs
 failed_writes (Err e ∷ rs) = 1 + failed_writes rs
 
--- Calls lead from one state of a reader to another, and the number of failures rises by how many of them failed. A read past
--- 2^64 - 1 is no call, and raises the number by one.
-pub record CountsReads {S E : Type 0} (reads : S → Result ℕ E → S → Type 0) (old : S) (failures : ℕ) (new : S)
-    (calls failures' : ℕ) : Type 0 where
+-- Calls lead from one state of a reader to another; the number of calls rises by how many these are, and the number of failures
+-- by how many of them failed. A read past 2^64 - 1 is no call, and raises the number of failures by one.
+pub record CountsReads {S E : Type 0} (reads : S → Result ℕ E → S → Type 0) (old : S) (calls failures : ℕ) (new : S)
+    (calls' failures' : ℕ) : Type 0 where
   pub results : List (Result ℕ E)
   pub made : Makes reads old results new
-  pub counted : (failures' ≡ failures + failed_reads results) ⊎ ((calls ≡ 2 ^ 64 - 1) × (failures' ≡ failures + failed_reads results + 1))
+  pub called : calls' ≡ calls + length results
+  pub counted : (failures' ≡ failures + failed_reads results) ⊎ ((calls' ≡ 2 ^ 64 - 1) × (failures' ≡ failures + failed_reads results + 1))
 
 -- calls lead from one state of a writer to another, and the number of failures rises by how many of them failed or took no byte
 pub record CountsWrites {S E : Type 0} (writes : S → Result ℕ E → S → Type 0) (old : S) (failures : ℕ) (new : S)

@@ -37,6 +37,7 @@ abbrev pub OpensAt : Option ℕ → List ℕ → Option ℕ → Type 0
 OpensAt (Some at) answer opened = (answer ≡ opened_text) × (opened ≡ Some at)
 OpensAt None answer opened = (answer ≡ text (No Why.NoRoom)) × (opened ≡ None)
 
+-- the answer to what an `open` asks for, and the room that is opened then
 abbrev pub OpensAsked : Hall → Result (List ℕ) Refusal → List ℕ → Option ℕ → Type 0
 OpensAsked hall (Ok name) answer opened = OpensAt (place_of hall name) answer opened
 OpensAsked hall (Err refusal) answer opened = (answer ≡ text (No refusal)) × (opened ≡ None)

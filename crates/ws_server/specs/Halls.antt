@@ -10,6 +10,7 @@ use Rattle.ws_server.specs.declared.conn.Conn.{Conn}
 use Rattle.ws_server.specs.declared.hall.Hall.{Hall}
 use Rattle.ws_server.specs.declared.hall.HallPass.{HallPass}
 
+-- the hall's rooms, in the order of their names
 abbrev pub rooms_of : Hall → List SharedRoom
 rooms_of hall = map (λ e. e.1) hall.rooms.entries
 
@@ -24,6 +25,7 @@ ArePassesOf (room ∷ rooms) (pass ∷ passes) = IsPassOf room pass × ArePasses
 ArePassesOf [] (pass ∷ passes) = ⊥
 ArePassesOf (room ∷ rooms) [] = ⊥
 
+-- there is a pass of each of the hall's rooms
 abbrev pub IsHallPassOf : Hall → HallPass → Type 0
 IsHallPassOf hall pass = ArePassesOf (rooms_of hall) pass.passes.items
 

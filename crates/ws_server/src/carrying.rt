@@ -5,11 +5,8 @@ ghost use Rattle.room.specs.declared.desk.DeskFault.{DeskFault};
 ghost use Rattle.room.specs.declared.call.Call.TheVariants as calls;
 ghost use Rattle.ws_server.specs.Carrying.{Calls, Hands, Follows, carried, is_refused_for_room};
 
-use opid::Refusal;
+use opid::{MAX_COUNT, Refusal};
 use room::{Call, Desk, DeskFault, Operations, Outcome, Outcomes, Reply};
-
-// How many operations are asked for at once.
-const MOST: u32 = 64;
 
 // Whether an operation is to be handed over again.
 fn is_refused_for_room(outcome: Outcome) -> bool
@@ -51,7 +48,7 @@ fn hand<B: Desk>(b: &mut B, after: u32, ops: Operations) -> Result<u32, DeskFaul
 /// from which number to go on: `after`, and one more for each outcome before the first `Full` or `HoldFull`.
 ///
 /// It is `after` where there were none or `a` refused, and then `b` isn't asked; and where `b` refused the put. A fault is
-/// that of the desk that told it. Where it is `b`'s, `a` has answered.
+/// that of the desk that told it. Where it is `b`'s, `a` has answered. Takes at most one call of each desk.
 pub fn carry<A: Desk, B: Desk>(a: &mut A, b: &mut B, after: u32) -> Result<u32, DeskFault>
     requires a_ready { A.ready a.old }
     requires b_ready { B.ready b.old }
@@ -61,7 +58,10 @@ pub fn carry<A: Desk, B: Desk>(a: &mut A, b: &mut B, after: u32) -> Result<u32, 
         × Calls A.step A.fault a.old (calls.Ops after 64) asked a.new
         × Follows B.step B.fault b.old after asked result b.new }
 {
-    match a.call(Call::Ops { after, max: MOST }) {
+    match a.call(Call::Ops {
+        after,
+        max: MAX_COUNT,
+    }) {
         Ok(Reply::Ops { from: _, ops }) => hand(b, after, ops),
         Ok(_) => Ok(after),
         Err(why) => Err(why),

@@ -1,5 +1,5 @@
 //! A reader or writer with the number of its calls that failed.
-ghost use Rattle.std.specs.Prelude.{◌≡◌, ◌⊎◌, ◌+◌, ◌-◌, ◌^◌, ℕ, List, [], Result, ◌<◌, ◌≤◌, take, length, MatchOption, MatchBool, IfOk};
+ghost use Rattle.std.specs.Prelude.{◌≡◌, ◌⊎◌, ◌+◌, ◌-◌, ◌^◌, ℕ, List, [], Result, ◌<◌, min, take, length, MatchOption, MatchBool, IfOk};
 ghost use Rattle.std.specs.Io.KnownBytes.{Keeps, Appends, Consumes, IsAtEnd};
 ghost use Rattle.std.specs.declared.io.Error.{Error};
 ghost use Rattle.ws_server.specs.Calls.{Makes, failed_reads, CountsWrites};
@@ -21,6 +21,7 @@ impl<T> Counted<T> {
     /// Counts the failures of a reader or writer, from 0 on. Constant time.
     pub fn new(inner: T) -> Self
         ensures inner { result.inner ≡ inner }
+        ensures none_made { result.calls ≡ 0 }
         ensures none_failed { result.failures ≡ 0 }
     {
         Counted {
@@ -62,10 +63,11 @@ impl<R: Source> Counted<R> {
         ensures counted { MatchOption result (self.new.failures ≡ self.old.failures + 1) (λ _. self.new.failures ≡ self.old.failures) }
         ensures made { (results : List (Result ℕ Error)) × Makes
             (λ s r t. R.reads s (length buf.old) r t) self.old.inner results self.new.inner
+            × (self.new.calls ≡ self.old.calls + length results)
             × ((self.new.failures ≡ self.old.failures + failed_reads results)
-            ⊎ ((self.old.calls ≡ 2 ^ 64 - 1) × (self.new.calls ≡ self.old.calls) × (results ≡ [])
-            × (self.new.failures ≡ self.old.failures + 1))) }
-        ensures calls { MatchOption result (self.old.calls ≤ self.new.calls) (λ _. self.new.calls ≡ self.old.calls + 1) }
+            ⊎ ((self.new.calls ≡ 2 ^ 64 - 1) × (results ≡ []) × (self.new.failures ≡ self.old.failures + 1))) }
+        ensures calls { MatchOption result (self.new.calls ≡ min (self.old.calls + 1) (2 ^ 64 - 1))
+            (λ _. self.new.calls ≡ self.old.calls + 1) }
     {
         if self.calls == u64::MAX {
             self.failures += 1;

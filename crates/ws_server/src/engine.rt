@@ -80,7 +80,7 @@ fn serve_next<P: Protocol, R: Source, W: Sink>(
         × Appends (W.contents output.old.inner) (W.contents output.new.inner) written
         × Turn P.answers state.old (window.old ++ got) (R.remaining input.new.inner) window.new written result state.new }
     ensures counts { Rises input.old.failures input.new.failures output.old.failures output.new.failures result }
-    ensures reads { CountsReads (for_a_block R.reads) input.old.inner input.old.failures input.new.inner input.new.calls
+    ensures reads { CountsReads (for_a_block R.reads) input.old.inner input.old.calls input.old.failures input.new.inner input.new.calls
         input.new.failures }
     ensures writes { CountsWrites W.writes output.old.inner output.old.failures output.new.inner output.new.failures }
     ensures smaller { IfOk result (λ goes_on. IsTrue goes_on → work input.new.calls window.new < work input.old.calls window.old) }
@@ -146,7 +146,7 @@ pub fn serve<P: Protocol, R: Source, W: Sink>(
         × Appends (W.contents output.old.inner) (W.contents output.new.inner) written
         × Serves P.answers state.old (window.old ++ got) (R.remaining input.new.inner) written result state.new }
     ensures counted { Rises input.old.failures input.new.failures output.old.failures output.new.failures result }
-    ensures reads { CountsReads (for_a_block R.reads) input.old.inner input.old.failures input.new.inner input.new.calls
+    ensures reads { CountsReads (for_a_block R.reads) input.old.inner input.old.calls input.old.failures input.new.inner input.new.calls
         input.new.failures }
     ensures writes { CountsWrites W.writes output.old.inner output.old.failures output.new.inner output.new.failures }
 {
@@ -181,7 +181,7 @@ pub fn serve_lines<D: Desk, R: Source, W: Sink>(
         × (StartsNot desk.old got written result desk.new
         ⊎ Serves (AnswersRequest D.step D.fault) desk.old got (R.remaining input.new.inner) written result desk.new) }
     ensures counted { Rises input.old.failures input.new.failures output.old.failures output.new.failures result }
-    ensures reads { CountsReads (for_a_block R.reads) input.old.inner input.old.failures input.new.inner input.new.calls
+    ensures reads { CountsReads (for_a_block R.reads) input.old.inner input.old.calls input.old.failures input.new.inner input.new.calls
         input.new.failures }
     ensures writes { CountsWrites W.writes output.old.inner output.old.failures output.new.inner output.new.failures }
 {

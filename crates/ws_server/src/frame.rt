@@ -154,7 +154,7 @@ pub(crate) fn answer_message<R: Wait, G: Witness>(
 /// room is asked, when the pass is as it was; what is told after a call is the sender's.
 ///
 /// The only fault is `Memory`, where the text finds none; what the message did stays. Waits for its turn
-/// of the room.
+/// of the room. Takes time and memory in proportion to the bytes and the answer, and the room's call.
 pub fn answer_frame<R: Wait, G: Witness>(
     rt: &R,
     alloc: Global,

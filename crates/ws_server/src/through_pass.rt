@@ -19,7 +19,7 @@ use std::sync::Wait;
 
 /// Serves requests to the input's end, as `serve_lines` does, each call at its turn of the shared room, through the pass. So
 /// the answers to the calls are replies in one legal history, one call after another; once the pass has no draw left, each
-/// further call is answered by 25. Waits for its turn of the room.
+/// further call is answered by 25. Waits for its turn of the room. It costs what `serve_lines` costs.
 pub fn serve_through_pass<H: Wait, R: Source, W: Sink>(
     rt: &H,
     alloc: Global,
@@ -39,7 +39,7 @@ pub fn serve_through_pass<H: Wait, R: Source, W: Sink>(
         ⊎ Serves (AnswersRequest (pass_step (opening room.now)) pass_fault) (view pass.old) got (R.remaining input.new.inner) written result
         (view pass.new)) }
     ensures counted { Rises input.old.failures input.new.failures output.old.failures output.new.failures result }
-    ensures reads { CountsReads (for_a_block R.reads) input.old.inner input.old.failures input.new.inner input.new.calls
+    ensures reads { CountsReads (for_a_block R.reads) input.old.inner input.old.calls input.old.failures input.new.inner input.new.calls
         input.new.failures }
     ensures writes { CountsWrites W.writes output.old.inner output.old.failures output.new.inner output.new.failures }
 {
@@ -66,7 +66,7 @@ fn serve_lent<H: Wait, R: Source, W: Sink>(
         ⊎ Serves (AnswersRequest (pass_step (opening desk.old.room.now)) pass_fault) (view desk.old.pass.now) got
         (R.remaining input.new.inner) written result (view desk.new.pass.now)) }
     ensures counted { Rises input.old.failures input.new.failures output.old.failures output.new.failures result }
-    ensures reads { CountsReads (for_a_block R.reads) input.old.inner input.old.failures input.new.inner input.new.calls
+    ensures reads { CountsReads (for_a_block R.reads) input.old.inner input.old.calls input.old.failures input.new.inner input.new.calls
         input.new.failures }
     ensures writes { CountsWrites W.writes output.old.inner output.old.failures output.new.inner output.new.failures }
 {

@@ -95,7 +95,7 @@ impl Window {
         requires few_failed { input.old.failures < 2 ^ 63 }
         ensures fills { Fills (R.remaining input.old.inner) (R.remaining input.new.inner) self.old result self.new }
         ensures counted { MatchOption result (input.new.failures ≡ input.old.failures + 1) (λ _. input.new.failures ≡ input.old.failures) }
-        ensures made { CountsReads (for_a_block R.reads) input.old.inner input.old.failures input.new.inner input.new.calls
+        ensures made { CountsReads (for_a_block R.reads) input.old.inner input.old.calls input.old.failures input.new.inner input.new.calls
             input.new.failures }
         ensures work { OnSome result (work input.new.calls self.new < work input.old.calls self.old) }
     {
@@ -136,7 +136,8 @@ fn read_behind<R: Source>(buf: &mut [u8], at: usize, input: &mut Counted<R>) -> 
         (λ n. (at + n ≤ length buf.new) × Consumes (R.remaining input.old.inner) (R.remaining input.new.inner) (take n (drop at buf.new))
         × (n ≡ 0 → IsAtEnd (R.remaining input.new.inner))) }
     ensures counted { MatchOption result (input.new.failures ≡ input.old.failures + 1) (λ _. input.new.failures ≡ input.old.failures) }
-    ensures made { CountsReads (for_a_block R.reads) input.old.inner input.old.failures input.new.inner input.new.calls input.new.failures }
+    ensures made { CountsReads (for_a_block R.reads) input.old.inner input.old.calls input.old.failures input.new.inner
+        input.new.calls input.new.failures }
     ensures calls { MatchOption result (input.old.calls ≤ input.new.calls) (λ _. input.new.calls ≡ input.old.calls + 1) }
 {
     input.read(&mut buf[at..])
@@ -168,7 +169,8 @@ pub(crate) fn next_line<R: Source>(
         × Cuts limit (window.old ++ got) result window.new }
     ensures ends { EndsAtLast result (R.remaining input.new.inner) }
     ensures counted { MatchOption result (input.new.failures ≡ input.old.failures + 1) (λ _. input.new.failures ≡ input.old.failures) }
-    ensures made { CountsReads (for_a_block R.reads) input.old.inner input.old.failures input.new.inner input.new.calls input.new.failures }
+    ensures made { CountsReads (for_a_block R.reads) input.old.inner input.old.calls input.old.failures input.new.inner
+        input.new.calls input.new.failures }
     ensures work { OnSome result (work input.new.calls window.new ≤ work input.old.calls window.old) }
     ensures long { result ≡ Some Next.Long → work input.new.calls window.new < work input.old.calls window.old }
 {
@@ -202,7 +204,8 @@ fn skip_line<R: Source>(window: &mut Window, input: &mut Counted<R>) -> Option<N
         × Skips got result window.new }
     ensures ends { EndsAtLast result (R.remaining input.new.inner) }
     ensures counted { MatchOption result (input.new.failures ≡ input.old.failures + 1) (λ _. input.new.failures ≡ input.old.failures) }
-    ensures made { CountsReads (for_a_block R.reads) input.old.inner input.old.failures input.new.inner input.new.calls input.new.failures }
+    ensures made { CountsReads (for_a_block R.reads) input.old.inner input.old.calls input.old.failures input.new.inner
+        input.new.calls input.new.failures }
     ensures work { OnSome result (work input.new.calls window.new < work input.old.calls window.old) }
 {
     'skipping: loop {

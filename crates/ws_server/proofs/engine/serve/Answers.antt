@@ -23,7 +23,7 @@ serving-init g c = record {
   );
   reads = refl;
   writes = refl;
-  reads_made = reads_none (for_a_block g.R.Source.reads) c.args.input.now.inner c.args.input.now.failures c.args.input.now.calls;
+  reads_made = reads_none (for_a_block g.R.Source.reads) c.args.input.now.inner c.args.input.now.calls c.args.input.now.failures;
   writes_made = writes_none g.W.Sink.writes c.args.output.now.inner c.args.output.now.failures;
 }
 
@@ -42,7 +42,7 @@ serving-preserved g c =
       reads = c.in-Ok-true.ensures.counts.0 ∙ i.reads;
       writes = c.in-Ok-true.ensures.counts.1 ∙ i.writes;
       reads_made = reads_more (for_a_block g.R.Source.reads) c.args.input.now.inner c.serving.input.inner c.serve_next.new.input.inner
-          c.args.input.now.failures c.serving.input.calls c.serving.input.failures c.serve_next.new.input.calls
+          c.args.input.now.calls c.args.input.now.failures c.serving.input.calls c.serving.input.failures c.serve_next.new.input.calls
           c.serve_next.new.input.failures i.reads_made i.reads c.in-Ok-true.ensures.reads;
       writes_made = writes_more g.W.Sink.writes c.args.output.now.inner c.serving.output.inner c.serve_next.new.output.inner
           c.args.output.now.failures c.serving.output.failures c.serve_next.new.output.failures i.writes_made c.in-Ok-true.ensures.writes;
@@ -79,7 +79,7 @@ pub returns-in-Ok-false-clause-reads : goal.returns-in-Ok-false-clause-reads
 returns-in-Ok-false-clause-reads g c =
     let i = c.serving.invariant in
     reads_more (for_a_block g.R.Source.reads) c.args.input.now.inner c.serving.input.inner c.serve_next.new.input.inner
-    c.args.input.now.failures c.serving.input.calls c.serving.input.failures c.serve_next.new.input.calls
+    c.args.input.now.calls c.args.input.now.failures c.serving.input.calls c.serving.input.failures c.serve_next.new.input.calls
     c.serve_next.new.input.failures i.reads_made i.reads c.in-Ok-false.ensures.reads
 
 pub returns-in-Ok-false-clause-writes : goal.returns-in-Ok-false-clause-writes
@@ -92,7 +92,7 @@ pub returns-in-Err-clause-reads : goal.returns-in-Err-clause-reads
 returns-in-Err-clause-reads g c =
     let i = c.serving.invariant in
     reads_more (for_a_block g.R.Source.reads) c.args.input.now.inner c.serving.input.inner c.serve_next.new.input.inner
-    c.args.input.now.failures c.serving.input.calls c.serving.input.failures c.serve_next.new.input.calls
+    c.args.input.now.calls c.args.input.now.failures c.serving.input.calls c.serving.input.failures c.serve_next.new.input.calls
     c.serve_next.new.input.failures i.reads_made i.reads c.in-Err.ensures.reads
 
 pub returns-in-Err-clause-writes : goal.returns-in-Err-clause-writes

@@ -13,7 +13,8 @@ invariant-serving g l = record {
       (g.W.Write.contents l.fn.output.inner) (g.W.Write.contents l.output.inner) l.fn.window l.window;
   reads : l.input.failures ≡ l.fn.input.failures;
   writes : l.output.failures ≡ l.fn.output.failures;
-  reads_made : CountsReads (for_a_block g.R.Source.reads) l.fn.input.inner l.fn.input.failures l.input.inner l.input.calls l.input.failures;
+  reads_made : CountsReads (for_a_block g.R.Source.reads) l.fn.input.inner l.fn.input.calls l.fn.input.failures l.input.inner
+      l.input.calls l.input.failures;
   writes_made : CountsWrites g.W.Sink.writes l.fn.output.inner l.fn.output.failures l.output.inner l.output.failures;
 }
 

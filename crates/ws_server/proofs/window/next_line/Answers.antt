@@ -28,7 +28,8 @@ lines-preserved g c =
       before = m.1;
       counted = c.in_ok-got.ensures.counted ∙ i.counted;
       made = reads_more (for_a_block g.R.Source.reads) c.args.input.now.inner c.lines.input.inner c.fill.new.input.inner
-          c.args.input.now.failures c.lines.input.calls c.lines.input.failures c.fill.new.input.calls c.fill.new.input.failures
+          c.args.input.now.calls c.args.input.now.failures c.lines.input.calls c.lines.input.failures c.fill.new.input.calls
+          c.fill.new.input.failures
           i.made i.counted c.in_ok-got.ensures.made;
       falls = omega (arith, c.in_ok-got.ensures.work, i.falls);
     }

@@ -13,7 +13,8 @@ invariant-lines g l = record {
   within : l.seen ≤ length l.window;
   before : IsLine (take l.seen l.window);
   counted : l.input.failures ≡ l.fn.input.failures;
-  made : CountsReads (for_a_block g.R.Source.reads) l.fn.input.inner l.fn.input.failures l.input.inner l.input.calls l.input.failures;
+  made : CountsReads (for_a_block g.R.Source.reads) l.fn.input.inner l.fn.input.calls l.fn.input.failures l.input.inner
+      l.input.calls l.input.failures;
   falls : work l.input.calls l.window ≤ work l.fn.input.calls l.fn.window;
 }
 

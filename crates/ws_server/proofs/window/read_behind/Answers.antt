@@ -11,5 +11,5 @@ pub returns-clause-made : goal.returns-clause-made
 returns-clause-made g c =
     let buf = c.args.buf.now in
     reads_once g.R.Source.reads (length (take (length buf - c.args.at) (drop c.args.at buf))) (room buf c.args.at c.requires.room)
-    c.args.input.now.inner c.read.new.self.inner c.args.input.now.failures c.args.input.now.calls c.read.new.self.calls
+    c.args.input.now.inner c.read.new.self.inner c.args.input.now.calls c.args.input.now.failures c.read.new.self.calls
     c.read.new.self.failures c.read.ensures.made

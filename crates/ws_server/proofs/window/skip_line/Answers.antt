@@ -27,7 +27,8 @@ skipping-preserved g c =
       empty = c.clear.ensures;
       counted = c.in_ok-got.ensures.counted ∙ i.counted;
       made = reads_more (for_a_block g.R.Source.reads) c.args.input.now.inner c.skipping.input.inner c.fill.new.input.inner
-          c.args.input.now.failures c.skipping.input.calls c.skipping.input.failures c.fill.new.input.calls c.fill.new.input.failures i.made
+          c.args.input.now.calls c.args.input.now.failures c.skipping.input.calls c.skipping.input.failures
+          c.fill.new.input.calls c.fill.new.input.failures i.made
           i.counted c.in_ok-got.ensures.made;
       falls = omega (arith, c.in_ok-got.ensures.work, i.falls);
     }

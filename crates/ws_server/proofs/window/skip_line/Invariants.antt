@@ -11,7 +11,8 @@ invariant-skipping g l = record {
   skipped : (got : List ℕ) × Consumes (g.R.Read.remaining l.fn.input.inner) (g.R.Read.remaining l.input.inner) got × IsLine got;
   empty : l.window ≡ [];
   counted : l.input.failures ≡ l.fn.input.failures;
-  made : CountsReads (for_a_block g.R.Source.reads) l.fn.input.inner l.fn.input.failures l.input.inner l.input.calls l.input.failures;
+  made : CountsReads (for_a_block g.R.Source.reads) l.fn.input.inner l.fn.input.calls l.fn.input.failures l.input.inner
+      l.input.calls l.input.failures;
   falls : work l.input.calls l.window ≤ work l.fn.input.calls l.fn.window;
 }
 

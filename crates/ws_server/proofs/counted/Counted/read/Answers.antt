@@ -4,8 +4,8 @@ use Rattle.ws_server.proofs.counted.Counted.read.Goals as goal
 
 pub returns-in-Ok-clause-made : goal.returns-in-Ok-clause-made
 returns-in-Ok-clause-made g c =
-    (Ok c.in-Ok.n ∷ [], (c.read_once.new.self, c.in-Ok.ensures.made, refl), inl (omega arith))
+    (Ok c.in-Ok.n ∷ [], (c.read_once.new.self, c.in-Ok.ensures.made, refl), omega arith, inl (omega arith))
 
 pub returns-in-Err-clause-made : goal.returns-in-Err-clause-made
 returns-in-Err-clause-made g c =
-    (Err c.in-Err.field-0 ∷ [], (c.read_once.new.self, c.in-Err.ensures.made, refl), inl (omega arith))
+    (Err c.in-Err.field-0 ∷ [], (c.read_once.new.self, c.in-Err.ensures.made, refl), omega arith, inl (omega arith))
