@@ -1,9 +1,7 @@
 -- Which plan the rows of a subcommand ask for, and when they ask for none.
-use Rattle.std.proofs.Common.{◌≡◌, ℕ, ◌+◌, ◌<◌, ◌≤◌, List, [], ◌∷◌, ◌++◌, length, map, take, Option, None, Some, Bool, false, refl, sym, ap}
-use Rattle.std.proofs.Common.{ap₂, ◌∙◌, ◌||◌, arith, codes, slice_index, slice_index_or}
-use Rattle.std.proofs.lemmas.List.{map-append, take_more}
+use Rattle.std.proofs.Common.{◌≡◌, ℕ, ◌≤◌, List, Option, None, Some, Bool, false, refl, sym, ap}
+use Rattle.std.proofs.Common.{ap₂, ◌∙◌, ◌||◌, arith, codes, slice_index}
 use Rattle.clap.specs.Words.{Row, all_of, first_of}
-use Rattle.rgatext.specs.declared.plan.Plan.{Plan}
 use Rattle.rgatext.specs.declared.plan.Plan.TheVariants.{Lines, Text as TextOf, Serve, World}
 use Rattle.rgatext.specs.CommandLine.{AsksNothing, ReadsTo}
 
@@ -91,21 +89,3 @@ serve_no_names rows none (World sites) h =
     absurd (two_names (codes "serve") (codes "serve") (codes "world") 115 119 refl refl (λ e. omega (arith, e)) refl h.0)
 serve_no_names rows none (TextOf version) h =
     absurd (two_names (codes "serve") (codes "serve") (codes "text") 115 116 refl refl (λ e. omega (arith, e)) refl h.0)
-
--- one more word is owned
-pub owned_more : {X Y N : Type 0} (f : X → Y) (h : N → Y) (names : List N) (n : N) (xs : List X) (i : ℕ) (x : X)
-    → i < length xs → slice_index_or xs i x ≡ x → map h names ≡ map f (take i xs) → h n ≡ f x
-    → map h (names ++ n ∷ []) ≡ map f (take (i + 1) xs)
-owned_more {X} {Y} {N} f h names n xs i x below at same is =
-    let one : List N = n ∷ [] in
-    let last : List X = slice_index_or xs i x ∷ [] in
-    map-append h names one ∙ ap₂ (λ (a b : List Y). a ++ b) same (ap (λ (y : Y). y ∷ []) (is ∙ sym (ap f at)))
-    ∙ sym (ap (map f) (take_more xs i x below) ∙ map-append f (take i xs) last)
-
--- another subcommand
-pub other_nothing : (name : List ℕ) (rows : List Row) → (name ≡ codes "lines" → ⊥) → (name ≡ codes "text" → ⊥) → (name ≡ codes "world" → ⊥)
-    → (name ≡ codes "serve" → ⊥) → AsksNothing (Some (name, rows))
-other_nothing name rows a b c d (Lines site resume snapshot) (named, read, r, s) = a named
-other_nothing name rows a b c d (TextOf version) (named, read) = b named
-other_nothing name rows a b c d (World sites) (named, some, read) = c named
-other_nothing name rows a b c d (Serve port site conns names) h = d h.0

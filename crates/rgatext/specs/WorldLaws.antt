@@ -6,5 +6,6 @@ use Rattle.room.specs.declared.reply.Reply.TheVariants.{No}
 use Rattle.wire_json.specs.Text.{text}
 use Rattle.rgatext.specs.Worlds.{AnswersLine}
 
+-- a line that is too long is answered so
 pub AnswersLine-long : (world : List Account) (line : List ℕ) → 65600 < length line → AnswersLine world line (text (No TooLong)) world
 AnswersLine-long world line long = inl (Err TooLong, inl (long, refl), (refl, refl))

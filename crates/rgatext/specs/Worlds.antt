@@ -44,6 +44,7 @@ AnswersLine old line answer new =
 abbrev pub room_line : Account → List ℕ
 room_line a = ended (spaced (decimal a.state.site) (spaced (decimal (length a.state.log)) (quote (reading a.state.log))))
 
+-- the line of a site's room, if it has one
 abbrev pub site_lines : Option Account → List ℕ
 site_lines None = []
 site_lines (Some a) = room_line a

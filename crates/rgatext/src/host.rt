@@ -1,5 +1,5 @@
 //! Serves rooms over WebSockets on loopback, a thread for each connection.
-ghost use Rattle.std.specs.Prelude.{◌≡◌, false, Err};
+ghost use Rattle.std.specs.Prelude.{◌≡◌, ◌↔◌, false, Err};
 ghost use Rattle.std.specs.Thread.{IsSync};
 ghost use Rattle.ws_server.specs.Halls.{IsHallPassOf};
 ghost use Rattle.ws_server.specs.Names.{names_fit};
@@ -56,7 +56,9 @@ fn serve<R: Wait>(
 
 // The next connection, which sends what it has at once: a reply that waits to be longer would hold up a client that
 // sends many requests before it reads.
-fn accept(listener: &TcpListener) -> Result<TcpStream, Stop> {
+fn accept(listener: &TcpListener) -> Result<TcpStream, Stop>
+    ensures fits { (result ≡ Err (Stop.Refused Refusal.BadField)) → ⊥ }
+{
     let Ok((stream, _)) = listener.accept() else {
         return Err(Stop::Socket);
     };
@@ -69,7 +71,9 @@ fn accept(listener: &TcpListener) -> Result<TcpStream, Stop> {
 fn listen<R: Net<Listener = TcpListener, Stream = TcpStream> + Print>(
     rt: &R,
     port: u16,
-) -> Result<TcpListener, Stop> {
+) -> Result<TcpListener, Stop>
+    ensures fits { (result ≡ Err (Stop.Refused Refusal.BadField)) → ⊥ }
+{
     let Ok(listener) = TcpListener::bind(rt, ("127.0.0.1", port)) else {
         return Err(Stop::Socket);
     };
@@ -91,12 +95,14 @@ fn serve_all<R: Net<Listener = TcpListener, Stream = TcpStream> + Threads + Wait
     ends: &Ends,
 ) -> Result<(), Stop>
     requires { IsHallPassOf hall.now pass }
+    ensures fits { (result ≡ Err (Stop.Refused Refusal.BadField)) → ⊥ }
 {
     thread::scope(
         thread::scope_env(),
         rt,
         move |scope| -> Result<(), Stop>
             requires { IsSync R.row × IsHallPassOf hall.now pass }
+            ensures { (result ≡ Err (Stop.Refused Refusal.BadField)) → ⊥ }
         {
             for n in 0..conns {
                 let stream = accept(&listener)?;
@@ -131,7 +137,7 @@ fn serve_all<R: Net<Listener = TcpListener, Stream = TcpStream> + Threads + Wait
 pub fn host<
     R: Net<Listener = TcpListener, Stream = TcpStream> + Threads + Wait + Print + Log + Sync,
 >(rt: &R, alloc: Global, port: u16, site: Site, conns: u32, names: &[String]) -> Result<(), Stop>
-    ensures unfit { names_fit names.now ≡ false → result ≡ Err (Stop.Refused Refusal.BadField) }
+    ensures unfit { (names_fit names.now ≡ false) ↔ (result ≡ Err (Stop.Refused Refusal.BadField)) }
 {
     if !names_fit(names) {
         return Err(Stop::Refused(Refusal::BadField));
