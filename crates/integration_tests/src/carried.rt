@@ -130,6 +130,24 @@ fn carry_all<R: Wait + Clock>(rt: &R, ends: &Ends<'_>, mut a: Pass, mut b: Pass)
     false
 }
 
+// Carries once more from the first operation on, until the number is that of all operations.
+fn carry_on<R: Wait>(rt: &R, ends: &Ends<'_>, a: &mut Pass, b: &mut Pass) -> bool
+    requires { IsPassOf ends.now.from.now a.old × IsPassOf ends.now.to.now b.old }
+    ensures { IsPassOf ends.now.from.now a.new × IsPassOf ends.now.to.now b.new }
+{
+    let mut after = 0;
+    for _ in 0..2 * TYPED {
+        match carry_once(rt, ends, a, b, after) {
+            Ok(next) => after = next,
+            Err(_) => return false,
+        }
+        if after == 2 * TYPED {
+            return true;
+        }
+    }
+    false
+}
+
 // A pass of each of two rooms.
 #[derive(Drop)]
 struct Pair {
@@ -289,6 +307,12 @@ fn rooms_that_are_typed_in_come_to_one_order(rt: HostRuntime) -> Result<(), Fail
         to: &other,
     };
     assert!(rt; work(&rt, alloc, &ends, &mut a, &mut b, 2 * u64::from(TURNS)));
+    assert!(rt; carry_on(&rt, &ends, &mut a, &mut b));
+    let turned = Ends {
+        from: &other,
+        to: &one,
+    };
+    assert!(rt; carry_on(&rt, &turned, &mut b, &mut a));
     assert!(rt; closed_in_one_order(alloc, one, other, a, b)?);
     Ok(())
 }

@@ -1,5 +1,6 @@
 //! Lines that lack memory, each served by an engine of its own over one desk, and a connection that does. These tests pass
-//! whatever allocation is refused: `bin/refused_memory` refuses each of them in turn.
+//! whatever allocation is refused: `bin/refused_memory` refuses each of them in turn. But for the last: where none is refused,
+//! nothing is wanting.
 use crate::halls::{Free, hall_of};
 use crate::streams::{CLOSE, HEAD, OPEN, Record, Script};
 use opid::Site;
@@ -60,12 +61,27 @@ fn bears_want(alloc: Global, desk: &mut RoomDesk, lines: &[(&[u8], &[u8])]) -> b
     true
 }
 
-fn bears_want_from_an_empty_room(
+// Whether each line is answered at once as with ample memory.
+fn wants_nothing(alloc: Global, desk: &mut RoomDesk, lines: &[(&[u8], &[u8])]) -> bool {
+    for (line, want) in lines {
+        if serve(alloc, desk, line, want) != Served::AsWithAmpleMemory {
+            return false;
+        }
+    }
+    true
+}
+
+fn goes_well(
     alloc: Global,
+    is_ample: bool,
     lines: &[(&[u8], &[u8])],
 ) -> std::result::Result<bool, Fail> {
     let mut desk = RoomDesk::new(Room::new(alloc, Site::new(0)?));
-    Ok(bears_want(alloc, &mut desk, lines))
+    Ok(if is_ample {
+        wants_nothing(alloc, &mut desk, lines)
+    } else {
+        bears_want(alloc, &mut desk, lines)
+    })
 }
 
 const JOIN: (&[u8], &[u8]) = (
@@ -88,17 +104,14 @@ const OPS_OF_H: (&[u8], &[u8]) = (
     b"{\"from\":0,\"ops\":[{\"c\":[[0,1]],\"k\":\"i\",\"p\":null,\"s\":0,\"x\":\"H\"}],\"r\":\"ops\"}\n",
 );
 
-#[test]
-fn a_join_and_an_insertion(rt: HostRuntime) -> std::result::Result<(), Fail> {
-    let all = bears_want_from_an_empty_room(rt.alloc(), &[JOIN, H, PULLED_H, OPS_OF_H])?;
-    assert!(rt; all);
-    Ok(())
+fn joins_and_inserts(alloc: Global, is_ample: bool) -> std::result::Result<bool, Fail> {
+    goes_well(alloc, is_ample, &[JOIN, H, PULLED_H, OPS_OF_H])
 }
 
-#[test]
-fn an_insertion_in_an_old_version(rt: HostRuntime) -> std::result::Result<(), Fail> {
-    let all = bears_want_from_an_empty_room(
-        rt.alloc(),
+fn inserts_in_an_old_version(alloc: Global, is_ample: bool) -> std::result::Result<bool, Fail> {
+    goes_well(
+        alloc,
+        is_ample,
         &[
             JOIN,
             (
@@ -126,17 +139,15 @@ fn an_insertion_in_an_old_version(rt: HostRuntime) -> std::result::Result<(), Fa
                 b"{\"r\":\"text\",\"v\":5,\"x\":\"aXc\"}\n",
             ),
         ],
-    )?;
-    assert!(rt; all);
-    Ok(())
+    )
 }
 
-#[test]
-fn what_is_early_is_held_back(rt: HostRuntime) -> std::result::Result<(), Fail> {
+fn holds_back_what_is_early(alloc: Global, is_ample: bool) -> std::result::Result<bool, Fail> {
     let early: &[u8] =
         b"{\"t\":\"put\",\"ops\":[{\"c\":[[1,2]],\"k\":\"i\",\"p\":[1,1],\"s\":1,\"x\":\"b\"}]}";
-    let all = bears_want_from_an_empty_room(
-        rt.alloc(),
+    goes_well(
+        alloc,
+        is_ample,
         &[
             (early, b"{\"os\":[[\"kept\"]],\"r\":\"put\"}\n"),
             (
@@ -149,15 +160,13 @@ fn what_is_early_is_held_back(rt: HostRuntime) -> std::result::Result<(), Fail> 
                 b"{\"r\":\"text\",\"v\":2,\"x\":\"ab\"}\n",
             ),
         ],
-    )?;
-    assert!(rt; all);
-    Ok(())
+    )
 }
 
-#[test]
-fn operations_that_are_refused(rt: HostRuntime) -> std::result::Result<(), Fail> {
-    let all = bears_want_from_an_empty_room(
-        rt.alloc(),
+fn refuses_operations(alloc: Global, is_ample: bool) -> std::result::Result<bool, Fail> {
+    goes_well(
+        alloc,
+        is_ample,
         &[
             JOIN,
             H,
@@ -175,8 +184,30 @@ fn operations_that_are_refused(rt: HostRuntime) -> std::result::Result<(), Fail>
                 b"{\"r\":\"text\",\"v\":3,\"x\":\"HpI\"}\n",
             ),
         ],
-    )?;
-    assert!(rt; all);
+    )
+}
+
+#[test]
+fn a_join_and_an_insertion(rt: HostRuntime) -> std::result::Result<(), Fail> {
+    assert!(rt; joins_and_inserts(rt.alloc(), false)?);
+    Ok(())
+}
+
+#[test]
+fn an_insertion_in_an_old_version(rt: HostRuntime) -> std::result::Result<(), Fail> {
+    assert!(rt; inserts_in_an_old_version(rt.alloc(), false)?);
+    Ok(())
+}
+
+#[test]
+fn what_is_early_is_held_back(rt: HostRuntime) -> std::result::Result<(), Fail> {
+    assert!(rt; holds_back_what_is_early(rt.alloc(), false)?);
+    Ok(())
+}
+
+#[test]
+fn operations_that_are_refused(rt: HostRuntime) -> std::result::Result<(), Fail> {
+    assert!(rt; refuses_operations(rt.alloc(), false)?);
     Ok(())
 }
 
@@ -203,5 +234,17 @@ fn a_connection(rt: HostRuntime) -> std::result::Result<(), Fail> {
         end = come_and_go(&rt, rt.alloc());
     }
     assert!(rt; end == Ok(()));
+    Ok(())
+}
+
+#[test]
+fn ample_memory_is_enough(rt: HostRuntime) -> std::result::Result<(), Fail> {
+    let alloc = rt.alloc();
+    let mut all = joins_and_inserts(alloc, true)?;
+    all &= inserts_in_an_old_version(alloc, true)?;
+    all &= holds_back_what_is_early(alloc, true)?;
+    all &= refuses_operations(alloc, true)?;
+    all &= come_and_go(&rt, alloc) == Ok(());
+    assert!(rt; all);
     Ok(())
 }
