@@ -211,7 +211,7 @@ fn tells_what_is_wrong_with_a_run(rt: HostRuntime) -> Result<(), Fail> {
     Ok(())
 }
 
-// Up to four operations with two letters, and five with one. The first operation is site 0's insertion of an a: the other site
+// Up to five operations with two letters, and six with one. The first operation is site 0's insertion of an a: the other site
 // and letter have the same logs.
 #[test]
 fn every_short_log_is_read_back(rt: HostRuntime) -> Result<(), Fail> {
@@ -222,7 +222,8 @@ fn every_short_log_is_read_back(rt: HostRuntime) -> Result<(), Fail> {
         (2, 2, 4 * 3),
         (3, 2, 4 * 3 * 4 * 5),
         (4, 2, 4 * 3 * 4 * 5 * 4 * 7),
-        (5, 1, 2 * 3 * 2 * 5 * 2 * 7 * 2 * 9),
+        (5, 2, 4 * 3 * 4 * 5 * 4 * 7 * 4 * 9),
+        (6, 1, 2 * 3 * 2 * 5 * 2 * 7 * 2 * 9 * 2 * 11),
     ] {
         for number in 0..logs {
             let ops = log_of(alloc, 2 * letters * number, length, letters)?;
