@@ -3,10 +3,10 @@ events are answered by the plain world, those of a full log by what is known of 
 import json
 import random
 
-from plain_world import LIMIT, World, visible
+from plain_world import LIMIT, World, places
 
 ALPHABET = "abcdefghijklmnopqrstuvwxyz"
-CHARACTERS = ALPHABET + ' é\u20ac\U0001f600"\\'
+CHARACTERS = ALPHABET + ' é\u20ac"\\' + 4 * "\U0001f600\U00010000\U0010ffff"
 
 
 def compact(value):
@@ -70,7 +70,7 @@ def random_event(dice, played):
     if kind == "ops":
         return played.call(site, t="ops", after=dice.randint(0, len(room.log) + 1), max=dice.choice([*range(5), 64, 65]))
     if kind == "join" or not room.sessions:
-        return played.call(site, t="join")
+        return played.call(site, t="join", **dice.choice([{}, {}, {"u": 16}, {"u": 16}, {"u": 8}]))
     s = dice.choice([*room.sessions])
     if kind == "leave":
         return played.call(site, t="leave", s=s if len(room.sessions) > 1 else 99)
@@ -81,7 +81,7 @@ def random_event(dice, played):
         return played.call(site, t="pull", s=s, have=have, max=dice.choice([64] * 8 + [dice.randint(0, 66)]))
     n = session.last + dice.choice([1] * 30 + [0, 2])
     v = dice.choice([session.sent] * 15 + [some_version] * 10 + [session.sent + 1])
-    length = len(visible(room.log[:v]))
+    length = len(places(room.log[:v], session.units))
     if kind == "ins":
         size = dice.choice([1] * 20 + [2] * 10 + [3] * 10 + [0, 65])
         text = "".join(dice.choices(CHARACTERS, k=size))

@@ -12,7 +12,7 @@ LONGEST_RUN = 64
 
 # A clock has a count for each site. An insertion has a parent (None: the head) and a character, a deletion a target.
 Operation = collections.namedtuple("Operation", "site clock kind place char stamp number")
-Session = collections.namedtuple("Session", "first sent last kept")
+Session = collections.namedtuple("Session", "first sent last kept units")
 
 
 def operation_of(site, clock, kind, place, char=None):
@@ -44,14 +44,26 @@ def reading(operations):
     return "".join(char for _, char in visible(operations))
 
 
-def edit(log, i):
+def places(operations, units):
+    """The visible elements as their places are counted: each once, or once for each of its UTF-16 units."""
+    width = lambda char: len(char.encode("utf-16-le")) // 2 if units else 1
+    return [element for element in visible(operations) for _ in range(width(element[1]))]
+
+
+def is_inside(shown, k):
+    """Whether a place stands between two units of one character."""
+    return 0 < k < len(shown) and shown[k - 1] == shown[k]
+
+
+def edit(log, i, units):
     """What operation i of a log does to its reading."""
-    stands = lambda version, at: [element[0] for element in visible(log[:version])].index(at)
+    stamps = lambda version: [element[0] for element in places(log[:version], units)]
     if log[i].kind == "i":
-        return ["i", stands(i + 1, log[i].stamp), log[i].char]
-    if any(element[0] == log[i].place for element in visible(log[:i])):
-        return ["d", stands(i, log[i].place)]
-    return ["n"]
+        return ["i", stamps(i + 1).index(log[i].stamp), log[i].char]
+    before = stamps(i)
+    if log[i].place not in before:
+        return ["n"]
+    return ["d", before.index(log[i].place)] + ([before.count(log[i].place)] if units else [])
 
 
 def clock_of(log):
@@ -119,11 +131,13 @@ class Room:
         except Refused as why:
             return {"n": why.number, "r": "no"}
 
-    def answer_join(self):
+    def answer_join(self, **counts):
+        if counts not in ({}, {"u": 16}):
+            raise Refused(2)
         if len(self.sessions) == MOST_SESSIONS:
             raise Refused(6)
         version = len(self.log)
-        self.sessions[self.next_session] = Session(version, version, 0, None)
+        self.sessions[self.next_session] = Session(version, version, 0, None, "u" in counts)
         self.next_session += 1
         return {"r": "joined", "s": self.next_session - 1, "v": version, "x": reading(self.log)}
 
@@ -149,14 +163,14 @@ class Room:
         end = min(have + max, len(self.log))
         if end > session.sent:
             self.sessions[s] = session._replace(sent=end)
-        return {"es": [edit(self.log, i) for i in range(have, end)], "from": have, "r": "edits"}
+        return {"es": [edit(self.log, i, session.units) for i in range(have, end)], "from": have, "r": "edits"}
 
     def answer_ins(self, s, n, v, k, x):
         def asked():
             if not 1 <= len(x) <= 64:
                 raise Refused(10)
-            shown = visible(self.log[:v])
-            if k > len(shown):
+            shown = places(self.log[:v], self.session(s).units)
+            if k > len(shown) or is_inside(shown, k):
                 raise Refused(9)
             parent = shown[k - 1][0] if k else None
             for clock, char in zip(self.clocks(len(x)), x):
@@ -169,10 +183,11 @@ class Room:
         def asked():
             if not 1 <= c <= 64:
                 raise Refused(11)
-            shown = visible(self.log[:v])
-            if k + c > len(shown):
+            shown = places(self.log[:v], self.session(s).units)
+            if k + c > len(shown) or is_inside(shown, k) or is_inside(shown, k + c):
                 raise Refused(9)
-            for clock, element in zip(self.clocks(c), shown[k:]):
+            targets = dict.fromkeys(shown[k : k + c])
+            for clock, element in zip(self.clocks(len(targets)), targets):
                 yield operation_of(self.site, clock, "d", element[0])
 
         return self.submitted(s, n, v, asked())

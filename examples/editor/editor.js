@@ -2,8 +2,38 @@
 // the frames. Opened from disk or from any static server; there is nothing to build.
 "use strict";
 
-const MOST = 64; // characters of a submission, edits of a pull
+const MOST = 64; // units of a submission, edits of a pull
 const SOON = 50, LATE = 1000; // milliseconds between two pulls
+
+// The session's places are UTF-16 units, as JavaScript's and the text area's are. A character beyond U+FFFF is a pair of them,
+// and no place is inside a pair.
+const isInside = (text, place) => /^[\ud800-\udbff][\udc00-\udfff]$/.test(text.slice(place - 1, place + 1));
+
+// How many units two texts begin and end with alike, whole characters, where what is alike in the last `behind` counts first.
+function alike(old, now, behind) {
+  const most = Math.min(old.length, now.length);
+  let tail = 0, head = 0;
+  const isSameTail = () => old[old.length - 1 - tail] === now[now.length - 1 - tail];
+  while (tail < Math.min(behind, most) && isSameTail()) tail++;
+  while (head < most - tail && old[head] === now[head]) head++;
+  while (tail < most - head && isSameTail()) tail++;
+  if (isInside(old, head) || isInside(now, head)) head--;
+  if (isInside(old, old.length - tail) || isInside(now, now.length - tail)) tail--;
+  return [head, tail];
+}
+
+// The parts of a run of units that submissions take, which end between characters.
+function parts(units) {
+  const found = [], text = textOf(units);
+  for (let start = 0, end; start < units.length; start = end) {
+    end = Math.min(start + MOST, units.length);
+    if (isInside(text, end)) end--;
+    found.push(units.slice(start, end));
+  }
+  return found;
+}
+
+const textOf = (units) => units.map((it) => it.unit).join("");
 
 const after = (milliseconds) => new Promise((over) => setTimeout(over, milliseconds));
 
@@ -23,7 +53,7 @@ class Room {
   }
 }
 
-// The document. A character is an object, so that it stays itself wherever it moves: `base` has those of the version that was
+// The document. A unit is an object, so that it stays itself wherever it moves: `base` has those of the version that was
 // pulled last, `shown` those that the reader sees. What is in `shown` and was never in `base` was typed here and isn't
 // pulled yet; what is in `base` alone was deleted here.
 class Document {
@@ -31,24 +61,26 @@ class Document {
     this.version = 0;
     this.base = [];
     this.shown = [];
-    this.mine = new Map(); // the character that an accepted insertion of ours puts in, by the version before it
+    this.mine = new Map(); // the units of the character that an accepted insertion of ours puts in, by the version before it
   }
 
-  // The reader put a text in the place of the characters from `start` to `end`.
+  // The reader put a text in the place of the units from `start` to `end`.
   type(start, end, text) {
-    this.shown.splice(start, end - start, ...Array.from(text, (ch) => ({ ch, isPlaced: false })));
+    this.shown.splice(start, end - start, ...text.split("").map((unit) => ({ unit, isPlaced: false })));
   }
 
   // Plays edits from the pulled version on, and shows what came of them.
   play(edits) {
     const fresh = new Set();
-    for (const [kind, place, ch] of edits) {
+    for (const [kind, place, what] of edits) {
       if (kind === "i") {
-        const it = this.mine.get(this.version) ?? { ch };
-        if (it.isPlaced === undefined) fresh.add(it);
-        it.isPlaced = true;
-        this.base.splice(place, 0, it);
-      } else if (kind === "d") this.base.splice(place, 1);
+        const units = this.mine.get(this.version) ?? what.split("").map((unit) => ({ unit }));
+        for (const it of units) {
+          if (it.isPlaced === undefined) fresh.add(it);
+          it.isPlaced = true;
+        }
+        this.base.splice(place, 0, ...units);
+      } else if (kind === "d") this.base.splice(place, what);
       this.mine.delete(this.version);
       this.version += 1;
     }
@@ -58,12 +90,8 @@ class Document {
   // A new session begins with this version and text. The characters at its beginning and end that were there before stay
   // themselves, and what is typed here stays beside them. (What was under way when a line broke may come twice.)
   restart(version, text) {
-    const old = this.base, chars = Array.from(text);
-    let head = 0, tail = 0;
-    const most = Math.min(old.length, chars.length);
-    while (head < most && old[head].ch === chars[head]) head++;
-    while (tail < most - head && old[old.length - 1 - tail].ch === chars[chars.length - 1 - tail]) tail++;
-    const fresh = chars.slice(head, chars.length - tail).map((ch) => ({ ch, isPlaced: true }));
+    const old = this.base, [head, tail] = alike(textOf(old), text, 0);
+    const fresh = text.slice(head, text.length - tail).split("").map((unit) => ({ unit, isPlaced: true }));
     this.base = [...old.slice(0, head), ...fresh, ...old.slice(old.length - tail)];
     this.version = version;
     this.mine.clear();
@@ -95,16 +123,16 @@ class Document {
         k = places.get(it) + 1;
         run = null;
       } else {
-        if (!run) found.push((run = { t: "ins", k, chars: [] }));
-        run.chars.push(it);
+        if (!run) found.push((run = { t: "ins", k, units: [] }));
+        run.units.push(it);
       }
     }
     run = null;
     this.base.forEach((it, place) => {
       if (seen.has(it)) run = null;
       else {
-        if (!run || run.chars.length === MOST) found.push((run = { t: "del", k: place, chars: [] }));
-        run.chars.push(it);
+        if (!run) found.push((run = { t: "del", k: place, units: [] }));
+        run.units.push(it);
       }
     });
     return found;
@@ -143,7 +171,7 @@ class Editor {
 
   // The session, the pulled version, and what waits for the server.
   tell() {
-    const waiting = this.document.changes().reduce((sum, { chars }) => sum + chars.length, 0);
+    const waiting = this.document.changes().reduce((sum, { units }) => sum + units.length, 0);
     const state = waiting > 0 ? `${waiting} changes wait for the server` : "all is sent";
     if (this.session !== null && !this.isOver) this.page.tell(`session ${this.session}, version ${this.document.version}, ${state}`);
   }
@@ -158,7 +186,7 @@ class Editor {
   }
 
   async join() {
-    const reply = await this.ask({ t: "join" });
+    const reply = await this.ask({ t: "join", u: 16 });
     if (reply.r === "no") return this.refused(reply.n);
     this.session = reply.s;
     this.number = 0;
@@ -166,21 +194,31 @@ class Editor {
     return true;
   }
 
-  // All changes name one version, whose places don't move; so the parts of a long run are sent last part first, each to the
-  // place of the whole.
+  // All changes name one version, whose places don't move; so the parts of a long insertion are sent last part first, each to
+  // the place of the whole.
   async submit() {
     const v = this.document.version;
-    for (const { t, k, chars } of this.document.changes()) {
-      if (t === "del") {
-        if (!(await this.accepted({ t, v, k, c: chars.length }))) return false;
-        continue;
-      }
-      for (let at = MOST * Math.floor((chars.length - 1) / MOST); at >= 0; at -= MOST) {
-        const part = chars.slice(at, at + MOST);
-        const reply = await this.accepted({ t, v, k, x: part.map((it) => it.ch).join("") });
-        if (!reply) return false;
-        part.forEach((it, i) => this.document.mine.set(reply.from + i, it));
-      }
+    for (const { t, k, units } of this.document.changes()) {
+      const isDone = await (t === "ins" ? this.insert(v, k, parts(units).reverse()) : this.delete(v, k, parts(units)));
+      if (!isDone) return false;
+    }
+    return true;
+  }
+
+  async insert(v, k, parts) {
+    for (const part of parts) {
+      const reply = await this.accepted({ t: "ins", v, k, x: textOf(part) });
+      if (!reply) return false;
+      let version = reply.from, start = 0;
+      for (const ch of textOf(part)) this.document.mine.set(version++, part.slice(start, (start += ch.length)));
+    }
+    return true;
+  }
+
+  async delete(v, k, parts) {
+    for (const part of parts) {
+      if (!(await this.accepted({ t: "del", v, k, c: part.length }))) return false;
+      k += part.length;
     }
     return true;
   }
@@ -241,44 +279,36 @@ class Editor {
   }
 }
 
-// What the text area has of a character. It would make CR to LF, and CR LF to one LF, so CR has a sign.
-const sign = (ch) => (ch === "\r" ? "\u240d" : ch);
+// What the text area has of a text. It would make CR to LF, and CR LF to one LF, so CR has a sign.
+const signs = (text) => text.replaceAll("\r", "\u240d");
 
-// The text area. Its places are UTF-16 units, the document's are characters.
+// The text area, whose places are the document's.
 class Page {
   constructor(area, state) {
     this.area = area;
     this.state = state;
   }
 
-  // The characters before the selection's beginning, and before its end.
+  // The units before the selection's beginning, and before its end.
   selected(document) {
-    const before = (unit) => document.shown.slice(0, Array.from(this.area.value.slice(0, unit)).length);
-    return [before(this.area.selectionStart), before(this.area.selectionEnd)];
+    return [document.shown.slice(0, this.area.selectionStart), document.shown.slice(0, this.area.selectionEnd)];
   }
 
-  // Shows the document. Where a character that stood before the selection is gone, the one before it counts.
+  // Shows the document. Where a unit that stood before the selection is gone, the one before it counts.
   show(document, [start, end]) {
-    const top = this.area.scrollTop, units = new Map();
-    let unit = 0;
-    for (const it of document.shown) units.set(it, (unit += it.ch.length));
-    const behind = (before) => units.get(before.findLast((it) => units.has(it))) ?? 0;
-    this.area.value = document.shown.map((it) => sign(it.ch)).join("");
+    const top = this.area.scrollTop, places = new Map(document.shown.map((it, place) => [it, place]));
+    const behind = (before) => (places.get(before.findLast((it) => places.has(it))) ?? -1) + 1;
+    this.area.value = signs(textOf(document.shown));
     this.area.setSelectionRange(behind(start), behind(end));
     this.area.scrollTop = top;
   }
 
-  // Tells the document what the reader changed: the text behind the caret stayed, and what is equal before it.
+  // Tells the document what the reader changed: the text behind the caret stayed, and what is equal before it. Half a pair,
+  // which no text here can have, becomes U+FFFD.
   typed(document) {
-    const now = Array.from(this.area.value), old = document.shown.map((it) => sign(it.ch));
-    const most = Math.min(now.length, old.length);
-    const behind = now.length - Array.from(this.area.value.slice(0, this.area.selectionEnd)).length;
-    let tail = 0, head = 0;
-    const isSameTail = () => now[now.length - 1 - tail] === old[old.length - 1 - tail];
-    while (tail < Math.min(behind, most) && isSameTail()) tail++;
-    while (head < most - tail && now[head] === old[head]) head++;
-    while (tail < most - head && isSameTail()) tail++;
-    document.type(head, old.length - tail, now.slice(head, now.length - tail).join(""));
+    const old = signs(textOf(document.shown)), now = this.area.value.toWellFormed();
+    const [head, tail] = alike(old, now, now.length - this.area.selectionEnd);
+    document.type(head, old.length - tail, now.slice(head, now.length - tail));
   }
 
   tell(text, isTrouble = false) {

@@ -34,7 +34,7 @@ fn types(alloc: Global, desk: &mut RoomDesk, n: u32, text: &str) -> bool {
 
 // A session is opened and types this, whole, at the beginning.
 pub(crate) fn begins(alloc: Global, desk: &mut RoomDesk, text: &str) -> bool {
-    desk.call(Call::Join).is_ok() && types(alloc, desk, 1, text)
+    desk.call(Call::Join { units: false }).is_ok() && types(alloc, desk, 1, text)
 }
 
 fn reads(desk: &mut RoomDesk, want: &str) -> bool {

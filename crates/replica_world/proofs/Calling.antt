@@ -27,7 +27,7 @@ drop-front [] (y ∷ ys) = refl
 drop-front (x ∷ xs) ys = drop-front xs ys
 
 received_own : (S : State) (c : Call) → puts c ≡ None → (m : Makes S (next S c)) → received S c ≡ m.made
-received_own S Join p m = ap (drop (length S.log)) m.log_is ∙ drop-front S.log m.made
+received_own S (Join units) p m = ap (drop (length S.log)) m.log_is ∙ drop-front S.log m.made
 received_own S (Ins s n v k x) p m = ap (drop (length S.log)) m.log_is ∙ drop-front S.log m.made
 received_own S (Del s n v k c) p m = ap (drop (length S.log)) m.log_is ∙ drop-front S.log m.made
 received_own S (Pull s have most) p m = ap (drop (length S.log)) m.log_is ∙ drop-front S.log m.made

@@ -1,31 +1,32 @@
 -- What an accepted submission asked for stays in the log where it was put, and stands at its place.
-use Rattle.std.proofs.Common.{◌≡◌, ℕ, zero, suc, ◌+◌, ◌-◌, ◌<◌, ◌≤◌, Bool, true, false, Option, Some, None, Ok, Err, List, [], ◌∷◌, ◌++◌}
+use Rattle.std.proofs.Common.{◌≡◌, ℕ, zero, suc, ◌+◌, ◌-◌, ◌<◌, ◌≤◌, Bool, true, false, Some, None, Ok, List, [], ◌∷◌, ◌++◌}
 use Rattle.std.proofs.Common.{length, take, drop, refl, ap, ◌∙◌, sym, subst, arith, append_assoc}
-use Rattle.std.specs.Prelude.{nat_lt, slice_get, if◌then◌else◌}
-use Rattle.std.proofs.lemmas.List.{take_at, drop_at, take-append-le, length-append}
+use Rattle.std.specs.Prelude.{slice_get, if◌then◌else◌, ◌||◌}
+use Rattle.std.proofs.lemmas.List.{take_at, drop_at, take-append-le}
 use Rattle.opid.specs.declared.refusal.Refusal.{Refusal}
-use Rattle.opid.specs.declared.refusal.Refusal.TheVariants.{BadVersion, BadPlace, Full, HistoryFull}
+use Rattle.opid.specs.declared.refusal.Refusal.TheVariants.{BadPlace, Full, HistoryFull}
 use Rattle.opid.specs.Operations.{Operation, insertions}
-use Rattle.opid.specs.Reading.{visible, visible_at}
+use Rattle.opid.specs.Units.{items_in}
+use Rattle.opid.specs.Reading.{visible_in, visible_in_at, reading_in_at}
 use Rattle.opid.specs.Lawful.{IsLawful}
 use Rattle.opid.specs.Delivery.{clock_of}
-use Rattle.opid.specs.Asked.{asked_insertions, asked_deletions, deletion_run, IsPlaced}
+use Rattle.opid.specs.Splice.{is_inside}
+use Rattle.opid.specs.Asked.{asked_insertions_in, asked_deletions_in, deletion_run, IsPlaced_in}
 use Rattle.opid.proofs.Logs.{IsLawful-take}
-use Rattle.opid.proofs.Placing.{asked_insertions-placed}
 use Rattle.opid.specs.Limits.{is_bad_count}
-use Rattle.position_translate.specs.Causes.{insertion_refusal, deletion_refusal}
-use Rattle.position_translate.proofs.Asking.{length-asked_insertions, length-asked_deletions, asked_deletions-is, stamps}
+use Rattle.position_translate.specs.Causes.{is_bad_place, insertion_refusal_in, deletion_refusal_in, element_count}
+use Rattle.position_translate.proofs.Asking.{length-asked_insertions, length-asked_deletions, asked_deletions-is, insertions_placed}
+use Rattle.position_translate.proofs.Asking.{outside_pairs, within, stamps}
 use Rattle.session_outbox.specs.declared.submission.Submission.TheVariants.{New}
 use Rattle.session_outbox.specs.Sessions.{session_with}
 use Rattle.session_outbox.specs.Answers.{submission_of}
 use Rattle.room.specs.declared.call.Call.{Call}
 use Rattle.room.specs.declared.call.Call.TheVariants.{Join, Ins, Del, Pull, Leave, Ops, Put, Read}
-use Rattle.room.specs.declared.reply.Reply.{Reply}
 use Rattle.room.specs.declared.reply.Reply.TheVariants as replies
-use Rattle.room.specs.Machine.{State, Finding, check, first_of, found_answer, found_next, accepted_answer, accepted_next, counted}
-use Rattle.room.specs.Machine.{recorded_answer, recorded_next, may_record, answer, next}
+use Rattle.room.specs.Machine.{State, Finding, counts_units, check, found_answer, found_next, accepted_answer, accepted_next, counted}
+use Rattle.room.specs.Machine.{recorded_answer, recorded_next, may_record, next}
 use Rattle.room.specs.History.{Account, state_of, IsConsistent}
-use Rattle.room.specs.Intention.{asked_by, StandsAsked, IsAccepted, IsKept, state_before, KeepsIntentions, OnlyGrows}
+use Rattle.room.specs.Intention.{names_units, asked_by, StandsAsked, IsAccepted, IsKept, state_before, KeepsIntentions, OnlyGrows}
 use Rattle.room.proofs.Accepted.{first_accepted, at_most}
 use Rattle.room.proofs.Handing.{Extends}
 use Rattle.room.proofs.Histories.{next-site}
@@ -76,59 +77,71 @@ none-version : (e f : Refusal) (a b c d : Bool) → (if a then Some e else if b 
 none-version e f true b c d h = cc
 none-version e f false b c d h = refl
 
-none-place : (e f : Refusal) (a b c d : Bool) → (if a then Some e else if b then Some f else if c then Some BadPlace else if d
+pub none-place : (e f : Refusal) (a b c d : Bool) → (if a then Some e else if b then Some f else if c then Some BadPlace else if d
     then Some Full else None) ≡ None → c ≡ false
 none-place e f true b c d h = cc
 none-place e f false true c d h = cc
 none-place e f false false true d h = cc
 none-place e f false false false d h = refl
 
+-- of two tests of which neither holds
+pub neither-first : (a b : Bool) → (a || b) ≡ false → a ≡ false
+neither-first false b h = refl
+neither-first true b h = cc
+
+pub neither-second : (a b : Bool) → (a || b) ≡ false → b ≡ false
+neither-second false b h = h
+neither-second true b h = cc
+
 -- an accepted submission: the versions that it is answered with, its operations at the end of the log, and their place
 record Goes (S : State) (c : Call) (start end : ℕ) : Type 0 where
   from : start ≡ length S.log
-  to : end ≡ length S.log + length (asked_by S.site S.log c)
-  grown : (accepted_next S c).log ≡ S.log ++ asked_by S.site S.log c
-  placed : (more : List Operation) → StandsAsked (S.log ++ more) c (asked_by S.site S.log c)
+  to : end ≡ length S.log + length (asked_by (names_units S c) S.site S.log c)
+  grown : (accepted_next S c).log ≡ S.log ++ asked_by (names_units S c) S.site S.log c
+  placed : (more : List Operation) → StandsAsked (names_units S c) (S.log ++ more) c (asked_by (names_units S c) S.site S.log c)
 
 -- a place in a version that is there is its place in any longer log
-placed-longer : (log more xs : List Operation) (v k : ℕ) → v ≤ length log → IsPlaced log v k xs → IsPlaced (log ++ more) v k xs
-placed-longer log more xs v k b p =
-    subst (λ (l : List Operation). visible (l ++ xs) ≡ take k (visible l) ++ insertions xs ++ drop k (visible l))
+placed-longer : (u : Bool) (log more xs : List Operation) (v k : ℕ) → v ≤ length log → IsPlaced_in u log v k xs
+    → IsPlaced_in u (log ++ more) v k xs
+placed-longer u log more xs v k b p =
+    subst (λ (l : List Operation). visible_in u (l ++ xs)
+    ≡ take k (visible_in u l) ++ items_in u (insertions xs) ++ drop k (visible_in u l))
     (sym (take-append-le v log more b)) p
 
 accepted-goes : (S : State) (c : Call) (start end : ℕ) → IsLawful S.log → S.site < 32 → check S c ≡ Ok New
     → accepted_answer S c ≡ replies.Ok start end → Goes S c start end
-accepted-goes S Join start end l b a e = absurd cc
+accepted-goes S (Join t) start end l b a e = absurd cc
 accepted-goes S (Ins s n v k x) start end l b a e =
-    let none : insertion_refusal S.log v k x ≡ None =
-    first_accepted (submission_of (session_with s S.outbox.sessions) n v) (insertion_refusal S.log v k x) a in
+    let u : Bool = counts_units s S.outbox in
+    let asked : List Operation = asked_insertions_in u S.log S.site v k x in
+    let none : insertion_refusal_in u S.log v k x ≡ None =
+    first_accepted (submission_of (session_with s S.outbox.sessions) n v) (insertion_refusal_in u S.log v k x) a in
     let version : v ≤ length S.log = at_most (length S.log) v (none-version _ _ _ _ _ _ none) in
-    let place : k ≤ length (visible_at S.log v) =
-    at_most (length (visible_at S.log v)) k (none-place _ _ _ (is_bad_count (length x)) _ _ none) in
-    let size : length (asked_insertions S.log S.site v k x) ≡ length x =
-    length-asked_insertions false S.log (asked_insertions S.log S.site v k x) S.site v k x
-    (none-place _ _ _ (is_bad_count (length x)) _ _ none) refl in
+    let place : is_bad_place u S.log v k ≡ false = none-place _ _ _ (is_bad_count (length x)) _ _ none in
+    let size : length asked ≡ length x = length-asked_insertions u S.log asked S.site v k x place refl in
     let start_is : length S.log ≡ start = cc e in
     let end_is : length S.log + length x ≡ end = cc e in
     record {
       from = sym start_is;
       to = omega (arith, end_is, size);
       grown = refl;
-      placed = λ more. placed-longer S.log more (asked_insertions S.log S.site v k x) v k version
-          (asked_insertions-placed S.log S.site v k x l b place);
+      placed = λ more. placed-longer u S.log more asked v k version (insertions_placed u S.log asked S.site v k x l b place refl);
     }
 accepted-goes S (Del s n v k c) start end l b a e =
-    let none : deletion_refusal S.log v k c ≡ None =
-    first_accepted (submission_of (session_with s S.outbox.sessions) n v) (deletion_refusal S.log v k c) a in
-    let place : k + c ≤ length (visible_at S.log v) =
-    at_most (length (visible_at S.log v)) (k + c) (none-place _ _ _ (is_bad_count c) _ _ none) in
-    let run : List Operation = deletion_run S.site (clock_of S.log) (stamps false (visible_at S.log v) k (k + c)) in
-    let is : run ≡ asked_deletions S.log S.site v k c =
-    asked_deletions-is false S.log run (clock_of S.log) S.site v k c refl refl refl refl in
-    let size : length (asked_deletions S.log S.site v k c) ≡ c =
-    ap length (sym is) ∙ length-asked_deletions false S.log run (clock_of S.log) S.site v k c place refl in
+    let u : Bool = counts_units s S.outbox in
+    let none : deletion_refusal_in u S.log v k c ≡ None =
+    first_accepted (submission_of (session_with s S.outbox.sessions) n v) (deletion_refusal_in u S.log v k c) a in
+    let ends : (is_inside u (reading_in_at u S.log v) k || is_bad_place u S.log v (k + c)) ≡ false =
+    none-place _ _ _ (is_bad_count c) _ _ none in
+    let place : is_bad_place u S.log v (k + c) ≡ false = neither-second (is_inside u (reading_in_at u S.log v) k) _ ends in
+    let run : List Operation = deletion_run S.site (clock_of S.log) (stamps u (visible_in_at u S.log v) k (k + c)) in
+    let is : run ≡ asked_deletions_in u S.log S.site v k c =
+    asked_deletions-is u S.log run (clock_of S.log) S.site v k c refl
+    (neither-first (is_inside u (reading_in_at u S.log v) k) _ ends) (outside_pairs u S.log v (k + c) place) refl in
+    let size : length (asked_deletions_in u S.log S.site v k c) ≡ element_count u S.log v k c =
+    ap length (sym is) ∙ length-asked_deletions u S.log run (clock_of S.log) S.site v k c (within u S.log v (k + c) place) refl in
     let start_is : length S.log ≡ start = cc e in
-    let end_is : length S.log + c ≡ end = cc e in
+    let end_is : length S.log + element_count u S.log v k c ≡ end = cc e in
     record { from = sym start_is; to = omega (arith, end_is, size); grown = refl; placed = λ more. tt }
 accepted-goes S (Pull s have max) start end l b a e = absurd cc
 accepted-goes S (Leave s) start end l b a e = absurd cc
@@ -156,19 +169,20 @@ goes S c start end l b a = by (may_record S) refl a.answered
     by false e q = absurd cc
 
 -- what was asked for stands in any longer log between the versions that were answered
-kept : (S : State) (c : Call) (start end : ℕ) (log : List Operation) → Goes S c start end → Extends (S.log ++ asked_by S.site S.log c) log
-    → IsKept S.site log c start end
+kept : (S : State) (c : Call) (start end : ℕ) (log : List Operation) → Goes S c start end
+    → Extends (S.log ++ asked_by (names_units S c) S.site S.log c) log → IsKept (names_units S c) S.site log c start end
 kept S c start end log g (more, e) =
-    let asked : List Operation = asked_by S.site S.log c in
+    let u : Bool = names_units S c in
+    let asked : List Operation = asked_by u S.site S.log c in
     let whole : log ≡ S.log ++ (asked ++ more) = e ∙ append_assoc S.log asked more in
     let front : take start log ≡ S.log = ap (take start) whole ∙ take_at S.log (asked ++ more) start (sym g.from) in
     let back : drop start log ≡ asked ++ more = ap (drop start) whole ∙ drop_at S.log (asked ++ more) start (sym g.from) in
     let count : length asked ≡ end - start = omega (arith, g.from, g.to) in
     let part : take (end - start) (drop start log) ≡ asked = ap (take (end - start)) back ∙ take_at asked more (end - start) count in
     record {
-      asked = part ∙ ap (λ (l : List Operation). asked_by S.site l c) (sym front);
-      stands = subst (λ (l : List Operation). StandsAsked l c (take (end - start) (drop start log))) (sym whole)
-          (subst (StandsAsked (S.log ++ (asked ++ more)) c) (sym part) (g.placed (asked ++ more)));
+      asked = part ∙ ap (λ (l : List Operation). asked_by u S.site l c) (sym front);
+      stands = subst (λ (l : List Operation). StandsAsked u l c (take (end - start) (drop start log))) (sym whole)
+          (subst (StandsAsked u (S.log ++ (asked ++ more)) c) (sym part) (g.placed (asked ++ more)));
     }
 
 -- ---- the room
@@ -180,7 +194,7 @@ from_opening S h l b i e start end at a =
     let site : before.site ≡ (state_of S h).site = before-site S h i in
     let went : Goes before e.1 start end × ((next before e.1).log ≡ (accepted_next before e.1).log) =
     goes before e.1 start end (lawful_begins before.log (state_of S h).log (before-grows S h i) l) (omega (arith, b, site)) a in
-    subst (λ (n : ℕ). IsKept n (state_of S h).log e.1 start end) site
+    subst (λ (n : ℕ). IsKept (names_units before e.1) n (state_of S h).log e.1 start end) site
     (kept before e.1 start end (state_of S h).log went.0 (subst (λ (l : List Operation). Extends l (state_of S h).log)
     (went.1 ∙ went.0.grown) (next-grows S h i e at)))
 

@@ -1,17 +1,17 @@
 -- What is known of a session: it is known from its join on, and is sent ever more, but no more than the log has.
-use Rattle.std.proofs.Common.{◌≡◌, ℕ, ◌+◌, ◌-◌, ◌<◌, ◌≤◌, Bool, true, false, cond, Option, Some, None, Ok, Err, List, [], ◌∷◌, ◌++◌, length}
+use Rattle.std.proofs.Common.{◌≡◌, ℕ, ◌+◌, ◌<◌, ◌≤◌, Bool, true, false, cond, Option, Some, None, Ok, Err, List, [], ◌∷◌, ◌++◌, length}
 use Rattle.std.proofs.Common.{refl, ap, ◌∙◌, sym, subst, arith, append_assoc, nat_eq}
 use Rattle.std.specs.Prelude.{min, MatchOption, if◌then◌else◌}
 use Rattle.std.specs.List.{AllByRecursion as Each}
 use Rattle.std.proofs.lemmas.List.{length-append}
 use Rattle.opid.specs.Operations.{Operation}
+use Rattle.position_translate.specs.Causes.{element_count}
 use Rattle.session_outbox.specs.declared.submission.Submission.TheVariants.{New, Repeat}
 use Rattle.session_outbox.specs.Sessions.{Session, session_with, submitted as after_submission, sent_to}
 use Rattle.session_outbox.specs.Sessions.{joined}
 use Rattle.room.specs.declared.call.Call.{Call}
 use Rattle.room.specs.declared.call.Call.TheVariants.{Join, Ins, Del, Pull, Leave, Ops, Put, Read}
-use Rattle.room.specs.declared.reply.Reply.TheVariants as replies
-use Rattle.room.specs.Machine.{State, Finding, check, accepted_next, found_next, may_record}
+use Rattle.room.specs.Machine.{State, Finding, counts_units, check, accepted_next, found_next, may_record}
 use Rattle.room.specs.Machine.{counted, recorded_next, next}
 use Rattle.room.specs.History.{state_of}
 use Rattle.room.specs.Convergence.{or_before, last_known}
@@ -20,9 +20,9 @@ use Rattle.room.proofs.Handing.{Extends, Extends-refl}
 use Rattle.room.proofs.Running.{within_max, IsWithin, IsRunning, IfThere, IfThere-changed, IfThere-without}
 use Rattle.room.proofs.Running.{IfThere-joined, next-running}
 
--- session s, which is known so, was sent at least as much
+-- session s, which is known so, was sent at least as much, and counts as it did
 abbrev pub Descends : Session → Session → Type 0
-Descends w u = (u.first ≡ w.first) × (w.sent ≤ u.sent)
+Descends w u = (u.first ≡ w.first) × (w.sent ≤ u.sent) × (u.units ≡ w.units)
 
 -- ---- a log only grows
 
@@ -41,8 +41,8 @@ abbrev Since : ℕ → Session → State → Type 0
 Since s w S = (s < S.outbox.next_number) × IfThere s S.outbox.sessions (Descends w)
 
 accepted-since : (S : State) (c : Call) (s : ℕ) (w : Session) → IsRunning S → Since s w S → Since s w (accepted_next S c)
-accepted-since S Join s w r h =
-    (omega (arith, h.0), IfThere-joined (Descends w) s (joined S.outbox.next_number (length S.log)) S.outbox.sessions h.0 h.1)
+accepted-since S (Join b) s w r h =
+    (omega (arith, h.0), IfThere-joined (Descends w) s (joined S.outbox.next_number (length S.log) b) S.outbox.sessions h.0 h.1)
 accepted-since S (Ins t n v k x) s w r h = (
   h.0,
   IfThere-changed (Descends w) s t
@@ -51,11 +51,15 @@ accepted-since S (Ins t n v k x) s w r h = (
 accepted-since S (Del t n v k c) s w r h = (
   h.0,
   IfThere-changed (Descends w) s t
-      (after_submission (length S.log) (length S.log + c)) S.outbox.sessions (λ u. refl) (λ u d. d) h.1,
+      (after_submission (length S.log) (length S.log + element_count (counts_units t S.outbox) S.log v k c)) S.outbox.sessions
+      (λ u. refl) (λ u d. d) h.1,
 )
 accepted-since S (Pull t have most) s w r h =
-    let to = min (have + most) (length S.log) in
-    (h.0, IfThere-changed (Descends w) s t (sent_to to) S.outbox.sessions (λ u. refl) (λ u d. (d.0, within_max w.sent u.sent to d.1)) h.1)
+    let to = min (have + most) (length S.log) in (
+      h.0,
+      IfThere-changed (Descends w) s t (sent_to to) S.outbox.sessions (λ u. refl)
+          (λ u d. (d.0, within_max w.sent u.sent to d.1, d.2)) h.1,
+    )
 accepted-since S (Leave t) s w r h = (h.0, IfThere-without (Descends w) s t 0 S.outbox.next_number S.outbox.sessions r.numbered h.1)
 accepted-since S (Ops after most) s w r h = h
 accepted-since S (Put ops) s w r h = h
@@ -86,10 +90,10 @@ stays_known S (e ∷ h) s w before r k b =
     (or_before-known w (session_with s S.outbox.sessions) before k.1 b)
 
 there-known : (w : Session) (now before : Option Session) → now ≡ Some w → MatchOption (or_before now before) ⊥ (Descends w)
-there-known w now before e = subst (λ o. MatchOption (or_before o before) ⊥ (Descends w)) (sym e) (refl, omega arith)
+there-known w now before e = subst (λ o. MatchOption (or_before o before) ⊥ (Descends w)) (sym e) (refl, omega arith, refl)
 
 there-since : (S : State) (s : ℕ) (w : Session) → s < S.outbox.next_number → session_with s S.outbox.sessions ≡ Some w → Since s w S
-there-since S s w b e = (b, subst (λ o. MatchOption o (Unit {0}) (Descends w)) (sym e) (refl, omega arith))
+there-since S s w b e = (b, subst (λ o. MatchOption o (Unit {0}) (Descends w)) (sym e) (refl, omega arith, refl))
 
 -- a session that is there is known from then on
 pub known_since : (S : State) (h : List (ℕ × Call)) (s : ℕ) (w : Session) (before : Option Session) → IsRunning S → s < S.outbox.next_number

@@ -13,7 +13,7 @@ use Rattle.room.specs.declared.call.Call.{Call}
 use Rattle.room.specs.declared.reply.Reply.{Reply}
 use Rattle.room.specs.declared.reply.Reply.TheVariants as replies
 use Rattle.room.specs.Machine.{State, Finding, check, first_of, accepted_answer, accepted_next, found_answer, found_next}
-use Rattle.room.specs.Parts.{state_with, Does, reply_at_once, Accepts}
+use Rattle.room.specs.Parts.{state_with, Does, reply_at_once, Carried, Accepts}
 
 -- what a call is found to be tells what it is answered, and what it does
 found : (S : State) (c : Call) (f : Finding) (reply : Reply) (T : State) → check S c ≡ f → reply ≡ found_answer S c f → T ≡ found_next S c f
@@ -32,13 +32,7 @@ at_once R outbox c f r reply e h = record { answered = λ count. (go count f (e 
     go count (Ok (Repeat a b)) k h = found (state_with R outbox count) c (Ok (Repeat a b)) reply _ k (cc) refl
     go count (Ok New) k h = cc
 
--- what the operations of a submission did, or why there are none
-abbrev pub Carried : Option Refusal → Result (ℕ × ℕ) Refusal → ReplicaState → List Operation → ℕ → ReplicaState → Type 0
-Carried r (Ok p) R more n T = (r ≡ None) × (p ≡ (length R.log, length R.log + n))
-    × ((count : ℕ) (outbox : Outbox) → state_with T outbox count ≡ state_with (record R { log = R.log ++ more }) outbox count)
-Carried r (Err e) R more n T = ((r ≡ Some e) ⊎ ((r ≡ None) × (e ≡ Memory))) × (T ≡ R)
-
--- the same, by the clauses of the calls that carry it out
+-- what a submission did, by the clauses of the calls that carry it out
 pub carries : (r : Option Refusal) (result : Result (ℕ × ℕ) Refusal) (R : ReplicaState) (more : List Operation) (n room : ℕ)
     (T : ReplicaState)
     → IfOk result (λ p. p ≡ (length R.log, length R.log + n)) → OnOk result (r ≡ None)

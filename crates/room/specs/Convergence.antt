@@ -10,7 +10,7 @@ use Rattle.room.specs.declared.reply.Reply.{Reply}
 use Rattle.room.specs.declared.reply.Reply.TheVariants as replies
 use Rattle.room.specs.Machine.{State, may_record, answer, next}
 use Rattle.room.specs.History.{Account}
-use Rattle.room.specs.Editor.{Editor, empty_editor, with_reply, editor, IsInStep}
+use Rattle.room.specs.Editor.{Editor, empty_editor, with_reply_in, editor_in, IsInStep}
 
 -- the session that a joined reply opens
 abbrev pub opened_by : Reply → Option ℕ
@@ -25,7 +25,7 @@ opened_by (replies.No e) = None
 
 -- the session that the reply to a call is given to
 abbrev pub given_to : Call → Reply → Option ℕ
-given_to Join r = opened_by r
+given_to (Join units) r = opened_by r
 given_to (Ins s n v k x) r = Some s
 given_to (Del s n v k c) r = Some s
 given_to (Pull s have max) r = Some s
@@ -53,13 +53,14 @@ abbrev pub last_known : ℕ → State → List (ℕ × Call) → Option Session 
 last_known s S [] before = or_before (session_with s S.outbox.sessions) before
 last_known s S (e ∷ es) before = last_known s (next S e.1) es (or_before (session_with s S.outbox.sessions) before)
 
--- Whatever replies of its session an editor is given after the joined one, in any order and as often as wished: its
--- text is the reading of the version that it says it has, which is from the session's first to its sent one (where
--- the session left, to the one that it had then).
+-- Whatever replies of its session an editor that counts as the session does is given after the joined one, in any
+-- order and as often as wished: its text is the reading of the version that it says it has, which is from the session's
+-- first to its sent one (where the session left, to the one that it had then).
 abbrev pub EditorsConverge : Account → Type 0
 EditorsConverge room = (s : ℕ) (joined : Reply) (later : List Reply) → opened_by joined ≡ Some s
     → WasGiven s room.opening room.history joined → AllByRecursion (WasGiven s room.opening room.history) later
-    → MatchOption (last_known s room.opening room.history None) ⊥ (λ w. MatchOption (editor (joined ∷ later)) ⊥ (IsInStep room.state.log w))
+    → MatchOption (last_known s room.opening room.history None) ⊥
+    (λ w. MatchOption (editor_in w.units (joined ∷ later)) ⊥ (IsInStep room.state.log w))
 
 -- ---- an editor that is given each reply once, in order
 
@@ -76,7 +77,7 @@ replies_to s S (e ∷ es) =
 
 -- a pull of session s names the version of this editor
 abbrev pub NamesVersion : ℕ → Option Editor → Call → Type 0
-NamesVersion s E Join = Unit {0}
+NamesVersion s E (Join units) = Unit {0}
 NamesVersion s E (Ins t n v k x) = Unit {0}
 NamesVersion s E (Del t n v k c) = Unit {0}
 NamesVersion s E (Pull t have max) = t ≡ s → option_map (λ F. F.version) E ≡ Some have
@@ -86,17 +87,17 @@ NamesVersion s E (Put ops) = Unit {0}
 NamesVersion s E Read = Unit {0}
 
 -- the editor after a call: its reply is given to session s, or not
-abbrev pub after_call : ℕ → State → Call → Option Editor → Option Editor
-after_call s S c E = if is_session s (given_to c (answer S c)) then option_and_then (with_reply (answer S c)) E else E
+abbrev pub after_call : Bool → ℕ → State → Call → Option Editor → Option Editor
+after_call units s S c E = if is_session s (given_to c (answer S c)) then option_and_then (with_reply_in units (answer S c)) E else E
 
 -- each pull of session s names the version that its editor then has, which is given each reply at once
-abbrev pub PullsInStep : ℕ → State → List (ℕ × Call) → Option Editor → Type 0
-PullsInStep s S [] E = Unit {0}
-PullsInStep s S (e ∷ es) E = NamesVersion s E e.1 × PullsInStep s (next S e.1) es (after_call s S e.1 E)
+abbrev pub PullsInStep : Bool → ℕ → State → List (ℕ × Call) → Option Editor → Type 0
+PullsInStep units s S [] E = Unit {0}
+PullsInStep units s S (e ∷ es) E = NamesVersion s E e.1 × PullsInStep units s (next S e.1) es (after_call units s S e.1 E)
 
--- An editor that is given each reply of its session once, in order, and whose pulls name the version that it then
--- has, has the session's sent version.
+-- An editor that counts as its session does, is given each of the session's replies once, in order, and whose pulls name
+-- the version that it then has, has the session's sent version.
 abbrev pub EditorsKeepUp : Account → Type 0
-EditorsKeepUp room = (s : ℕ) → PullsInStep s room.opening room.history (Some empty_editor)
-    → MatchOption (last_known s room.opening room.history None) (Unit {0})
-    (λ w. MatchOption (editor (replies_to s room.opening room.history)) ⊥ (λ E. E.version ≡ w.sent))
+EditorsKeepUp room = (s : ℕ) → MatchOption (last_known s room.opening room.history None) (Unit {0})
+    (λ w. PullsInStep w.units s room.opening room.history (Some empty_editor)
+    → MatchOption (editor_in w.units (replies_to s room.opening room.history)) ⊥ (λ E. E.version ≡ w.sent))

@@ -1,37 +1,48 @@
 -- What becomes of each accepted submission: its operations stay in the room's log, and an insertion's stand at the place
 -- that was asked for in the version that was named (Attiya and others 2016: what a client sees of its own insertion).
-use Rattle.std.specs.Prelude.{◌≡◌, ℕ, ◌-◌, ◌≤◌, List, [], length, take, drop, slice_get, Some, Ok}
+use Rattle.std.specs.Prelude.{◌≡◌, ℕ, Bool, false, ◌-◌, ◌≤◌, List, [], length, take, drop, slice_get, Some, Ok}
 use mathlib.Core.List.{IsPrefix}
 use Rattle.opid.specs.Operations.{Operation}
-use Rattle.opid.specs.Asked.{asked_insertions, asked_deletions, IsPlaced}
+use Rattle.opid.specs.Asked.{asked_insertions_in, asked_deletions_in, IsPlaced_in}
 use Rattle.session_outbox.specs.declared.submission.Submission.TheVariants.{New}
 use Rattle.room.specs.declared.call.Call.{Call}
 use Rattle.room.specs.declared.call.Call.TheVariants.{Join, Ins, Del, Pull, Leave, Ops, Put, Read}
 use Rattle.room.specs.declared.reply.Reply.TheVariants as replies
-use Rattle.room.specs.Machine.{State, check, answer}
+use Rattle.room.specs.Machine.{State, counts_units, check, answer}
 use Rattle.room.specs.History.{Account, state_of}
 
+-- whether the call is a submission of a session whose places count UTF-16 units; no other call names a place
+abbrev pub names_units : State → Call → Bool
+names_units S (Join units) = false
+names_units S (Ins s n v k x) = counts_units s S.outbox
+names_units S (Del s n v k c) = counts_units s S.outbox
+names_units S (Pull s have max) = false
+names_units S (Leave s) = false
+names_units S (Ops after most) = false
+names_units S (Put ops) = false
+names_units S Read = false
+
 -- what a submission asks for over a log, by its place in the version that it names; other calls ask for nothing
-abbrev pub asked_by : ℕ → List Operation → Call → List Operation
-asked_by site log Join = []
-asked_by site log (Ins s n v k x) = asked_insertions log site v k x
-asked_by site log (Del s n v k c) = asked_deletions log site v k c
-asked_by site log (Pull s have max) = []
-asked_by site log (Leave s) = []
-asked_by site log (Ops after most) = []
-asked_by site log (Put ops) = []
-asked_by site log Read = []
+abbrev pub asked_by : Bool → ℕ → List Operation → Call → List Operation
+asked_by units site log (Join u) = []
+asked_by units site log (Ins s n v k x) = asked_insertions_in units log site v k x
+asked_by units site log (Del s n v k c) = asked_deletions_in units log site v k c
+asked_by units site log (Pull s have max) = []
+asked_by units site log (Leave s) = []
+asked_by units site log (Ops after most) = []
+asked_by units site log (Put ops) = []
+asked_by units site log Read = []
 
 -- an insertion's operations stand at its place in the version of the log that it names
-abbrev pub StandsAsked : List Operation → Call → List Operation → Type 0
-StandsAsked log Join ops = Unit {0}
-StandsAsked log (Ins s n v k x) ops = IsPlaced log v k ops
-StandsAsked log (Del s n v k c) ops = Unit {0}
-StandsAsked log (Pull s have max) ops = Unit {0}
-StandsAsked log (Leave s) ops = Unit {0}
-StandsAsked log (Ops after most) ops = Unit {0}
-StandsAsked log (Put other) ops = Unit {0}
-StandsAsked log Read ops = Unit {0}
+abbrev pub StandsAsked : Bool → List Operation → Call → List Operation → Type 0
+StandsAsked units log (Join u) ops = Unit {0}
+StandsAsked units log (Ins s n v k x) ops = IsPlaced_in units log v k ops
+StandsAsked units log (Del s n v k c) ops = Unit {0}
+StandsAsked units log (Pull s have max) ops = Unit {0}
+StandsAsked units log (Leave s) ops = Unit {0}
+StandsAsked units log (Ops after most) ops = Unit {0}
+StandsAsked units log (Put other) ops = Unit {0}
+StandsAsked units log Read ops = Unit {0}
 
 -- in this state the call is a new submission, which is answered `Ok` from one version to another
 pub record IsAccepted (S : State) (c : Call) (start end : ℕ) : Type 0 where
@@ -40,18 +51,19 @@ pub record IsAccepted (S : State) (c : Call) (start end : ℕ) : Type 0 where
 
 -- The operations of the log between two versions are those that the submission asked for over the log's beginning up to
 -- the first of them, and stand at their place.
-pub record IsKept (site : ℕ) (log : List Operation) (c : Call) (start end : ℕ) : Type 0 where
-  pub asked : take (end - start) (drop start log) ≡ asked_by site (take start log) c
-  pub stands : StandsAsked log c (take (end - start) (drop start log))
+pub record IsKept (units : Bool) (site : ℕ) (log : List Operation) (c : Call) (start end : ℕ) : Type 0 where
+  pub asked : take (end - start) (drop start log) ≡ asked_by units site (take start log) c
+  pub stands : StandsAsked units log c (take (end - start) (drop start log))
 
 -- the state of a room before one of its recorded calls, counted from 0, was made
 abbrev pub state_before : Account → ℕ → State
 state_before room i = state_of room.opening (take i room.history)
 
--- each recorded submission that was accepted is kept in the room's present log
+-- each recorded submission that was accepted is kept in the room's present log, as its session counted
 abbrev pub KeepsIntentions : Account → Type 0
 KeepsIntentions room = (i : ℕ) (e : ℕ × Call) (start end : ℕ) → slice_get room.history i ≡ Some e
-    → IsAccepted (state_before room i) e.1 start end → IsKept room.state.site room.state.log e.1 start end
+    → IsAccepted (state_before room i) e.1 start end
+    → IsKept (names_units (state_before room i) e.1) room.state.site room.state.log e.1 start end
 
 -- each earlier log of the room is a beginning of the present one, so that an earlier version is a version for good
 abbrev pub OnlyGrows : Account → Type 0

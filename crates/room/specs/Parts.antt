@@ -1,5 +1,5 @@
 -- What a call does with the parts of a room; no public clause cites this.
-use Rattle.std.specs.Prelude.{◌≡◌, ◌≢◌, ℕ, Option, Some, None, Result, Ok, Err, List}
+use Rattle.std.specs.Prelude.{◌≡◌, ◌≢◌, ◌⊎◌, ℕ, ◌+◌, Option, Some, None, Result, Ok, Err, List, ◌++◌, length}
 use Rattle.std.specs.declared.alloc.AllocError.{AllocError}
 use Rattle.opid.specs.declared.refusal.Refusal.{Refusal}
 use Rattle.opid.specs.declared.refusal.Refusal.TheVariants.{Memory}
@@ -29,6 +29,13 @@ abbrev pub reply_at_once : Finding → Option Reply
 reply_at_once (Err e) = Some (replies.No e)
 reply_at_once (Ok (Repeat start end)) = Some (replies.Ok start end)
 reply_at_once (Ok New) = None
+
+-- What the operations of a submission did, or why there are none: so many elements, for which these operations go
+-- behind the log.
+abbrev pub Carried : Option Refusal → Result (ℕ × ℕ) Refusal → ReplicaState → List Operation → ℕ → ReplicaState → Type 0
+Carried r (Ok p) R more n T = (r ≡ None) × (p ≡ (length R.log, length R.log + n))
+    × ((count : ℕ) (outbox : Outbox) → state_with T outbox count ≡ state_with (record R { log = R.log ++ more }) outbox count)
+Carried r (Err e) R more n T = ((r ≡ Some e) ⊎ ((r ≡ None) × (e ≡ Memory))) × (T ≡ R)
 
 -- session s's next submission led from a version to a version, or was refused, or found no memory
 abbrev pub Accepts : ℕ → Result (ℕ × ℕ) Refusal → Outbox → Result Reply AllocError → Outbox → Type 0

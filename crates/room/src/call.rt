@@ -6,23 +6,25 @@ use crate::operations::Operations;
 use std::alloc::AllocError;
 use versions::Characters;
 
-/// A call. A place counts characters (Unicode scalar values). An element is a character that was ever put in, deleted or
-/// not.
+/// A call. A place counts characters (Unicode scalar values), or UTF-16 units where the session joined so. An element is a
+/// character that was ever put in, deleted or not.
 ///
 /// Where several refusals hold, the call gets the first of them in the order below. `HistoryFull` is where 1,048,576
 /// calls are recorded; it takes one step. The costs leave out what a vector or table moves where it grows.
 #[derive(Debug, Drop)]
 pub enum Call {
-    /// Opens a session. Refused with `HistoryFull`, and with `TooManySessions` where 64 are there, in one step. Takes a
-    /// step for each element.
-    Join,
+    /// Opens a session, whose places count UTF-16 units if it says so, or else characters. Refused with `HistoryFull`, and
+    /// with `TooManySessions` where 64 are there, in one step. Takes a step for each element.
+    Join {
+        units: bool,
+    },
     /// Session `s`, as its submission number `n`, puts the characters `x` in at place `k` of version `v`. Its last
     /// accepted submission again is answered as before, whatever `v`, `k` and `x` are.
     ///
     /// Refused with `HistoryFull`; `NoSession`; `BadNumber` where `n` is neither the session's next number nor its last
     /// accepted one; `BadVersion` where `v` is below the session's first version or above its sent one; `BadText` where
-    /// `x` has no character or more than 64; `BadPlace` where `k` is above the version's length; and `Full` where the log
-    /// would exceed 131,072 operations.
+    /// `x` has no character or more than 64; `BadPlace` where `k` is above the version's length, or inside a pair of units;
+    /// and `Full` where the log would exceed 131,072 operations.
     ///
     /// Takes a look-up of the session for a repeat and for what is refused up to `BadVersion`, and a step for each
     /// character for `BadText`. Otherwise logarithmic in the number of elements, for the place and again for each
@@ -34,12 +36,12 @@ pub enum Call {
         k: u32,
         x: Characters,
     },
-    /// Session `s`, as its submission number `n`, deletes `c` characters from place `k` of version `v` on. Its last
-    /// accepted submission again is answered as before, whatever `v`, `k` and `c` are.
+    /// Session `s`, as its submission number `n`, deletes `c` characters, or the characters of `c` UTF-16 units, from place
+    /// `k` of version `v` on. Its last accepted submission again is answered as before, whatever `v`, `k` and `c` are.
     ///
     /// Refused with `HistoryFull`; `NoSession`, `BadNumber` and `BadVersion` as for `Ins`; `BadCount` where `c` is 0 or
-    /// above 64; `BadPlace` where `k` plus `c` is above the version's length; and `Full` where the log would exceed
-    /// 131,072 operations.
+    /// above 64; `BadPlace` where `k` plus `c` is above the version's length, or an end is inside a pair of units; and
+    /// `Full` where the log would exceed 131,072 operations.
     ///
     /// Takes a look-up of the session for a repeat and for what is refused up to `BadCount`. Otherwise logarithmic in the
     /// number of elements, for each deletion.
@@ -91,7 +93,7 @@ impl Clone for Call {
 
     fn clone(&self) -> Result<Call, AllocError> {
         Ok(match self {
-            Call::Join => Call::Join,
+            Call::Join { units } => Call::Join { units: *units },
             Call::Ins { s, n, v, k, x } => Call::Ins {
                 s: *s,
                 n: *n,

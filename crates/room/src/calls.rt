@@ -1,14 +1,18 @@
 //! What each kind of call does with a room's document and its sessions.
-ghost use Rattle.std.specs.Prelude.{◌≡◌, ◌+◌, ◌-◌, ◌<◌, ◌≤◌, ℕ, [], List, None, false, IfOk, IsOk, OnErr, length, vec_capacity};
+ghost use Rattle.std.specs.Prelude.{◌≡◌, ◌+◌, ◌-◌, ◌<◌, ◌≤◌, ℕ, [], List, Some, None, false, IfOk, IsOk, OnErr, length};
+ghost use Rattle.std.specs.Prelude.{vec_capacity, slice_get};
 ghost use Rattle.opid.specs.Limits.{is_bad_count};
+ghost use Rattle.opid.specs.Edits.{edits_in};
+ghost use Rattle.opid.specs.Asked.{asked_insertions_in, asked_deletions_in};
+ghost use Rattle.position_translate.specs.Causes.{insertion_refusal_in, deletion_refusal_in, element_count};
 ghost use Rattle.replica.specs.Part.{part_of};
 ghost use Rattle.replica.specs.Deliver.{ReplicaState};
 ghost use Rattle.opid.specs.Reading.{reading};
 ghost use Rattle.session_outbox.specs.Sessions.{Outbox, session_with, MayAccept};
 ghost use Rattle.session_outbox.specs.Answers.{submission_of};
 ghost use Rattle.room.specs.declared.call.Call.TheVariants.{Join, Ins, Del, Pull, Leave, Ops, Put, Read};
-ghost use Rattle.room.specs.Machine.{edits_between};
-ghost use Rattle.room.specs.Parts.{Does, reply_at_once, Accepts, IsHandedOver};
+ghost use Rattle.room.specs.Machine.{counts_units, edits_between_in};
+ghost use Rattle.room.specs.Parts.{Does, reply_at_once, Carried, Accepts, IsHandedOver};
 
 use crate::call::Call;
 use crate::edits::Edits;
@@ -37,7 +41,7 @@ pub(crate) fn perform(
     ensures err_outbox { OnErr result (outbox.new ≡ outbox.old) }
 {
     match call {
-        Call::Join => join(replica, outbox),
+        Call::Join { units } => join(replica, outbox, *units),
         Call::Ins { s, n, v, k, x } => insert(replica, outbox, *s, *n, *v, *k, x),
         Call::Del { s, n, v, k, c } => delete(replica, outbox, *s, *n, *v, *k, *c),
         Call::Pull { s, have, max } => pull(alloc, replica, outbox, *s, *have, *max),
@@ -48,10 +52,10 @@ pub(crate) fn perform(
     }
 }
 
-/// Opens a session. Takes a step for each element, and one where too many are there.
-fn join(replica: &Replica, outbox: &mut Sessions) -> Result<Reply, AllocError>
+/// Opens a session, with its way of counting. Takes a step for each element, and one where too many are there.
+fn join(replica: &Replica, outbox: &mut Sessions, units: bool) -> Result<Reply, AllocError>
     requires { outbox.old.next_number < 4294967295 }
-    ensures does { IfOk result (λ reply. Does replica.now outbox.old Join reply replica.now outbox.new) }
+    ensures does { IfOk result (λ reply. Does replica.now outbox.old (Join units) reply replica.now outbox.new) }
     ensures numbers { outbox.new.next_number ≤ outbox.old.next_number + 1 }
     ensures err { OnErr result (outbox.new ≡ outbox.old) }
     ensures memory { OnErr result (length outbox.old.sessions < 64) }
@@ -61,7 +65,7 @@ fn join(replica: &Replica, outbox: &mut Sessions) -> Result<Reply, AllocError>
     }
     let v = replica.version();
     let x = reading(replica.doc())?;
-    match outbox.join(v) {
+    match outbox.join(v, units) {
         Ok(s) => Ok(Reply::Joined { s, v, x }),
         Err(_) => Err(AllocError),
     }
@@ -86,10 +90,29 @@ fn insert(
     if let Some(reply) = reply_at_once(outbox, s, n, v) {
         return Ok(reply);
     }
-    accept(outbox, s, replica.submit_ins(v, k, x.as_str()))
+    let units = counts_units(outbox, s);
+    accept(outbox, s, submit_insertion(replica, units, v, k, x))
 }
 
-/// Deletes `c` characters from place `k` of version `v` on, as submission `n` of session `s` of this site.
+/// Puts `x` in at place `k` of version `v`, as the replica's own, where places count UTF-16 units, or else characters.
+fn submit_insertion(
+    replica: &mut Replica,
+    units: bool,
+    v: u32,
+    k: u32,
+    x: &Characters,
+) -> Result<(u32, u32), Refusal>
+    ensures { Carried (insertion_refusal_in units replica.old.log v k x.now) result replica.old
+        (asked_insertions_in units replica.old.log replica.old.site v k x.now) (length x.now) replica.new }
+{
+    if units {
+        replica.submit_ins_units(v, k, x.as_str())
+    } else {
+        replica.submit_ins(v, k, x.as_str())
+    }
+}
+
+/// Deletes what stands at `c` places from place `k` of version `v` on, as submission `n` of session `s` of this site.
 #[allow(clippy::too_many_arguments)]
 fn delete(
     replica: &mut Replica,
@@ -108,7 +131,34 @@ fn delete(
     if let Some(reply) = reply_at_once(outbox, s, n, v) {
         return Ok(reply);
     }
-    accept(outbox, s, replica.submit_del(v, k, c))
+    let units = counts_units(outbox, s);
+    accept(outbox, s, submit_deletion(replica, units, v, k, c))
+}
+
+/// Deletes what stands at `c` places from place `k` of version `v` on, as the replica's own, where places count UTF-16
+/// units, or else characters.
+fn submit_deletion(
+    replica: &mut Replica,
+    units: bool,
+    v: u32,
+    k: u32,
+    c: u32,
+) -> Result<(u32, u32), Refusal>
+    ensures { Carried (deletion_refusal_in units replica.old.log v k c) result replica.old
+        (asked_deletions_in units replica.old.log replica.old.site v k c) (element_count units replica.old.log v k c) replica.new }
+{
+    if units {
+        replica.submit_del_units(v, k, c)
+    } else {
+        replica.submit_del(v, k, c)
+    }
+}
+
+/// Whether the places of the session count UTF-16 units.
+fn counts_units(outbox: &Sessions, s: u32) -> bool
+    ensures { result ≡ counts_units s outbox.now }
+{
+    outbox.in_units(s).unwrap_or(false)
 }
 
 /// The reply to a submission that isn't the session's next one: why it is refused, or the kept reply.
@@ -156,10 +206,11 @@ fn pull(
     ensures err { OnErr result (outbox.new ≡ outbox.old) }
 {
     let version = replica.version();
+    let units = counts_units(outbox, s);
     let mut es = Vec::with_capacity(alloc, max.min(MAX_COUNT) as usize)?;
     match outbox.pull(s, have, max, version) {
         Ok((from, to)) => {
-            add_edits(replica.doc(), from, to, &mut es);
+            add_edits(replica.doc(), units, from, to, &mut es);
             let es = Edits::new(es);
             Ok(Reply::Edits { from, es })
         }
@@ -232,15 +283,28 @@ fn reading(doc: &Doc) -> Result<Characters, AllocError>
     }
 }
 
-/// Adds the edits that lead from one version to another, for which there is room.
-fn add_edits(doc: &Doc, from: u32, to: u32, es: &mut Vec<Edit>)
+/// Adds the edits that lead from one version to another, for which there is room, as places are counted.
+fn add_edits(doc: &Doc, units: bool, from: u32, to: u32, es: &mut Vec<Edit>)
     requires newest { to ≤ length doc.now.log }
     requires empty { es.old.items ≡ [] }
     requires room { to - from ≤ vec_capacity es.old }
-    ensures { es.new.items ≡ edits_between doc.now.log from to }
+    ensures { es.new.items ≡ edits_between_in units doc.now.log from to }
 {
     for version in from..to {
-        es.push_reserved(doc.edit(version + 1));
+        es.push_reserved(edit_in(doc, units, version + 1));
+    }
+}
+
+/// The edit of operation `n`, counted from 1, where places count UTF-16 units, or else characters.
+fn edit_in(doc: &Doc, units: bool, n: u32) -> Edit
+    requires first { 1 ≤ n }
+    requires last { n ≤ length doc.now.log }
+    ensures { slice_get (edits_in units doc.now.log) (n - 1) ≡ Some result }
+{
+    if units {
+        doc.edit_units(n)
+    } else {
+        doc.edit(n)
     }
 }
 

@@ -13,6 +13,7 @@ mod outcomes;
 mod owned;
 mod reply;
 mod room;
+mod unit_editor;
 
 pub use call::Call;
 pub use desk::{Desk, DeskFault};
@@ -24,4 +25,5 @@ pub use outcomes::Outcomes;
 pub use owned::RoomDesk;
 pub use reply::Reply;
 pub use room::Room;
+pub use unit_editor::UnitEditor;
 pub use versions::Characters;

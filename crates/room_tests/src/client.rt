@@ -22,7 +22,7 @@ impl Client {
     // Joins, and follows the reply.
     pub(crate) fn join(alloc: Global, desk: &mut RoomDesk) -> Result<Client, Fail> {
         let mut editor = Editor::new(alloc);
-        let reply = desk.call(Call::Join)?;
+        let reply = desk.call(Call::Join { units: false })?;
         editor.follow(&reply)?;
         let session = match &reply {
             Reply::Joined { s, v: _, x: _ } => *s,

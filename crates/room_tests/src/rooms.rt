@@ -16,8 +16,8 @@ fn inserts(alloc: Global, desk: &mut RoomDesk, s: u32, x: &str) -> Result<bool, 
 
 // Two sessions, each of which puts one character in at the start of the empty text.
 fn two_insert(alloc: Global, desk: &mut RoomDesk) -> Result<bool, Fail> {
-    let mut all = accepts(desk, Call::Join)?;
-    all &= accepts(desk, Call::Join)?;
+    let mut all = accepts(desk, Call::Join { units: false })?;
+    all &= accepts(desk, Call::Join { units: false })?;
     all &= inserts(alloc, desk, 1, "A")?;
     all &= inserts(alloc, desk, 2, "B")?;
     all &= reads(desk, 2, "BA")?;
@@ -55,7 +55,7 @@ fn refuses_insertion(
 // Insertions by no session, of the wrong number, of no text and outside the text.
 fn refuses_each(alloc: Global, desk: &mut RoomDesk) -> Result<bool, Fail> {
     let mut all = refuses_insertion(alloc, desk, 1, 0, "A", Refusal::NoSession)?;
-    all &= accepts(desk, Call::Join)?;
+    all &= accepts(desk, Call::Join { units: false })?;
     all &= refuses_insertion(alloc, desk, 2, 0, "A", Refusal::BadNumber)?;
     all &= refuses_insertion(alloc, desk, 1, 0, "", Refusal::BadText)?;
     all &= refuses_insertion(alloc, desk, 1, 1, "A", Refusal::BadPlace)?;
@@ -79,7 +79,7 @@ fn a_refused_call_is_recorded(rt: HostRuntime) -> Result<(), Fail> {
 fn repeated_insertion(alloc: Global) -> Result<Vec<Call>, Fail> {
     let first = insertion(alloc, 1, 1, 0, "\u{1F600}a")?;
     let second = insertion(alloc, 1, 1, 0, "b")?;
-    Ok(vec![in alloc; Call::Join, first, second, Call::Read]?)
+    Ok(vec![in alloc; Call::Join { units: false }, first, second, Call::Read]?)
 }
 
 fn is_text(reply: Option<&Reply>, version: u32, text: &str) -> bool {
@@ -114,9 +114,9 @@ fn runs_calls_in_turn(rt: HostRuntime) -> Result<(), Fail> {
 fn refuses_the_65th(desk: &mut RoomDesk) -> Result<bool, Fail> {
     let mut all = true;
     for _ in 0..64 {
-        all &= accepts(desk, Call::Join)?;
+        all &= accepts(desk, Call::Join { units: false })?;
     }
-    all &= refuses(desk, Call::Join, Refusal::TooManySessions)?;
+    all &= refuses(desk, Call::Join { units: false }, Refusal::TooManySessions)?;
     Ok(all)
 }
 
@@ -144,7 +144,7 @@ fn pulls(desk: &mut RoomDesk, edits: &[Edit]) -> Result<bool, Fail> {
 
 // Puts a character in and deletes it, and pulls after each.
 fn pulls_each(alloc: Global, desk: &mut RoomDesk) -> Result<bool, Fail> {
-    let mut all = accepts(desk, Call::Join)?;
+    let mut all = accepts(desk, Call::Join { units: false })?;
     all &= inserts(alloc, desk, 1, "a")?;
     all &= refuses(desk, pull(1), Refusal::BadHave)?;
     all &= pulls(desk, &[Edit::Ins(0, 'a')])?;
@@ -175,7 +175,7 @@ fn leaves(desk: &mut RoomDesk) -> Result<bool, Fail> {
 }
 
 fn leaves_once(desk: &mut RoomDesk) -> Result<bool, Fail> {
-    let mut all = accepts(desk, Call::Join)?;
+    let mut all = accepts(desk, Call::Join { units: false })?;
     all &= leaves(desk)?;
     all &= refuses(desk, Call::Leave { s: 1 }, Refusal::NoSession)?;
     Ok(all)
@@ -210,7 +210,7 @@ fn follows_insertion(
 
 // Puts `abc` in, pulls two of the three edits, puts `X` in behind the first, and pulls the rest.
 fn falls_behind(alloc: Global, desk: &mut RoomDesk, editor: &mut Editor) -> Result<bool, Fail> {
-    follows(desk, editor, Call::Join)?;
+    follows(desk, editor, Call::Join { units: false })?;
     follows_insertion(alloc, desk, editor, 1, 0, 0, "abc")?;
     follows(
         desk,

@@ -1,5 +1,5 @@
 -- What a session is answered: the checks of each call by cases, in their order, which is the server's own.
-use Rattle.std.specs.Prelude.{ℕ, ◌+◌, ◌==◌, ◌||◌, ◌&&◌, nat_lt, min, if◌then◌else◌, Option, Some, None, Result, Ok, Err, List, length}
+use Rattle.std.specs.Prelude.{ℕ, Bool, ◌+◌, ◌==◌, ◌||◌, ◌&&◌, nat_lt, min, if◌then◌else◌, Option, Some, None, Result, Ok, Err, List, length}
 use Rattle.opid.specs.declared.refusal.Refusal.{Refusal}
 use Rattle.opid.specs.declared.refusal.Refusal.TheVariants.{NoSession, TooManySessions, BadNumber, BadVersion, BadCount, BadHave, Memory}
 use Rattle.opid.specs.Limits.{is_bad_count}
@@ -24,6 +24,11 @@ pull_of (Some w) have max version =
     if is_bad_count max then Err BadCount else (
     if nat_lt have w.first || nat_lt w.sent have then Err BadHave else
     Ok (have, min (have + max) version))
+
+-- whether the places of this session count UTF-16 units
+abbrev pub units_of_session : Option Session → Result Bool Refusal
+units_of_session None = Err NoSession
+units_of_session (Some w) = Ok w.units
 
 -- why a join is refused: 64 sessions are there, or else memory was refused
 abbrev pub join_refusal : List Session → Refusal

@@ -1,8 +1,9 @@
 -- The sessions of a server's document in order of joining, and the changes of one of them. They are the server's own.
-use Rattle.std.specs.Prelude.{ℕ, ◌+◌, ◌<◌, ◌==◌, if◌then◌else◌, max, Option, MatchOption, List, [], ◌∷◌, ◌++◌, find}
+use Rattle.std.specs.Prelude.{ℕ, Bool, ◌+◌, ◌<◌, ◌==◌, if◌then◌else◌, max, Option, MatchOption, List, [], ◌∷◌, ◌++◌, find}
 
 -- a session: its number, the version that it joined at, the newest one that it was sent, the number of its last accepted
--- submission (0: none), and the kept reply to that one: the versions that it led from and to
+-- submission (0: none), the kept reply to that one: the versions that it led from and to, and whether its places count
+-- UTF-16 units
 pub record Session : Type 0 where
   pub number : ℕ
   pub first : ℕ
@@ -10,6 +11,7 @@ pub record Session : Type 0 where
   pub last : ℕ
   pub start : ℕ
   pub end : ℕ
+  pub units : Bool
 
 -- the sessions in order of joining, and the number that the next one gets
 pub record Outbox : Type 0 where
@@ -39,9 +41,10 @@ abbrev pub AreNumbered : ℕ → ℕ → List Session → Type 0
 AreNumbered low next [] = low < next
 AreNumbered low next (w ∷ ws) = (low < w.number) × AreNumbered w.number next ws
 
--- a session that joins at a version
-abbrev pub joined : ℕ → ℕ → Session
-joined number version = record { number = number; first = version; sent = version; last = 0; start = 0; end = 0 }
+-- a session that joins at a version, with its way of counting
+abbrev pub joined : ℕ → ℕ → Bool → Session
+joined number version units =
+    record { number = number; first = version; sent = version; last = 0; start = 0; end = 0; units = units }
 
 -- its next submission is accepted, and leads from a version to a version
 abbrev pub submitted : ℕ → ℕ → Session → Session
@@ -55,10 +58,10 @@ sent_to to w = record w { sent = max w.sent to }
 abbrev pub empty_outbox : Outbox
 empty_outbox = record { sessions = []; next_number = 1 }
 
--- a session joins at a version: it stands last, and its number is not given again
-abbrev pub after_join : ℕ → Outbox → Outbox
-after_join version S = record {
-  sessions = S.sessions ++ joined S.next_number version ∷ [];
+-- a session joins at a version, with its way of counting: it stands last, and its number is not given again
+abbrev pub after_join : ℕ → Bool → Outbox → Outbox
+after_join version units S = record {
+  sessions = S.sessions ++ joined S.next_number version units ∷ [];
   next_number = S.next_number + 1;
 }
 

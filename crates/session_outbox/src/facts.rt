@@ -19,6 +19,8 @@ pub(crate) struct Facts {
     pub(crate) start: u32,
     /// The version that it led to.
     pub(crate) end: u32,
+    /// Whether its places count UTF-16 units.
+    pub(crate) units: bool,
 }
 
 impl Facts {

@@ -6,7 +6,7 @@ ghost use Rattle.opid.specs.declared.refusal.Refusal.TheVariants.{NoSession};
 ghost use Rattle.session_outbox.specs.declared.submission.Submission.TheVariants.{New};
 ghost use Rattle.session_outbox.specs.Sessions.{session_with, change_session, without_session, MayAccept, AreNumbered, empty_outbox};
 ghost use Rattle.session_outbox.specs.Sessions.{after_join, after_leave, after_accept, after_pull};
-ghost use Rattle.session_outbox.specs.Answers.{submission_of, pull_of, join_refusal};
+ghost use Rattle.session_outbox.specs.Answers.{submission_of, pull_of, units_of_session, join_refusal};
 ghost use Rattle.session_outbox.specs.Kept.{sessions_of, session_of};
 
 use crate::facts::Facts;
@@ -80,14 +80,15 @@ impl Sessions {
         }
     }
 
-    /// Takes in a session at this version of the document, and gives its number: they go up by one, and none is given
-    /// twice, so fewer than 4,294,967,295 may have been given before. A look-up, and memory where the table grows.
+    /// Takes in a session at this version of the document, whose places count UTF-16 units, or else characters, and gives
+    /// its number: they go up by one, and none is given twice, so fewer than 4,294,967,295 may have been given before. A
+    /// look-up, and memory where the table grows.
     /// Refused with `TooManySessions` where 64 are there, and with `Memory` where memory was refused.
-    pub fn join(&mut self, version: u32) -> Result<u32, Refusal>
+    pub fn join(&mut self, version: u32, units: bool) -> Result<u32, Refusal>
         requires { self.old.next_number ≤ u32.MAX }
         ensures number { IfOk result (λ s. s ≡ self.old.next_number) }
         ensures fresh { IfOk result (λ s. session_with s self.old.sessions ≡ None) }
-        ensures next { OnOk result (self.new ≡ after_join version self.old) }
+        ensures next { OnOk result (self.new ≡ after_join version units self.old) }
         ensures within { OnOk result (length self.old.sessions < 64) }
         ensures cause { IfErr result (λ e. e ≡ join_refusal self.old.sessions) }
         ensures err { OnErr result (self.new ≡ self.old) }
@@ -102,6 +103,7 @@ impl Sessions {
             last: 0,
             start: 0,
             end: 0,
+            units,
         };
         self.facts.insert(number, facts)?;
         self.next_number += 1;
@@ -170,6 +172,16 @@ impl Sessions {
         let sent = facts.sent.max(to);
         replace(&mut self.facts, s, Facts { sent, ..facts });
         Ok((from, to))
+    }
+
+    /// Whether the session's places count UTF-16 units, as it said when it joined. Refused with `NoSession`. A look-up.
+    pub fn in_units(&self, s: u32) -> Result<bool, Refusal>
+        ensures { result ≡ units_of_session (session_with s self.now.sessions) }
+    {
+        match facts_with(&self.facts, s) {
+            Some(facts) => Ok(facts.units),
+            None => Err(Refusal::NoSession),
+        }
     }
 
     /// How many sessions are there. Takes one step.

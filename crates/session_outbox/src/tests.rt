@@ -10,7 +10,7 @@ fn joins(sessions: &mut Sessions, sent: u32, number: u32) -> Result<bool, Fail>
     requires { sessions.old.next_number ≤ 65 }
     ensures { sessions.new.next_number ≤ sessions.old.next_number + 1 }
 {
-    Ok(sessions.join(sent)? == number)
+    Ok(sessions.join(sent, false)? == number)
 }
 
 fn joins_up_to_64(sessions: &mut Sessions) -> Result<bool, Fail>
@@ -29,7 +29,7 @@ fn refuses_the_65th(sessions: &mut Sessions) -> bool
     requires { sessions.old.next_number ≤ 65 }
     ensures { sessions.new.next_number ≤ 66 }
 {
-    let refused = sessions.join(0).err() == Some(Refusal::TooManySessions);
+    let refused = sessions.join(0, false).err() == Some(Refusal::TooManySessions);
     refused && sessions.is_full() && sessions.len() == 64
 }
 
@@ -167,5 +167,30 @@ fn a_pull_at_the_last_version(rt: HostRuntime) -> Result<(), Fail> {
     let mut sessions = Sessions::new(rt.alloc());
     let joined = joins(&mut sessions, u32::MAX, 1)?;
     assert!(rt; joined && pulls(&mut sessions, u32::MAX, 64, u32::MAX, (u32::MAX, u32::MAX))?);
+    Ok(())
+}
+
+// Whether both sessions still count as they said: the first in UTF-16 units, the second in characters.
+fn count_as_they_joined(sessions: &Sessions) -> Result<bool, Fail> {
+    Ok(sessions.in_units(1)? && !sessions.in_units(2)?)
+}
+
+fn keeps_its_count(sessions: &mut Sessions) -> Result<bool, Fail>
+    requires { sessions.old.next_number ≤ 1 }
+{
+    let joined = sessions.join(4, true)? == 1;
+    let mut all = joined & joins(sessions, 4, 2)? & count_as_they_joined(sessions)?;
+    all &= answers(sessions, 1, 4, (4, 7), (4, 7))?;
+    all &= pulls(sessions, 4, 2, 7, (4, 6))?;
+    all &= count_as_they_joined(sessions)?;
+    sessions.leave(1)?;
+    all &= sessions.in_units(1).err() == Some(Refusal::NoSession);
+    Ok(all & !sessions.in_units(2)?)
+}
+
+#[test]
+fn a_session_keeps_its_way_of_counting(rt: HostRuntime) -> Result<(), Fail> {
+    let mut sessions = Sessions::new(rt.alloc());
+    assert!(rt; keeps_its_count(&mut sessions)?);
     Ok(())
 }

@@ -53,7 +53,7 @@ fn joins<R: Wait>(rt: &R, room: &SharedRoom, ticket: Ticket, pass: &mut Pass) ->
 {
     let hold = room.lock.enter(rt, ticket, &mut pass.pass);
     let number = hold.ticket();
-    match room.make(hold, pass, Call::Join) {
+    match room.make(hold, pass, Call::Join { units: false }) {
         Ok(_) => Some(number),
         Err(_) => None,
     }
@@ -184,7 +184,7 @@ fn a_worn_pass_waits_for_nobody(rt: HostRuntime) -> Result<(), Fail> {
 fn is_alone(room: &SharedRoom, pass: &mut Pass) -> bool
     requires { IsPassOf room.now pass.old }
 {
-    let mut all = room.try_call(pass, Call::Join).is_ok();
+    let mut all = room.try_call(pass, Call::Join { units: false }).is_ok();
     all &= room.try_call(pass, Call::Read).is_ok();
     let left = pass.left();
     all &= room.split(pass, u64::MAX).is_err();
@@ -269,5 +269,5 @@ fn is_joined(room: &SharedRoom, pass: &mut Pass) -> bool
     requires { IsPassOf room.now pass.old }
     ensures { IsPassOf room.now pass.new }
 {
-    room.try_call(pass, Call::Join).is_ok()
+    room.try_call(pass, Call::Join { units: false }).is_ok()
 }

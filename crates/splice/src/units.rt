@@ -1,5 +1,5 @@
 //! A text that edits in UTF-16 code units are applied to.
-ghost use Rattle.std.specs.Prelude.{◌≡◌, ◌↔◌, ◌+◌, ◌≤◌, ◌++◌, true, take, drop, Some, None, IfOk, OnOk, OnErr, IfErr, Err, length};
+ghost use Rattle.std.specs.Prelude.{◌≡◌, ◌↔◌, ◌+◌, ◌≤◌, ◌++◌, [], true, take, drop, Some, None, IfOk, OnOk, OnErr, IfErr, Err, length};
 ghost use Rattle.std.specs.Str.{chars};
 ghost use Rattle.opid.specs.declared.refusal.Refusal.TheVariants.{BadPlace, Memory};
 ghost use Rattle.opid.specs.Units.{units_of, text_in};
@@ -25,6 +25,15 @@ impl Model for UnitText {
 }
 
 impl UnitText {
+    /// The empty text. Takes no memory.
+    pub fn new(alloc: Global) -> UnitText
+        ensures { result ≡ [] }
+    {
+        UnitText {
+            units: Vec::new(alloc),
+        }
+    }
+
     /// The empty text after one insertion of `start` at 0. Linear in its length. Refused with `Memory` alone.
     pub fn start(alloc: Global, start: &str) -> Result<UnitText, Refusal>
         ensures ok { IfOk result (λ t. t ≡ text_in true (chars start.now)) }

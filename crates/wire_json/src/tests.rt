@@ -10,7 +10,11 @@ fn refusal(alloc: Global, bytes: &[u8]) -> Option<Refusal> {
 }
 
 fn is_join(alloc: Global, bytes: &[u8]) -> bool {
-    matches!(&read_request(alloc, bytes), Ok(Call::Join))
+    matches!(&read_request(alloc, bytes), Ok(Call::Join { units: false }))
+}
+
+fn is_join_in_units(alloc: Global, bytes: &[u8]) -> bool {
+    matches!(&read_request(alloc, bytes), Ok(Call::Join { units: true }))
 }
 
 fn is_read(alloc: Global, bytes: &[u8]) -> bool {
@@ -59,6 +63,33 @@ fn reads_a_join_a_read_and_an_insertion(rt: HostRuntime) -> Result<(), Fail> {
         _ => assert!(rt; false),
     }
     Ok(())
+}
+
+#[test]
+fn a_join_tells_how_its_places_are_counted(rt: HostRuntime) {
+    let alloc = rt.alloc();
+    for bytes in [
+        b"{\"t\":\"join\",\"u\":16}".as_slice(),
+        b"{\"u\":16,\"t\":\"join\"}",
+        b"{\"t\":\"join\",\"u\":8,\"u\":16}",
+    ] {
+        assert!(rt; is_join_in_units(alloc, bytes));
+    }
+    for bytes in [
+        b"{\"t\":\"join\",\"u\":8}".as_slice(),
+        b"{\"t\":\"join\",\"u\":null}",
+        b"{\"t\":\"join\",\"u\":\"16\"}",
+        b"{\"t\":\"join\",\"u\":16.0}",
+        b"{\"t\":\"join\",\"u\":1.6e1}",
+        b"{\"t\":\"join\",\"u\":-16}",
+        b"{\"t\":\"join\",\"u\":4294967312}",
+        b"{\"t\":\"join\",\"u\":[16]}",
+        b"{\"t\":\"join\",\"u\":true}",
+        b"{\"t\":\"join\",\"u\":16,\"u\":32}",
+        b"{\"t\":\"read\",\"u\":16}",
+    ] {
+        assert_eq!(rt; refusal(alloc, bytes), Some(Refusal::BadField));
+    }
 }
 
 #[test]

@@ -40,7 +40,7 @@ fn opens<R: Wait>(rt: &R, room: &SharedRoom, pass: &mut Pass) -> Option<(u32, u3
     requires { IsPassOf room.now pass.old }
     ensures { IsPassOf room.now pass.new }
 {
-    match room.call(rt, pass, Call::Join) {
+    match room.call(rt, pass, Call::Join { units: false }) {
         Ok(Reply::Joined { s, v, x: _ }) => Some((s, v)),
         _ => None,
     }
@@ -204,8 +204,8 @@ fn call_and_meet<R: Wait>(
 {
     let first = insertion(alloc, 1, "a")?;
     let second = insertion(alloc, 2, "b")?;
-    let mut all = room.call(rt, a, Call::Join).is_ok();
-    all &= room.call(rt, b, Call::Join).is_ok();
+    let mut all = room.call(rt, a, Call::Join { units: false }).is_ok();
+    all &= room.call(rt, b, Call::Join { units: false }).is_ok();
     all &= room.call(rt, a, first).is_ok();
     all &= room.call(rt, b, second).is_ok();
     Ok(all && meet_and_tell(rt, room, a, b))

@@ -11,7 +11,7 @@ invariant_of-self-2 c =
     (sym (ap sessions_of c.in_ok-insert.ensures.entries ∙ inserted 0 c.self.inside.next_number _ c.self.inside.facts.entries
     c.self.invariant))
     (numbered-joined 0 c.self.inside.next_number (sessions_of c.self.inside.facts.entries)
-    (joined c.self.inside.next_number c.args.version) refl c.self.invariant)
+    (joined c.self.inside.next_number c.args.version c.args.units) refl c.self.invariant)
 
 pub returns-clause-fresh : goal.returns-clause-fresh
 returns-clause-fresh c =
@@ -23,4 +23,4 @@ returns-clause-next c =
     ap (λ (ws : List Session). let T : Outbox = record { sessions = ws; next_number = c.self.inside.next_number + 1 } in T)
     (ap sessions_of c.in_ok-insert.ensures.entries ∙ inserted 0 c.self.inside.next_number _ c.self.inside.facts.entries
     c.self.invariant)
-    ∙ ap (after_join c.args.version) c.self.view_is
+    ∙ ap (after_join c.args.version c.args.units) c.self.view_is

@@ -1,0 +1,99 @@
+//! An editor of a session whose places count UTF-16 units, as the author of a client would write it.
+ghost use Rattle.std.specs.Prelude.{◌≡◌, ◌+◌, ◌<◌, ◌≤◌, ◌^◌, ◌⊎◌, ℕ, true, Some, None, length, take, IfErr, OnOk, OnErr};
+ghost use Rattle.opid.specs.declared.refusal.Refusal.TheVariants.{BadPlace, Memory};
+ghost use Rattle.opid.specs.Splice.{play_in};
+ghost use Rattle.room.specs.Editor.{empty_editor, with_reply_in, FollowsPart_in};
+
+use crate::reply::Reply;
+use opid::{Edit, Refusal};
+use splice::UnitText;
+use std::alloc::Global;
+use std::marker::Model;
+
+/// The text, in UTF-16 units, and the version that an editor makes of the replies of a session that joined so, in whatever
+/// order and however often they come.
+#[derive(Debug, Drop)]
+pub struct UnitEditor {
+    alloc: Global,
+    text: UnitText,
+    version: u64,
+}
+
+impl Model for UnitEditor {
+    ghost use Rattle.room.specs.Editor.{Editor};
+
+    ghost Value = { Editor };
+
+    ghost view = { λ e. record { text = e.text; version = e.version } };
+}
+
+impl UnitEditor {
+    /// An editor of the empty text at version 0. Takes no memory.
+    pub fn new(alloc: Global) -> UnitEditor
+        ensures { result ≡ empty_editor }
+    {
+        UnitEditor {
+            alloc,
+            text: UnitText::new(alloc),
+            version: 0,
+        }
+    }
+
+    /// The text, in UTF-16 units. Constant time.
+    pub fn text(&self) -> &UnitText
+        ensures { result.now ≡ self.now.text }
+    {
+        &self.text
+    }
+
+    /// The version that the text is of. Constant time.
+    pub fn version(&self) -> u64
+        ensures { result ≡ self.now.version }
+    {
+        self.version
+    }
+
+    /// Plays a reply of the editor's session: a joined one gives the text and the version, edits that lead on from the
+    /// editor's version are played, and all else changes nothing. Linear in the text for each edit.
+    ///
+    /// Refused with `BadPlace` where an edit is none of the text, which no reply to such a session has, and with `Memory`. Then
+    /// a beginning of its edits was played, and the version is theirs: the editor is in step with its room still, and
+    /// pulls again from there.
+    pub fn follow(&mut self, reply: &Reply) -> Result<(), Refusal>
+        ensures ok { OnOk result (with_reply_in true reply.now self.old ≡ Some self.new) }
+        ensures cause { IfErr result (λ e. ((e ≡ BadPlace) × (with_reply_in true reply.now self.old ≡ None)) ⊎ (e ≡ Memory)) }
+        ensures err { OnErr result (FollowsPart_in true reply.now self.old self.new) }
+    {
+        match reply {
+            Reply::Joined { s: _, v, x } => {
+                self.text = UnitText::start(self.alloc, x.as_str())?;
+                self.version = u64::from(*v);
+                Ok(())
+            }
+            Reply::Edits { from, es } => {
+                if u64::from(*from) != self.version {
+                    return Ok(());
+                }
+                play_each(&mut self.text, &mut self.version, es.as_slice())
+            }
+            _ => Ok(()),
+        }
+    }
+}
+
+/// Plays edits one after another, and counts them.
+fn play_each(text: &mut UnitText, version: &mut u64, es: &[Edit]) -> Result<(), Refusal>
+    requires { version.old < 2 ^ 32 }
+    ensures ok { OnOk result ((play_in true text.old es.now ≡ Some text.new) × (version.new ≡ version.old + length es.now)) }
+    ensures cause { IfErr result (λ e. ((e ≡ BadPlace) × (play_in true text.old es.now ≡ None)) ⊎ (e ≡ Memory)) }
+    ensures err { OnErr result ((n : ℕ) × (n ≤ length es.now) × (play_in true text.old (take n es.now) ≡ Some text.new)
+        × (version.new ≡ version.old + n)) }
+{
+    for edit in es {
+        match text.apply_units(edit) {
+            Ok(()) => *version += 1,
+            Err(why) => return Err(why),
+        }
+    }
+    Ok(())
+}
