@@ -4,20 +4,22 @@ import json
 import random
 
 LETTERS = "abcdefghijklmnopqrstuvwxyz     "
+PAIRS = "\U0001f600\U00010000\U0010ffff"  # each of two UTF-16 units
 
 
 def request(**fields):
     return json.dumps(fields, separators=(",", ":"))
 
 
-def one_editor(count, place, length):
+def one_editor(count, place, length, chars=LETTERS, **counts):
     """An editor that inserts until `count` characters stand, and pulls each insertion at once."""
     dice = random.Random(1)
-    lines, version, number = [request(t="join")], 0, 1
+    width = 2 if counts and chars is PAIRS else 1
+    lines, version, number = [request(t="join", **counts)], 0, 1
     while version < count:
         size = min(length(dice), count - version)
-        text = "".join(dice.choices(LETTERS, k=size))
-        lines.append(request(t="ins", s=1, n=number, v=version, k=place(dice, version), x=text))
+        text = "".join(dice.choices(chars, k=size))
+        lines.append(request(t="ins", s=1, n=number, v=version, k=width * place(dice, version), x=text))
         lines.append(request(t="pull", s=1, have=version, max=64))
         version += size
         number += 1
@@ -29,9 +31,9 @@ def typing(count):
     return one_editor(count, lambda dice, version: version, lambda dice: 1)
 
 
-def places(count):
-    """One character at a time, at random places."""
-    return one_editor(count, lambda dice, version: dice.randint(0, version), lambda dice: 1)
+def places(count, chars=LETTERS, **counts):
+    """One character at a time, at random places, which are counted in UTF-16 units with u=16."""
+    return one_editor(count, lambda dice, version: dice.randint(0, version), lambda dice: 1, chars, **counts)
 
 
 def runs(count):
