@@ -228,7 +228,9 @@ fn work<R: Threads + Wait + Clock + Sync>(
     requires { IsPassOf ends.now.from.now a.old × IsPassOf ends.now.to.now b.old }
     ensures { IsPassOf ends.now.from.now a.new × IsPassOf ends.now.to.now b.new }
 {
-    if ends.from.call(rt, a, Call::Join { units: false }).is_err() || ends.to.call(rt, b, Call::Join { units: false }).is_err() {
+    if ends.from.call(rt, a, Call::Join { units: false }).is_err()
+        || ends.to.call(rt, b, Call::Join { units: false }).is_err()
+    {
         return false;
     }
     let Some(typing) = pair_of(ends, a, b, draws) else {
