@@ -117,8 +117,8 @@ impl VersionTree {
     }
 
     /// Appends the elements that a version shows, in order, by one pass over its tree: at most a step for each of its elements,
-    /// and at most twice as many steps for each that is shown as the number of all has binary digits. Refused memory leaves a
-    /// beginning of them there.
+    /// and at most twice as many steps for each that is shown as the number of all has binary digits. Where memory is refused
+    /// nothing is appended.
     pub fn push_shown(
         &self,
         version: usize,
@@ -127,6 +127,7 @@ impl VersionTree {
     ) -> Result<(), AllocError>
         requires { version < length self.now.lists }
         ensures shown { OnOk result (into.new.items ≡ into.old.items ++ visible (version_list self.now version)) }
+        ensures err { OnErr result (into.new.items ≡ into.old.items) }
         ensures cost { steps.new ≤ steps.old + length (version_list self.now version) }
         ensures few { steps.new ≤ steps.old
             + length (visible (version_list self.now version)) * (2 * digits (length (version_list self.now version))) }
@@ -134,7 +135,8 @@ impl VersionTree {
         let root = root_of(self.roots.as_slice(), version);
         let shown = summary_at(&self.nodes, root).shown;
         into.reserve(shown as usize)?;
-        push_shown_in(&self.nodes, root, shown, into, steps)
+        push_shown_in(&self.nodes, root, shown, into, steps);
+        Ok(())
     }
 
     /// How many elements a version shows. Constant time.
