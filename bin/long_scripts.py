@@ -86,7 +86,7 @@ def random_event(dice, played):
         size = dice.choice([1] * 20 + [2] * 10 + [3] * 10 + [0, 65])
         text = "".join(dice.choices(CHARACTERS, k=size))
         return played.call(site, t="ins", s=s, n=n, v=v, k=dice.randint(0, length + dice.choice([0] * 20 + [1])), x=text)
-    k, c = dice.randint(0, length), dice.choice([1] * 12 + [2] * 6 + [0, 65])
+    k, c = dice.randint(0, length), dice.choice([1] * 9 + [2] * 4 + [3, 5, 8, 13, 64] + [0, 65])
     return played.call(site, t="del", s=s, n=n, v=v, k=min(k, max(0, length - c + dice.choice([0] * 20 + [1]))), c=c)
 
 
