@@ -13,7 +13,7 @@ use Rattle.room.specs.declared.call.Call.{Call}
 use Rattle.room.specs.declared.reply.Reply.{Reply}
 use Rattle.room.specs.declared.reply.Reply.TheVariants as replies
 use Rattle.room.specs.Machine.{State, Finding, check, first_of, accepted_answer, accepted_next, found_answer, found_next}
-use Rattle.room.specs.Parts.{state_with, Does, reply_at_once, Carried, Accepts}
+use Rattle.room.specs.Parts.{state_with, Does, reply_at_once, Submits, Accepts}
 
 -- what a call is found to be tells what it is answered, and what it does
 found : (S : State) (c : Call) (f : Finding) (reply : Reply) (T : State) → check S c ≡ f → reply ≡ found_answer S c f → T ≡ found_next S c f
@@ -37,7 +37,7 @@ pub carries : (r : Option Refusal) (result : Result (ℕ × ℕ) Refusal) (R : R
     (T : ReplicaState)
     → IfOk result (λ p. p ≡ (length R.log, length R.log + n)) → OnOk result (r ≡ None)
     → OnOk result (T ≡ record R { log = R.log ++ more; room = room }) → IfErr result (λ e. (r ≡ Some e) ⊎ ((r ≡ None) × (e ≡ Memory)))
-    → OnErr result (T ≡ R) → Carried r result R more n T
+    → OnErr result (T ≡ R) → Submits r result R more n T
 carries r (Ok p) R more n room T a b c d e = (b, a, λ count outbox. ap (λ (q : ReplicaState). state_with q outbox count) c)
 carries r (Err w) R more n room T a b c d e = (d, e)
 
@@ -48,13 +48,13 @@ pub carried : (R : ReplicaState) (outbox : Outbox) (c : Call) (f : Finding) (r :
     → ((count : ℕ) → accepted_answer (state_with R outbox count) c ≡ replies.Ok (length R.log) (length R.log + n))
     → ((count : ℕ) → accepted_next (state_with R outbox count) c
     ≡ state_with (record R { log = R.log ++ more }) (after_accept s (length R.log) (length R.log + n) outbox) count)
-    → None ≡ reply_at_once f → Carried r submitted R more n T → Accepts s submitted outbox result outbox'
+    → None ≡ reply_at_once f → Submits r submitted R more n T → Accepts s submitted outbox result outbox'
     → IfOk result (λ reply. Does R outbox c reply T outbox')
 carried R outbox c f r s more n submitted T result outbox' e a t h k w = go f r submitted result e h k w
   where
     go : (f : Finding) (r : Option Refusal) (submitted : Result (ℕ × ℕ) Refusal) (result : Result Reply AllocError)
         → ((count : ℕ) → check (state_with R outbox count) c ≡ first_of f r)
-        → None ≡ reply_at_once f → Carried r submitted R more n T → Accepts s submitted outbox result outbox'
+        → None ≡ reply_at_once f → Submits r submitted R more n T → Accepts s submitted outbox result outbox'
         → IfOk result (λ reply. Does R outbox c reply T outbox')
     go (Err x) r submitted result e h k w = cc
     go (Ok (Repeat x y)) r submitted result e h k w = cc

@@ -30,12 +30,12 @@ reply_at_once (Err e) = Some (replies.No e)
 reply_at_once (Ok (Repeat start end)) = Some (replies.Ok start end)
 reply_at_once (Ok New) = None
 
--- What the operations of a submission did, or why there are none: so many elements, for which these operations go
--- behind the log.
-abbrev pub Carried : Option Refusal → Result (ℕ × ℕ) Refusal → ReplicaState → List Operation → ℕ → ReplicaState → Type 0
-Carried r (Ok p) R more n T = (r ≡ None) × (p ≡ (length R.log, length R.log + n))
+-- A submission went to the replica: these operations for so many elements stand behind its log, and the versions that this led
+-- from and to are told; or why it is refused, and nothing has changed.
+abbrev pub Submits : Option Refusal → Result (ℕ × ℕ) Refusal → ReplicaState → List Operation → ℕ → ReplicaState → Type 0
+Submits r (Ok p) R more n T = (r ≡ None) × (p ≡ (length R.log, length R.log + n))
     × ((count : ℕ) (outbox : Outbox) → state_with T outbox count ≡ state_with (record R { log = R.log ++ more }) outbox count)
-Carried r (Err e) R more n T = ((r ≡ Some e) ⊎ ((r ≡ None) × (e ≡ Memory))) × (T ≡ R)
+Submits r (Err e) R more n T = ((r ≡ Some e) ⊎ ((r ≡ None) × (e ≡ Memory))) × (T ≡ R)
 
 -- session s's next submission led from a version to a version, or was refused, or found no memory
 abbrev pub Accepts : ℕ → Result (ℕ × ℕ) Refusal → Outbox → Result Reply AllocError → Outbox → Type 0

@@ -12,7 +12,7 @@ ghost use Rattle.session_outbox.specs.Sessions.{Outbox, session_with, MayAccept}
 ghost use Rattle.session_outbox.specs.Answers.{submission_of};
 ghost use Rattle.room.specs.declared.call.Call.TheVariants.{Join, Ins, Del, Pull, Leave, Ops, Put, Read};
 ghost use Rattle.room.specs.Machine.{counts_units, edits_between_in};
-ghost use Rattle.room.specs.Parts.{Does, reply_at_once, Carried, Accepts, IsHandedOver};
+ghost use Rattle.room.specs.Parts.{Does, reply_at_once, Submits, Accepts, IsHandedOver};
 
 use crate::call::Call;
 use crate::edits::Edits;
@@ -102,7 +102,7 @@ fn submit_insertion(
     k: u32,
     x: &Characters,
 ) -> Result<(u32, u32), Refusal>
-    ensures { Carried (insertion_refusal_in units replica.old.log v k x.now) result replica.old
+    ensures { Submits (insertion_refusal_in units replica.old.log v k x.now) result replica.old
         (asked_insertions_in units replica.old.log replica.old.site v k x.now) (length x.now) replica.new }
 {
     if units {
@@ -144,7 +144,7 @@ fn submit_deletion(
     k: u32,
     c: u32,
 ) -> Result<(u32, u32), Refusal>
-    ensures { Carried (deletion_refusal_in units replica.old.log v k c) result replica.old
+    ensures { Submits (deletion_refusal_in units replica.old.log v k c) result replica.old
         (asked_deletions_in units replica.old.log replica.old.site v k c) (element_count units replica.old.log v k c) replica.new }
 {
     if units {

@@ -70,7 +70,7 @@ impl UnitText {
         }
     }
 
-    // The code units of the character in front of the place.
+    // Puts in the code units of the character at the place.
     fn put(&mut self, place: usize, ch: char) -> Result<(), Refusal>
         requires { place ≤ length self.old }
         ensures ok { OnOk result (self.new ≡ take place self.old ++ (units_of ch ++ drop place self.old)) }
@@ -84,7 +84,7 @@ impl UnitText {
         Ok(())
     }
 
-    // So many code units from the place on.
+    // Takes out so many code units from the place on.
     fn take_out(&mut self, place: usize, width: u8)
         requires { place + width ≤ length self.old }
         ensures { self.new ≡ take place self.old ++ drop (place + width) self.old }

@@ -5,7 +5,7 @@ use Rattle.session_outbox.specs.Sessions.{session_with}
 use Rattle.session_outbox.specs.Answers.{submission_of}
 use Rattle.room.specs.declared.call.Call.TheVariants.{Del}
 use Rattle.room.specs.Machine.{counts_units}
-use Rattle.room.specs.Parts.{Carried}
+use Rattle.room.specs.Parts.{Submits}
 use Rattle.room.proofs.Replied.{at_once, carried}
 use Rattle.room.proofs.calls.delete.Goals as goal
 
@@ -26,7 +26,7 @@ returns-clause-does c =
     (element_count units c.args.replica.now.log c.args.v c.args.k c.args.c)
     c.submit_deletion.result c.submit_deletion.new.replica c.accept.result c.accept.new.outbox
     (λ _. refl) (λ _. refl) (λ _. refl) (sym c.in_default.is ∙ c.reply_at_once.ensures.reply)
-    (subst (λ u. Carried (deletion_refusal_in u c.args.replica.now.log c.args.v c.args.k c.args.c) c.submit_deletion.result
+    (subst (λ u. Submits (deletion_refusal_in u c.args.replica.now.log c.args.v c.args.k c.args.c) c.submit_deletion.result
     c.args.replica.now (asked_deletions_in u c.args.replica.now.log c.args.replica.now.site c.args.v c.args.k c.args.c)
     (element_count u c.args.replica.now.log c.args.v c.args.k c.args.c) c.submit_deletion.new.replica)
     c.counts_units-units.ensures c.submit_deletion.ensures) c.accept.ensures

@@ -5,7 +5,7 @@ use Rattle.session_outbox.specs.Sessions.{session_with}
 use Rattle.session_outbox.specs.Answers.{submission_of}
 use Rattle.room.specs.declared.call.Call.TheVariants.{Ins}
 use Rattle.room.specs.Machine.{counts_units}
-use Rattle.room.specs.Parts.{Carried}
+use Rattle.room.specs.Parts.{Submits}
 use Rattle.room.proofs.Replied.{at_once, carried}
 use Rattle.room.proofs.calls.insert.Goals as goal
 
@@ -25,6 +25,6 @@ returns-clause-does c =
     (asked_insertions_in units c.args.replica.now.log c.args.replica.now.site c.args.v c.args.k c.args.x.now)
     (length c.args.x.now) c.submit_insertion.result c.submit_insertion.new.replica c.accept.result c.accept.new.outbox
     (λ _. refl) (λ _. refl) (λ _. refl) (sym c.in_default.is ∙ c.reply_at_once.ensures.reply)
-    (subst (λ u. Carried (insertion_refusal_in u c.args.replica.now.log c.args.v c.args.k c.args.x.now) c.submit_insertion.result
+    (subst (λ u. Submits (insertion_refusal_in u c.args.replica.now.log c.args.v c.args.k c.args.x.now) c.submit_insertion.result
     c.args.replica.now (asked_insertions_in u c.args.replica.now.log c.args.replica.now.site c.args.v c.args.k c.args.x.now)
     (length c.args.x.now) c.submit_insertion.new.replica) c.counts_units-units.ensures c.submit_insertion.ensures) c.accept.ensures
