@@ -83,7 +83,7 @@ edits_no_float (Del k ∷ es) = edits_no_float es
 edits_no_float (DelUnits k w ∷ es) = edits_no_float es
 edits_no_float (Nop ∷ es) = edits_no_float es
 
-item_no_float : (x : Operation) (kind : OpKind) (cs : List ℕ) → has_float (item_data_of (record x { kind = kind }) cs) ≡ false
+pub item_no_float : (x : Operation) (kind : OpKind) (cs : List ℕ) → has_float (item_data_of (record x { kind = kind }) cs) ≡ false
 item_no_float x kind [] = op_no_float (record x { kind = kind })
 item_no_float x (kinds.Ins None c) (d ∷ cs) = op_no_float (record x { kind = kinds.Ins None c })
 item_no_float x (kinds.Ins (Some p) c) (d ∷ cs) = op_no_float (record x { kind = kinds.Ins (Some p) c })

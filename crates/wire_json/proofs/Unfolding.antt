@@ -1,15 +1,20 @@
 -- Unfolding items one after another, as loops do.
-use Rattle.std.proofs.Common.{◌≡◌, ◌+◌, ◌<◌, ◌≤◌, ℕ, zero, suc, List, [], ◌∷◌, ◌++◌, length, take, drop, get_or, Result, Ok, Err, refl}
+use Rattle.std.proofs.Common.{◌≡◌, ◌+◌, ◌<◌, ◌≤◌, ℕ, zero, suc, List, [], ◌∷◌, ◌++◌, length, take, drop, get_or, Result, Ok, Err, refl, sum}
+use Rattle.std.proofs.Common.{Bool, true, false, cond}
+use Rattle.std.specs.Prelude.{nat_le}
 use Rattle.std.proofs.Common.{sym, ap, ◌∙◌, arith, append_assoc, add-one, drop-cons}
 use Rattle.std.proofs.lemmas.List.{append-nil, drop_all, take_all, length-append, length-take}
 use Rattle.std.proofs.Math.Seq.{take-append_seam}
+use Rattle.serde_json.specs.Data.{Data}
 use Rattle.opid.specs.declared.refusal.Refusal.{Refusal}
+use Rattle.opid.specs.declared.refusal.Refusal.TheVariants.{BadClock}
 use Rattle.opid.specs.Operations.{Operation}
 use Rattle.opid.proofs.Gathered.{rest_at}
 use Rattle.wire_json.specs.Members.{◌>>=◌}
-use Rattle.wire_json.specs.Operations.{each}
+use Rattle.wire_json.specs.Operations.{Offer, each, sited, operation}
 use Rattle.wire_json.specs.Packing.{next, following}
-use Rattle.wire_json.specs.PackedOperations.{ItemOffer, item_operations, concatenated, all_operations}
+use Rattle.wire_json.specs.PackedOperations.{ItemOffer, item_offer_of, item_sited, following_if_counted, item_operations}
+use Rattle.wire_json.specs.PackedOperations.{item_ops_of, concatenated, all_operations}
 use Rattle.wire_json.proofs.Loops.{with_front}
 
 -- ---- the insertions of a run
@@ -59,6 +64,25 @@ pub all_goes_on : (front : List Operation) (xs : List ItemOffer) (i : ℕ) (x : 
 all_goes_on front xs i x ys total h e is so_far =
     sym (stepped front xs i x (Ok ys) h e is ∙ regroup front ys (all_operations (drop (i + 1) xs))) ∙ so_far
 
+-- ---- how many operations an item has
+
+length-following : (x : Operation) (cs : List ℕ) → length (following x cs) ≡ length cs
+length-following x [] = refl
+length-following x (c ∷ cs) = omega (arith, length-following (next x c) cs)
+
+pub item_length : (o : ItemOffer) (xs : List Operation) → item_operations o ≡ Ok xs → length xs ≡ length o.more + 1
+item_length o xs e = go (operation o.first) e
+  where
+    counted : (x : Operation) (t : Bool) → cond t (Ok (x ∷ following x o.more)) (Err BadClock) ≡ Ok xs → length xs ≡ length o.more + 1
+    counted x true e =
+        let same : x ∷ following x o.more ≡ xs = cc in
+        omega (arith, ap (length {A = Operation}) same, length-following x o.more)
+    counted x false e = cc
+
+    go : (r : Result Operation Refusal) → (r >>= λ x. following_if_counted x o.more) ≡ Ok xs → length xs ≡ length o.more + 1
+    go (Ok x) e = counted x (nat_le (sum x.clock + length o.more) 131072) e
+    go (Err f) e = cc
+
 -- ---- the first 65 of them
 
 pub first_kept : (xs ys : List Operation) → length xs ≤ 65 → 65 ≤ length xs → xs ≡ take 65 (xs ++ ys)
@@ -83,3 +107,12 @@ few_kept front = omega (arith, length-take 65 front)
 
 pub one_kept : (xs : List Operation) (x : Operation) (items : List Operation) → items ≡ xs ++ x ∷ [] → length xs < 65 → length items ≤ 65
 one_kept xs x items e h = omega (arith, ap length e, length-append xs (x ∷ []), h)
+
+-- ---- one item by itself
+
+pub item_told : (d : Data) (o : ItemOffer) (first : Offer) (xs ys : List Operation) → item_offer_of d ≡ Ok o → sited o.first ≡ Ok first
+    → item_operations (record { first = first; more = o.more }) ≡ Ok xs → length o.more < 64 → ys ≡ take 65 xs → item_ops_of d ≡ Ok ys
+item_told d o first xs ys e f g few kept =
+    ap (λ r. r >>= λ p. item_sited p >>= item_operations) e
+    ∙ ap (λ r. (r >>= λ s. Ok (record { first = s; more = o.more })) >>= item_operations) f
+    ∙ g ∙ ap Ok (sym (kept ∙ take_all 65 xs (omega (arith, few, item_length (record { first = first; more = o.more }) xs g))))

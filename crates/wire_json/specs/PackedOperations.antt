@@ -70,6 +70,13 @@ item_operations o = do
   x ← operation o.first
   following_if_counted x o.more
 
+-- the operations that a JSON value by itself tells, an operation object or a run object
+abbrev pub item_ops_of : Data → Result (List Operation) Refusal
+item_ops_of d = do
+  offered ← item_offer_of d
+  here ← item_sited offered
+  item_operations here
+
 -- ---- a list of objects
 
 -- the lists one after another

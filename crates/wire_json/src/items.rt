@@ -7,7 +7,7 @@ ghost use Rattle.opid.specs.Operations.{Operation};
 ghost use Rattle.wire_json.specs.Operations.{each, items_in};
 ghost use Rattle.wire_json.specs.Packing.{next, following};
 ghost use Rattle.wire_json.specs.PackedOperations.{item_offer_of, item_sited, item_operations, run_of, run_chars, all_operations, first_of};
-ghost use Rattle.wire_json.specs.PackedOperations.{handed_over};
+ghost use Rattle.wire_json.specs.PackedOperations.{handed_over, item_ops_of};
 ghost use Rattle.wire_json.specs.Given.{Gives};
 
 use crate::offer::{ItemOffer, Offer, OfferedKind, SitedItem};
@@ -37,6 +37,19 @@ pub(crate) fn read_items(alloc: Global, values: &[Value]) -> Result<Vec<Op>, Ref
     let offers = read_item_offers(alloc, values)?;
     let sited = check_item_sites(alloc, offers.as_slice())?;
     unfold_all(alloc, sited.as_slice())
+}
+
+/// The single operations that a JSON value tells by itself, an operation object or a run object of at most 64 characters, refused
+/// as `read_op` does. `Memory` may stand in the place of any answer. Takes time and memory in proportion to the value.
+pub fn read_item_ops(alloc: Global, value: &Value) -> Result<Vec<Op>, Refusal>
+    ensures { Gives (λ ops. ops.items) result (item_ops_of (view value.now)) }
+{
+    let offer = read_item(alloc, value)?;
+    let first = check_sites(&offer.first)?;
+    let more = offer.more.as_slice();
+    let mut ops = Vec::new(alloc);
+    unfold(&mut ops, &SitedItem { first, more })?;
+    Ok(ops)
 }
 
 fn read_item_offers<'v>(alloc: Global, values: &'v [Value]) -> Result<Vec<ItemOffer<'v>>, Refusal>
@@ -76,7 +89,8 @@ fn unfold_all(alloc: Global, offers: &[SitedItem<'_, '_>]) -> Result<Vec<Op>, Re
 }
 
 fn read_item<'v>(alloc: Global, value: &'v Value) -> Result<ItemOffer<'v>, Refusal>
-    ensures { Gives (λ o. o) result (item_offer_of (view value.now)) }
+    ensures told { Gives (λ o. o) result (item_offer_of (view value.now)) }
+    ensures few { IfOk result (λ o. length o.more < 64) }
 {
     match read_text(value, "k")? {
         "r" => read_run(alloc, value),
@@ -89,7 +103,8 @@ fn read_item<'v>(alloc: Global, value: &'v Value) -> Result<ItemOffer<'v>, Refus
 }
 
 fn read_run<'v>(alloc: Global, value: &'v Value) -> Result<ItemOffer<'v>, Refusal>
-    ensures { Gives (λ o. o) result (run_of (view value.now)) }
+    ensures told { Gives (λ o. o) result (run_of (view value.now)) }
+    ensures few { IfOk result (λ o. length o.more < 64) }
 {
     check_keys(value, &["c", "k", "p", "s", "x"])?;
     let pairs = read_list(value, "c")?;
@@ -104,7 +119,8 @@ fn read_run<'v>(alloc: Global, value: &'v Value) -> Result<ItemOffer<'v>, Refusa
 
 // The first character of a text of 2 to 64, and those behind it.
 fn read_chars(alloc: Global, text: &str) -> Result<(char, Vec<char>), Refusal>
-    ensures { Gives (λ p. (p.0, p.1.items)) result (run_chars (chars text.now)) }
+    ensures told { Gives (λ p. (p.0, p.1.items)) result (run_chars (chars text.now)) }
+    ensures few { IfOk result (λ p. length p.1.items < 64) }
 {
     let count = count_chars(text);
     if count < 2 || count > 64 {

@@ -21,8 +21,10 @@ pub use laws::{
     different_operations, different_packed_operations, different_replies, operations_read_back,
     packed_operations_read_back, packing_unfolds,
 };
+pub use items::read_item_ops;
 pub use opening::read_open;
-pub use operation_values::write_op;
+pub use operation_values::{check_op, write_op};
 pub use operations::{read_list, read_op};
+pub use packing::{Item, write_item};
 pub use reading::{MAX_REQUEST_BYTES, check_keys, read_number, read_request, read_value};
 pub use writing::write_reply;

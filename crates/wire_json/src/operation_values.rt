@@ -41,8 +41,8 @@ pub(crate) fn op_value(alloc: Global, op: &Op) -> Result<Value, AllocError>
     }
 }
 
-// An operation is within its range, as the types of its parts know.
-pub(crate) fn check_op(op: &Op)
+/// An operation is within its range, as the types of its parts know. Costs nothing.
+pub fn check_op(op: &Op)
     ensures { IsOperationInRange op.now }
 {
     prove!(op.site().number() < 32);

@@ -1,16 +1,17 @@
 //! Packing operations into runs, from the left.
-ghost use Rattle.std.specs.Prelude.{◌≡◌, ◌<◌, ◌++◌, ◌∷◌, true, map, length, IfOk, OnOk, string_bytes, encode_utf8_all};
+ghost use Rattle.std.specs.Prelude.{◌≡◌, ◌<◌, ◌++◌, ◌∷◌, true, map, length, IfOk, IfErr, OnOk, string_bytes, encode_utf8_all};
 ghost use Rattle.std.specs.List.{AllByRecursion};
+ghost use Rattle.opid.specs.declared.refusal.Refusal.TheVariants.{Memory};
 ghost use Rattle.opid.specs.declared.kind.OpKind.TheVariants as kinds;
 ghost use Rattle.serde_json.specs.View.{view, items_view};
 ghost use Rattle.wire_json.specs.Packing.{joins, is_next, alone, with_one_more, packed};
-ghost use Rattle.wire_json.specs.Text.{IsOperationInRange};
+ghost use Rattle.wire_json.specs.Text.{IsOperationInRange, item_text};
 ghost use Rattle.wire_json.specs.Written.{each_data, item_data, run_data_of};
 
 use crate::items::next_op;
 use crate::operation_values::{check_op, clock_values, op_value, parent_value};
 use causal_clock::{Clock, MAX_SUM, Op};
-use opid::{OpKind, Site, Stamp};
+use opid::{OpKind, Refusal, Site, Stamp};
 use serde_json::{Value, json, push};
 use std::alloc::{AllocError, Global};
 use std::marker::Model;
@@ -20,7 +21,7 @@ const MAX_RUN: usize = 64;
 
 /// An operation, and the characters of the insertions that follow it.
 #[derive(Drop)]
-struct Item {
+pub struct Item {
     first: Op,
     last: Op,
     more: Vec<char>,
@@ -38,7 +39,8 @@ impl Model for Item {
 }
 
 impl Item {
-    fn new(alloc: Global, op: Op) -> Item
+    /// An operation by itself. Takes no memory.
+    pub fn new(alloc: Global, op: Op) -> Item
         ensures { result ≡ alone op }
     {
         Item {
@@ -48,14 +50,15 @@ impl Item {
         }
     }
 
-    /// Whether the operation joins the run.
-    fn is_joined_by(&self, op: &Op) -> bool
+    /// Whether the operation joins the run. Takes a comparison of two clocks, and no memory.
+    pub fn is_joined_by(&self, op: &Op) -> bool
         ensures { result ≡ joins self.now op.now }
     {
         self.more.len() + 1 < MAX_RUN && is_next(&self.last, op)
     }
 
-    fn push(&mut self, op: &Op) -> Result<(), AllocError>
+    /// Adds an operation that joins the run. An error is for want of memory.
+    pub fn push(&mut self, op: &Op) -> Result<(), AllocError>
         requires { joins self.old op.now ≡ true }
         ensures { OnOk result (self.new ≡ with_one_more self.old op.now) }
     {
@@ -107,6 +110,16 @@ pub(crate) fn packed_values(alloc: Global, ops: &[Op]) -> Result<Vec<Value>, All
     let value = item_value(alloc, &item)?;
     push(&mut list, value)?;
     Ok(list)
+}
+
+/// The one text of an item: of an operation, as `write_op` has it, or of a run. Refused with `Memory`. Takes time and memory
+/// in proportion to the text.
+pub fn write_item(alloc: Global, item: &Item) -> Result<String, Refusal>
+    ensures text { IfOk result (λ s. string_bytes s ≡ item_text item.now) }
+    ensures memory { IfErr result (λ e. e ≡ Memory) }
+{
+    let value = item_value(alloc, item)?;
+    Ok(value.to_string(alloc)?)
 }
 
 fn item_value(alloc: Global, item: &Item) -> Result<Value, AllocError>
