@@ -13,7 +13,9 @@ use Rattle.opid.specs.Operations.{Operation}
 use Rattle.causal_clock.specs.Kinds.{IsClock}
 use Rattle.wire_json.specs.Text.{IsStampInRange, IsKindInRange, quote, more, listed, pairs_of, pair_text, clock_text, stamp_text}
 use Rattle.wire_json.specs.Text.{parent_text}
-use Rattle.wire_json.specs.Text.{op_text_of, op_text}
+use Rattle.wire_json.specs.Text.{op_text_of, item_text_of, item_text, packed_text}
+use Rattle.wire_json.specs.Packing.{Item, packed}
+use Rattle.wire_json.proofs.PackedBack.{IsPacked, are_packed, more_scalars, run_scalars}
 use Rattle.wire_json.proofs.Pairs.{pairs_small}
 use Rattle.snapshot.specs.Snapshot.{AreInRange, log_text}
 
@@ -53,26 +55,32 @@ clock_texts clock h = listed_texts (map pair_text (pairs_of clock)) (pair_texts 
 stamp_texts : (s : Stamp) → IsStampInRange s → IsUtf8 (stamp_text s)
 stamp_texts s h = two_numbers s.sum s.site h.0 (omega (arith, h.1))
 
-quoted_text : (c : ℕ) → IsTrue (all_scalars (c ∷ [])) → IsUtf8 (quote (c ∷ []))
-quoted_text c h = IsUtf8-quoted (encode_utf8_all (c ∷ [])) (c ∷ [], (h, refl))
+quoted_text : (cs : List ℕ) → IsTrue (all_scalars cs) → IsUtf8 (quote cs)
+quoted_text cs h = IsUtf8-quoted (encode_utf8_all cs) (cs, (h, refl))
 
-insertion_text : (s : ℕ) (clock : List ℕ) (parent : Option Stamp) (c : ℕ) → s < 32 → IsClock clock → IsUtf8 (parent_text parent)
-    → IsTrue (all_scalars (c ∷ [])) → IsUtf8 (op_text_of s clock (Ins parent c))
-insertion_text s clock parent c l k p h =
+parent_texts : (parent : Option Stamp) (c : ℕ) → IsKindInRange (Ins parent c) → IsUtf8 (parent_text parent)
+parent_texts None c r = IsUtf8-are_ascii (codes "null") refl
+parent_texts (Some p) c r = stamp_texts p r.0
+
+-- an insertion or a run, with the text between its clock and its parent
+inserted_text : (named : List ℕ) (s : ℕ) (clock : List ℕ) (parent : Option Stamp) (cs : List ℕ) → IsUtf8 named → s < 32 → IsClock clock
+    → IsUtf8 (parent_text parent) → IsTrue (all_scalars cs)
+    → IsUtf8 (codes "{\"c\":" ++ clock_text clock ++ named ++ parent_text parent ++ codes ",\"s\":" ++ decimal s ++ codes ",\"x\":"
+    ++ quote cs ++ codes "}")
+inserted_text named s clock parent cs n l k p h =
     all_texts (codes "{\"c\":")
-    (clock_text clock ∷ codes ",\"k\":\"i\",\"p\":" ∷ parent_text parent ∷ codes ",\"s\":" ∷ decimal s ∷ codes ",\"x\":" ∷ quote (c ∷ [])
-    ∷ codes "}" ∷ [])
+    (clock_text clock ∷ named ∷ parent_text parent ∷ codes ",\"s\":" ∷ decimal s ∷ codes ",\"x\":" ∷ quote cs ∷ codes "}" ∷ [])
     (IsUtf8-are_ascii _ refl) (
       clock_texts clock k,
       (
-        IsUtf8-are_ascii _ refl,
+        n,
         (
           p,
           (
             IsUtf8-are_ascii _ refl,
             (
               number_text s (omega (arith, l)),
-              (IsUtf8-are_ascii _ refl, (quoted_text c h, (IsUtf8-are_ascii _ refl, tt))),
+              (IsUtf8-are_ascii _ refl, (quoted_text cs h, (IsUtf8-are_ascii _ refl, tt))),
             ),
           ),
         ),
@@ -80,8 +88,9 @@ insertion_text s clock parent c l k p h =
     )
 
 op_texts : (s : ℕ) (clock : List ℕ) (kind : OpKind) → s < 32 → IsClock clock → IsKindInRange kind → IsUtf8 (op_text_of s clock kind)
-op_texts s clock (Ins None c) l k r = insertion_text s clock None c l k (IsUtf8-are_ascii (codes "null") refl) r
-op_texts s clock (Ins (Some p) c) l k r = insertion_text s clock (Some p) c l k (stamp_texts p r.0) r.1
+op_texts s clock (Ins parent c) l k r =
+    inserted_text (codes ",\"k\":\"i\",\"p\":") s clock parent (c ∷ []) (IsUtf8-are_ascii _ refl) l k (parent_texts parent c r)
+    (run_scalars parent c [] r refl)
 op_texts s clock (Del t) l k r =
     all_texts (codes "{\"c\":")
     (clock_text clock ∷ codes ",\"k\":\"d\",\"s\":" ∷ decimal s ∷ codes ",\"t\":" ∷ stamp_text t ∷ codes "}" ∷ [])
@@ -96,14 +105,24 @@ op_texts s clock (Del t) l k r =
       ),
     )
 
-each_text : (log : List Operation) → AreInRange log → AllByRecursion IsUtf8 (map op_text log)
+item_texts : (x : Operation) (kind : OpKind) (cs : List ℕ) → x.site < 32 → IsClock x.clock → IsKindInRange kind → IsTrue (all_scalars cs)
+    → IsUtf8 (item_text_of (record x { kind = kind }) cs)
+item_texts x kind [] l k r h = op_texts x.site x.clock kind l k r
+item_texts x (Ins parent c) (d ∷ cs) l k r h =
+    inserted_text (codes ",\"k\":\"r\",\"p\":") x.site x.clock parent (c ∷ d ∷ cs) (IsUtf8-are_ascii _ refl) l k
+    (parent_texts parent c r) (run_scalars parent c (d ∷ cs) r h)
+item_texts x (Del t) (d ∷ cs) l k r h = op_texts x.site x.clock (Del t) l k r
+
+each_text : (items : List Item) → AllByRecursion IsPacked items → AllByRecursion IsUtf8 (map item_text items)
 each_text [] h = tt
-each_text (x ∷ log) h = (
-  op_texts x.site x.clock x.kind h.0.0.site (record { width = h.0.0.width; limit = h.0.0.limit }) h.0.1,
-  each_text log h.1,
-)
+each_text (i ∷ items) h =
+    let o = h.0.range.0.0 in (
+      item_texts i.first i.first.kind i.more o.site (record { width = o.width; limit = o.limit }) h.0.range.0.1
+          (more_scalars i.first i.more h.0.range.1),
+      each_text items h.1,
+    )
 
 pub IsUtf8-log_text : (log : List Operation) → AreInRange log → IsUtf8 (log_text log)
 IsUtf8-log_text log h =
-    all_texts (codes "{\"format\":1,\"ops\":") (listed (map op_text log) ∷ codes "}" ∷ []) (IsUtf8-are_ascii _ refl)
-    (listed_texts (map op_text log) (each_text log h), (IsUtf8-are_ascii _ refl, tt))
+    all_texts (codes "{\"format\":2,\"ops\":") (packed_text log ∷ codes "}" ∷ []) (IsUtf8-are_ascii _ refl)
+    (listed_texts (map item_text (packed log)) (each_text (packed log) (are_packed log h)), (IsUtf8-are_ascii _ refl, tt))

@@ -1,12 +1,12 @@
 //! Loading a snapshot: the log that bytes stand for, as a document or as a replica's.
-ghost use Rattle.std.specs.Prelude.{◌≡◌, ◌≤◌, ◌<◌, ◌-◌, ◌++◌, ◌⊎◌, [], ◌∷◌, ℕ, true, false, Ok, List, length, IfOk, IfErr, OnOk};
+ghost use Rattle.std.specs.Prelude.{◌≡◌, ◌≤◌, ◌<◌, ◌+◌, ◌-◌, ◌++◌, ◌⊎◌, [], ◌∷◌, ℕ, true, false, Ok, List, length, IfOk, IfErr, OnOk};
 ghost use Rattle.serde_json.specs.View.{view, items_view};
 ghost use Rattle.opid.specs.declared.refusal.Refusal.TheVariants.{Memory, BadSnapshot, SiteUsed};
 ghost use Rattle.opid.specs.Operations.{Operation};
-ghost use Rattle.opid.specs.Lawful.{IsLawful, MayFollow};
-ghost use Rattle.wire_json.specs.Given.{Tells};
-ghost use Rattle.wire_json.specs.Operations.{each, items_in, op_of};
-ghost use Rattle.snapshot.specs.Snapshot.{StandsFor, StandsForNone, LacksSite, HasSite, list_of};
+ghost use Rattle.opid.specs.Lawful.{IsLawful, MayFollow, GoesOn};
+ghost use Rattle.wire_json.specs.Operations.{items_in};
+ghost use Rattle.snapshot.specs.Snapshot.{StandsFor, StandsForNone, LacksSite, HasSite, format_of, ops_told};
+ghost use Rattle.snapshot.specs.Values.{value_told};
 
 use causal_clock::Op;
 use opid::{Refusal, Site};
@@ -14,7 +14,7 @@ use replica::Replica;
 use serde_json::Value;
 use std::alloc::Global;
 use versions::Doc;
-use wire_json::{check_keys, read_list, read_number, read_op, read_value};
+use wire_json::{check_keys, read_item_ops, read_list, read_number, read_op, read_value};
 
 /// The replica of a site over the log that the bytes stand for; it holds nothing back.
 ///
@@ -59,38 +59,67 @@ fn read_doc(alloc: Global, bytes: &[u8]) -> Result<Doc, Refusal>
     ensures cause { IfErr result (λ e. (e ≡ Memory) ⊎ StandsForNone bytes.now) }
 {
     let value = read_value(alloc, bytes)?;
-    let values = read_values(&value)?;
-    integrate_all(alloc, values)
+    let runs = read_format(&value)?;
+    let values = read_list(&value, "ops")?;
+    integrate_all(alloc, values, runs)
 }
 
-// The values of the operations.
-fn read_values<'v>(value: &'v Value) -> Result<&'v [Value], Refusal>
-    ensures { Tells (λ v. items_in (items_view v.now)) result (list_of (view value.now)) }
+// Whether the format is the one that has runs.
+fn read_format(value: &Value) -> Result<bool, Refusal>
+    ensures { result ≡ format_of (view value.now) }
 {
     check_keys(value, &["format", "ops"])?;
-    let format = read_number(value, "format")?;
-    if format != 1 {
-        return Err(Refusal::BadField);
+    match read_number(value, "format")? {
+        1 => Ok(false),
+        2 => Ok(true),
+        _ => Err(Refusal::BadField),
     }
-    read_list(value, "ops")
 }
 
 // The document of the operations that the values tell, each after those before it.
-fn integrate_all(alloc: Global, values: &[Value]) -> Result<Doc, Refusal>
-    ensures told { IfOk result (λ doc. each op_of (items_in (items_view values.now)) ≡ Ok doc.log) }
+fn integrate_all(alloc: Global, values: &[Value], runs: bool) -> Result<Doc, Refusal>
+    ensures told { IfOk result (λ doc. ops_told runs (items_in (items_view values.now)) ≡ Ok doc.log) }
     ensures lawful { IfOk result (λ doc. IsLawful doc.log) }
     ensures few { IfOk result (λ doc. length doc.log ≤ 131072) }
     ensures unreserved { IfOk result (λ doc. doc.room ≡ 0) }
     ensures cause { IfErr result (λ e. (e ≡ Memory)
-        ⊎ ((log : List Operation) → each op_of (items_in (items_view values.now)) ≡ Ok log → IsLawful log → length log ≤ 131072 → ⊥)) }
+        ⊎ ((log : List Operation) → ops_told runs (items_in (items_view values.now)) ≡ Ok log → IsLawful log → length log ≤ 131072 → ⊥)) }
 {
     let mut doc = Doc::new(alloc);
     for value in values {
-        let op = read_op(value)?;
-        append(&mut doc, &op)?;
+        append_value(alloc, &mut doc, value, runs)?;
     }
     prove!(doc.version() <= 131_072);
     Ok(doc)
+}
+
+// Appends the operations that a value tells, of which each may follow those before it.
+fn append_value(alloc: Global, doc: &mut Doc, value: &Value, runs: bool) -> Result<(), Refusal>
+    ensures grown { OnOk result ((xs : List Operation) × (value_told runs (view value.now) ≡ Ok xs) × (doc.new.log ≡ doc.old.log ++ xs)) }
+    ensures unreserved { OnOk result (doc.old.room ≡ 0 → doc.new.room ≡ 0) }
+    ensures cause { IfErr result (λ e. (e ≡ Memory) ⊎ ((xs : List Operation) → value_told runs (view value.now) ≡ Ok xs
+        → GoesOn doc.old.log xs → length doc.old.log + length xs ≤ 131072 → ⊥)) }
+{
+    if runs {
+        let ops = read_item_ops(alloc, value)?;
+        append_all(doc, ops.as_slice())
+    } else {
+        let op = read_op(value)?;
+        append_all(doc, &[op])
+    }
+}
+
+// Appends operations of which each may follow those before it.
+fn append_all(doc: &mut Doc, ops: &[Op]) -> Result<(), Refusal>
+    ensures grown { OnOk result (doc.new.log ≡ doc.old.log ++ ops.now) }
+    ensures unreserved { OnOk result (doc.old.room ≡ 0 → doc.new.room ≡ 0) }
+    ensures cause { IfErr result (λ e. (e ≡ Memory)
+        ⊎ (GoesOn doc.old.log ops.now → length doc.old.log + length ops.now ≤ 131072 → ⊥)) }
+{
+    for op in ops {
+        append(doc, op)?;
+    }
+    Ok(())
 }
 
 // Appends an operation that may follow the log.

@@ -7,7 +7,7 @@ use std::alloc::Global;
 use std::test::Fail;
 
 const ONE_CHARACTER: &str =
-    "{\"format\":1,\"ops\":[{\"c\":[[0,1]],\"k\":\"i\",\"p\":null,\"s\":0,\"x\":\"H\"}]}";
+    "{\"format\":2,\"ops\":[{\"c\":[[0,1]],\"k\":\"i\",\"p\":null,\"s\":0,\"x\":\"H\"}]}";
 
 const MISSING_PARENT: &str =
     "{\"format\":1,\"ops\":[{\"c\":[[0,1]],\"k\":\"i\",\"p\":[1,3],\"s\":0,\"x\":\"H\"}]}";
@@ -19,6 +19,26 @@ const TWO_IN_ORDER: &str =
 const TWO_EXCHANGED: &str =
     "{\"format\":1,\"ops\":[{\"c\":[[1,2]],\"k\":\"i\",\"p\":[1,1],\"s\":1,\"x\":\"b\"},\
      {\"c\":[[1,1]],\"k\":\"i\",\"p\":null,\"s\":1,\"x\":\"a\"}]}";
+
+const THREE_TYPED: &str =
+    "{\"format\":2,\"ops\":[{\"c\":[[0,1]],\"k\":\"r\",\"p\":null,\"s\":0,\"x\":\"abc\"}]}";
+
+const THREE_IN_FORMAT_1: &str =
+    "{\"format\":1,\"ops\":[{\"c\":[[0,1]],\"k\":\"i\",\"p\":null,\"s\":0,\"x\":\"a\"},\
+     {\"c\":[[0,2]],\"k\":\"i\",\"p\":[1,0],\"s\":0,\"x\":\"b\"},{\"c\":[[0,3]],\"k\":\"i\",\"p\":[2,0],\"s\":0,\"x\":\"c\"}]}";
+
+const THREE_PARTLY_PACKED: &str =
+    "{\"format\":2,\"ops\":[{\"c\":[[0,1]],\"k\":\"i\",\"p\":null,\"s\":0,\"x\":\"a\"},\
+     {\"c\":[[0,2]],\"k\":\"r\",\"p\":[1,0],\"s\":0,\"x\":\"bc\"}]}";
+
+const RUN_IN_FORMAT_1: &str =
+    "{\"format\":1,\"ops\":[{\"c\":[[0,1]],\"k\":\"r\",\"p\":null,\"s\":0,\"x\":\"abc\"}]}";
+
+const RUN_OF_ONE: &str =
+    "{\"format\":2,\"ops\":[{\"c\":[[0,1]],\"k\":\"r\",\"p\":null,\"s\":0,\"x\":\"a\"}]}";
+
+// 64 characters.
+const LONGEST: &str = "abcdefghijklmnopqrstuvwxyzabcdefghijklmnopqrstuvwxyzabcdefghijkl";
 
 // Whether the bytes stand for a log of that version, which reads so.
 fn tells(alloc: Global, bytes: &[u8], version: u32, text: &str) -> Result<bool, Fail> {
@@ -65,6 +85,39 @@ fn what_is_saved_is_loaded_by_another_site(rt: HostRuntime) -> Result<(), Fail> 
     Ok(())
 }
 
+// Whether site 0, typing 64 characters and then one, saves a run and an insertion, which are loaded.
+fn saves_a_long_run(alloc: Global) -> Result<bool, Fail> {
+    let mut replica = Replica::new(alloc, Site::new(0)?);
+    replica.submit_ins(0, 0, LONGEST)?;
+    replica.submit_ins(64, 64, "m")?;
+    let wanted = format!(in alloc;
+        "{{\"format\":2,\"ops\":[{{\"c\":[[0,1]],\"k\":\"r\",\"p\":null,\"s\":0,\"x\":\"{LONGEST}\"}},{{\"c\":[[0,65]],\"k\":\"i\",\"p\":[64,0],\"s\":0,\"x\":\"m\"}}]}}"
+    )?;
+    let text = save(alloc, &replica)?;
+    let read = format!(in alloc; "{LONGEST}m")?;
+    let mut all = text.as_str() == wanted.as_str();
+    all &= tells(alloc, text.as_str().as_bytes(), 65, read.as_str())?;
+    Ok(all)
+}
+
+// Both formats, packed or not, and what is no run in them.
+fn reads_both_formats(alloc: Global) -> Result<bool, Fail> {
+    let mut all = saves(alloc, "abc", THREE_TYPED)?;
+    all &= tells(alloc, THREE_TYPED.as_bytes(), 3, "abc")?;
+    all &= tells(alloc, THREE_IN_FORMAT_1.as_bytes(), 3, "abc")?;
+    all &= tells(alloc, THREE_PARTLY_PACKED.as_bytes(), 3, "abc")?;
+    all &= is_no_log(alloc, RUN_IN_FORMAT_1.as_bytes());
+    all &= is_no_log(alloc, RUN_OF_ONE.as_bytes());
+    Ok(all)
+}
+
+#[test]
+fn runs_are_packed_and_read(rt: HostRuntime) -> Result<(), Fail> {
+    assert!(rt; reads_both_formats(rt.alloc())?);
+    assert!(rt; saves_a_long_run(rt.alloc())?);
+    Ok(())
+}
+
 // Spaces and the order of the keys don't matter, and all else does.
 fn tells_logs_from_others(alloc: Global) -> Result<bool, Fail> {
     let mut all = tells(alloc, b" { \"ops\" : [ ] ,\n\t\"format\" : 1 }\r", 0, "")?;
@@ -73,7 +126,8 @@ fn tells_logs_from_others(alloc: Global) -> Result<bool, Fail> {
     all &= is_no_log(alloc, MISSING_PARENT.as_bytes());
     all &= is_refused(alloc, MISSING_PARENT.as_bytes(), 0, Refusal::BadSnapshot)?;
     all &= is_no_log(alloc, b"");
-    all &= is_no_log(alloc, b"{\"format\":2,\"ops\":[]}");
+    all &= tells(alloc, b"{\"format\":2,\"ops\":[]}", 0, "")?;
+    all &= is_no_log(alloc, b"{\"format\":3,\"ops\":[]}");
     all &= is_no_log(alloc, b"{\"format\":1,\"ops\":[],\"site\":0}");
     all &= is_no_log(alloc, b"{\"format\":1,\"ops\":[]} 1");
     Ok(all)
@@ -96,7 +150,7 @@ fn leaves_out_what_is_held(alloc: Global) -> Result<bool, Fail> {
     let clock = Clock::from_pairs(&[(peer, 2)])?;
     replica.put(Op::new(peer, clock, kind)?)?;
     let text = save(alloc, &replica)?;
-    Ok(replica.held() == 1 && text.as_str() == "{\"format\":1,\"ops\":[]}")
+    Ok(replica.held() == 1 && text.as_str() == "{\"format\":2,\"ops\":[]}")
 }
 
 #[test]

@@ -17,11 +17,11 @@ mod run_tests;
 mod tests;
 mod writing;
 
+pub use items::read_item_ops;
 pub use laws::{
     different_operations, different_packed_operations, different_replies, operations_read_back,
     packed_operations_read_back, packing_unfolds,
 };
-pub use items::read_item_ops;
 pub use opening::read_open;
 pub use operation_values::{check_op, write_op};
 pub use operations::{read_list, read_op};
