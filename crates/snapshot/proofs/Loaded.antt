@@ -135,7 +135,8 @@ refuted runs front vs i v log h at so_far lawful few not =
 pub may_next : (old ops front : List Operation) (i : ℕ) (x : Operation) → i < length ops → x ≡ get_or ops i x → front ≡ old ++ take i ops
     → GoesOn old ops → length old + length ops ≤ 131072 → MayFollow front x × (length front < 131072)
 may_next old ops front i x h at is goes few =
-    let all : take i ops ++ x ∷ drop (i + 1) ops ≡ ops = ap (λ xs. take i ops ++ xs) (sym (rest_at ops i x h at)) ∙ take-append-drop i ops in (
+    let all : take i ops ++ x ∷ drop (i + 1) ops ≡ ops =
+    ap (λ xs. take i ops ++ xs) (sym (rest_at ops i x h at)) ∙ take-append-drop i ops in (
       subst (λ f. MayFollow f x) (sym is)
           (goes_on_after old (take i ops) (x ∷ drop (i + 1) ops) (subst (GoesOn old) (sym all) goes)).0,
       omega (arith, few, h, ap (length {A = Operation}) is, length-append old (take i ops), length-take i ops),

@@ -10,7 +10,8 @@ pub returns : goal.returns
 returns c =
     let out = c.in_ok-unfold.ensures.ok in
     let here : sited c.in_ok-offer.offer.first ≡ Ok c.in_ok-first.first = search rules in
-    let all : item_operations (record { first = c.in_ok-first.first; more = c.in_ok-offer.offer.more }) ≡ Ok out.0 = search (rules, out.1) in
+    let all : item_operations (record { first = c.in_ok-first.first; more = c.in_ok-offer.offer.more }) ≡ Ok out.0 =
+    search (rules, out.1) in
     let kept : c.unfold.new.ops.items ≡ take 65 out.0 = search (rules, out.2) in
-    item_told (view c.args.value.now) c.in_ok-offer.offer c.in_ok-first.first out.0 c.unfold.new.ops.items c.in_ok-offer.ensures.told here all
-    c.in_ok-offer.ensures.few kept
+    item_told (view c.args.value.now) c.in_ok-offer.offer c.in_ok-first.first out.0 c.unfold.new.ops.items c.in_ok-offer.ensures.told
+    here all c.in_ok-offer.ensures.few kept
