@@ -6,6 +6,7 @@ use Rattle.std.specs.Str.{all_scalars}
 use Rattle.std.specs.List.{AllByRecursion as Each}
 use Rattle.std.proofs.lemmas.Bool.{and_parts, and_from, ltb-true, lt-ltb, le-leb}
 use Rattle.std.proofs.lemmas.List.{length-append}
+use Rattle.std.proofs.lemmas.List.Folds.{flat_map-map}
 use Rattle.std.proofs.lemmas.Str.{chars-encodes}
 use Rattle.serde_json.specs.Data.{Data}
 use Rattle.opid.specs.declared.refusal.Refusal.{Refusal}
@@ -157,8 +158,7 @@ items_in-map f [] = refl
 items_in-map f (x ∷ xs) = ap (λ ds. f x ∷ ds) (items_in-map f xs)
 
 concatenated-unfolded : (items : List Item) → concatenated (map unfolded items) ≡ unfolded_all items
-concatenated-unfolded [] = refl
-concatenated-unfolded (i ∷ items) = ap (λ xs. unfolded i ++ xs) (concatenated-unfolded items)
+concatenated-unfolded items = flat_map-map (λ xs. xs) unfolded items
 
 pub items_back : (items : List Item) → Each IsPacked items → packed_ops_of (items_in (each_data item_data items)) ≡ Ok (unfolded_all items)
 items_back items h =

@@ -1,6 +1,7 @@
 -- Which operations a list of JSON objects tells where run objects may be among them, or why it is refused. Each kind of fault
 -- is sought in all objects before the next kind (JSON: RFC 8259; runs: the server's own).
-use Rattle.std.specs.Prelude.{ℕ, ◌+◌, nat_le, if◌then◌else◌, Result, Ok, Err, List, [], ◌∷◌, ◌++◌, length, take, codes, bytes_eq, sum}
+use Rattle.std.specs.Prelude.{ℕ, ◌+◌, nat_le, if◌then◌else◌, Result, Ok, Err, List, [], ◌∷◌, length, take, codes, bytes_eq, sum}
+use Rattle.std.specs.List.{flat_map}
 use Rattle.std.specs.Str.{chars}
 use Rattle.serde_json.specs.Data.{Data}
 use Rattle.serde_json.specs.Find.{get}
@@ -81,8 +82,7 @@ item_ops_of d = do
 
 -- the lists one after another
 abbrev pub concatenated : List (List Operation) → List Operation
-concatenated [] = []
-concatenated (xs ∷ xss) = xs ++ concatenated xss
+concatenated xss = flat_map (λ xs. xs) xss
 
 -- the operations that all offers tell
 abbrev pub all_operations : List ItemOffer → Result (List Operation) Refusal

@@ -3,6 +3,7 @@
 -- the run has fewer than 64 characters.
 use Rattle.std.specs.Prelude.{ℕ, ◌+◌, ◌==◌, nat_lt, Bool, true, false, ◌&&◌, if◌then◌else◌, Some, None, List, [], ◌∷◌, ◌++◌, length}
 use Rattle.std.specs.Prelude.{bytes_eq}
+use Rattle.std.specs.List.{flat_map}
 use Rattle.opid.specs.declared.stamp.Stamp.{Stamp}
 use Rattle.opid.specs.declared.kind.OpKind.{OpKind}
 use Rattle.opid.specs.declared.kind.OpKind.TheVariants.{Ins, Del}
@@ -32,8 +33,7 @@ unfolded i = i.first ∷ following i.first i.more
 
 -- the operations of all items
 abbrev pub unfolded_all : List Item → List Operation
-unfolded_all [] = []
-unfolded_all (i ∷ items) = unfolded i ++ unfolded_all items
+unfolded_all items = flat_map unfolded items
 
 -- ---- packing from the left
 
