@@ -3,7 +3,7 @@ ghost use Rattle.std.specs.Prelude.{◌<◌};
 
 use causal_clock::{Clock, Op};
 use opid::{OpKind, Refusal, Site, Stamp};
-use position_translate::{delete_ops, insert_ops};
+use position_translate::{delete_ops, delete_ops_units, insert_ops, insert_ops_units};
 use std::alloc::Global;
 use std::process::Abort;
 use std::test::Fail;
@@ -283,5 +283,72 @@ fn a_log_that_is_nearly_full(rt: HostRuntime) -> Result<(), Fail> {
     let mut doc = Doc::new(rt.alloc());
     nearly_fill(&rt, rt.alloc(), &mut doc)?;
     assert!(rt; takes_two_more(rt.alloc(), &doc)?);
+    Ok(())
+}
+
+/// Why an insertion of `x` at the unit of version 3 is refused.
+fn refusal_in_units(alloc: Global, doc: &Doc, place: u32) -> Result<Option<Refusal>, Refusal> {
+    Ok(insert_ops_units(alloc, doc, site(0)?, 3, place, "x").err())
+}
+
+/// Why a deletion of so many units from the place of a version on is refused.
+fn deletion_refusal_in_units(
+    alloc: Global,
+    doc: &Doc,
+    version: u32,
+    place: u32,
+    count: u32,
+) -> Result<Option<Refusal>, Refusal> {
+    Ok(delete_ops_units(alloc, doc, site(0)?, version, place, count).err())
+}
+
+/// Behind a pair, and neither inside it nor beyond the end.
+fn insertions_in_units(alloc: Global, doc: &Doc) -> Result<bool, Refusal> {
+    let zero = site(0)?;
+    let pair = Some(stamp(2, 0)?);
+    let ops = insert_ops_units(alloc, doc, zero, 3, 3, "x")?;
+    let kind = OpKind::Ins {
+        parent: pair,
+        ch: 'x',
+    };
+    let mut all = ops.len() == 1 && is_at(&ops, 0, 0, &[(zero, 4)], kind)?;
+    all &= refusal_in_units(alloc, doc, 2)? == Some(Refusal::BadPlace);
+    all &= refusal_in_units(alloc, doc, 4)?.is_none();
+    all &= refusal_in_units(alloc, doc, 5)? == Some(Refusal::BadPlace);
+    Ok(all)
+}
+
+/// One deletion for each character, whatever its width.
+fn deletions_in_units(alloc: Global, doc: &Doc) -> Result<bool, Refusal> {
+    let zero = site(0)?;
+    let ops = delete_ops_units(alloc, doc, zero, 3, 0, 4)?;
+    let mut all = ops.len() == 3;
+    for (i, sum) in [(0usize, 1u32), (1, 2), (2, 3)] {
+        let target = stamp(sum, 0)?;
+        all &= is_at(&ops, i, 0, &[(zero, sum + 3)], OpKind::Del { target })?;
+    }
+    Ok(all)
+}
+
+/// An end inside a pair is no place; the count is one of units.
+fn deletions_are_refused_in_units(alloc: Global, doc: &Doc) -> Result<bool, Refusal> {
+    let (place, count) = (Some(Refusal::BadPlace), Some(Refusal::BadCount));
+    let mut all = deletion_refusal_in_units(alloc, doc, 3, 1, 1)? == place;
+    all &= deletion_refusal_in_units(alloc, doc, 3, 2, 1)? == place;
+    all &= deletion_refusal_in_units(alloc, doc, 3, 0, 2)? == place;
+    all &= deletion_refusal_in_units(alloc, doc, 3, 1, 2)?.is_none();
+    all &= deletion_refusal_in_units(alloc, doc, 3, 0, 5)? == place;
+    all &= deletion_refusal_in_units(alloc, doc, 3, 0, 0)? == count;
+    all &= deletion_refusal_in_units(alloc, doc, 3, 0, 65)? == count;
+    all &= deletion_refusal_in_units(alloc, doc, 4, 0, 1)? == Some(Refusal::BadVersion);
+    Ok(all)
+}
+
+#[test]
+fn places_in_units(rt: HostRuntime) -> Result<(), Fail> {
+    let text = "a\u{1F600}b";
+    assert!(rt; is_so(&rt, rt.alloc(), text, insertions_in_units)?);
+    assert!(rt; is_so(&rt, rt.alloc(), text, deletions_in_units)?);
+    assert!(rt; is_so(&rt, rt.alloc(), text, deletions_are_refused_in_units)?);
     Ok(())
 }

@@ -129,10 +129,33 @@ fn drops_a_held_one(rt: &impl Abort, replica: &mut Replica) -> Result<(), Fail> 
     Ok(())
 }
 
+/// The same where places count UTF-16 units, of which the second character has two.
+fn submits_in_units(rt: &impl Abort, replica: &mut Replica) -> Result<(), Fail> {
+    assert_eq!(rt; replica.submit_ins_units(0, 0, "a\u{1F600}b")?, (0, 3));
+    assert_eq!(rt;
+        replica.submit_ins_units(3, 2, "x").err(),
+        Some(Refusal::BadPlace)
+    );
+    assert_eq!(rt; replica.submit_ins_units(3, 3, "x")?, (3, 4));
+    assert_eq!(rt;
+        replica.submit_del_units(4, 0, 2).err(),
+        Some(Refusal::BadPlace)
+    );
+    assert_eq!(rt; replica.submit_del_units(4, 0, 3)?, (4, 6));
+    assert!(rt; reads(replica, "xb")?);
+    Ok(())
+}
+
 #[test]
 fn submissions(rt: HostRuntime) -> Result<(), Fail> {
     let mut replica = empty(rt.alloc(), 0)?;
     submits(&rt, &mut replica)
+}
+
+#[test]
+fn submissions_in_units(rt: HostRuntime) -> Result<(), Fail> {
+    let mut replica = empty(rt.alloc(), 0)?;
+    submits_in_units(&rt, &mut replica)
 }
 
 #[test]

@@ -174,26 +174,29 @@ fn sessions_of_both_counts(rt: HostRuntime) -> Result<(), Fail> {
     Ok(())
 }
 
-// 64 characters of two units each, of which as many as 64 units have are deleted twice.
+// 64 characters of two units each.
+const PAIRS: &str = "\u{10000}\u{10FFFF}\u{1F600}\u{2000B}\u{10000}\u{10FFFF}\u{1F600}\u{2000B}\
+    \u{10000}\u{10FFFF}\u{1F600}\u{2000B}\u{10000}\u{10FFFF}\u{1F600}\u{2000B}\
+    \u{10000}\u{10FFFF}\u{1F600}\u{2000B}\u{10000}\u{10FFFF}\u{1F600}\u{2000B}\
+    \u{10000}\u{10FFFF}\u{1F600}\u{2000B}\u{10000}\u{10FFFF}\u{1F600}\u{2000B}\
+    \u{10000}\u{10FFFF}\u{1F600}\u{2000B}\u{10000}\u{10FFFF}\u{1F600}\u{2000B}\
+    \u{10000}\u{10FFFF}\u{1F600}\u{2000B}\u{10000}\u{10FFFF}\u{1F600}\u{2000B}\
+    \u{10000}\u{10FFFF}\u{1F600}\u{2000B}\u{10000}\u{10FFFF}\u{1F600}\u{2000B}\
+    \u{10000}\u{10FFFF}\u{1F600}\u{2000B}\u{10000}\u{10FFFF}\u{1F600}\u{2000B}";
+
+// Whether session 1 is sent so many edits that its sent version is this one.
+fn is_sent(desk: &mut RoomDesk, have: u32) -> Result<bool, Fail> {
+    match pulled(desk, 1, have)? {
+        Reply::Edits { from: _, es } => Ok(!es.as_slice().is_empty()),
+        _ => Ok(false),
+    }
+}
+
+// As many of 64 such characters as 64 units have are deleted, twice.
 fn deletes_64_units(alloc: Global, desk: &mut RoomDesk) -> Result<bool, Fail> {
     let mut all = accepts(desk, Call::Join { units: true })?;
-    let pairs = "\u{10000}\u{10FFFF}\u{1F600}\u{2000B}\u{10000}\u{10FFFF}\u{1F600}\u{2000B}\
-        \u{10000}\u{10FFFF}\u{1F600}\u{2000B}\u{10000}\u{10FFFF}\u{1F600}\u{2000B}\
-        \u{10000}\u{10FFFF}\u{1F600}\u{2000B}\u{10000}\u{10FFFF}\u{1F600}\u{2000B}\
-        \u{10000}\u{10FFFF}\u{1F600}\u{2000B}\u{10000}\u{10FFFF}\u{1F600}\u{2000B}\
-        \u{10000}\u{10FFFF}\u{1F600}\u{2000B}\u{10000}\u{10FFFF}\u{1F600}\u{2000B}\
-        \u{10000}\u{10FFFF}\u{1F600}\u{2000B}\u{10000}\u{10FFFF}\u{1F600}\u{2000B}\
-        \u{10000}\u{10FFFF}\u{1F600}\u{2000B}\u{10000}\u{10FFFF}\u{1F600}\u{2000B}\
-        \u{10000}\u{10FFFF}\u{1F600}\u{2000B}\u{10000}\u{10FFFF}\u{1F600}\u{2000B}";
-    all &= leads(desk, insertion(alloc, 1, 1, 0, 0, pairs)?, (0, 64))?;
-    all &= accepts(
-        desk,
-        Call::Pull {
-            s: 1,
-            have: 0,
-            max: 64,
-        },
-    )?;
+    all &= leads(desk, insertion(alloc, 1, 1, 0, 0, PAIRS)?, (0, 64))?;
+    all &= is_sent(desk, 0)?;
     all &= refuses(desk, deletion(2, 64, 0, 63), Refusal::BadPlace)?;
     all &= refuses(desk, deletion(2, 64, 1, 64), Refusal::BadPlace)?;
     all &= refuses(desk, deletion(2, 64, 66, 64), Refusal::BadPlace)?;
@@ -207,5 +210,58 @@ fn deletes_64_units(alloc: Global, desk: &mut RoomDesk) -> Result<bool, Fail> {
 fn a_deletion_of_64_units(rt: HostRuntime) -> Result<(), Fail> {
     let mut desk = empty_desk(rt.alloc(), 0)?;
     assert!(rt; deletes_64_units(rt.alloc(), &mut desk)?);
+    Ok(())
+}
+
+// Behind a character of one unit, 64 units from the beginning on end inside a pair.
+fn ends_inside_a_pair(alloc: Global, desk: &mut RoomDesk) -> Result<bool, Fail> {
+    let mut all = accepts(desk, Call::Join { units: true })?;
+    all &= leads(desk, insertion(alloc, 1, 1, 0, 0, PAIRS)?, (0, 64))?;
+    all &= leads(desk, insertion(alloc, 1, 2, 0, 0, "a")?, (64, 65))?;
+    all &= is_sent(desk, 0)? && is_sent(desk, 64)?;
+    all &= refuses(desk, deletion(3, 65, 0, 64), Refusal::BadPlace)?;
+    all &= refuses(desk, deletion(3, 65, 2, 64), Refusal::BadPlace)?;
+    all &= leads(desk, deletion(3, 65, 1, 64), (65, 97))?;
+    all &= leads(desk, deletion(4, 65, 0, 63), (97, 129))?;
+    Ok(all)
+}
+
+#[test]
+fn a_deletion_that_ends_inside_a_pair(rt: HostRuntime) -> Result<(), Fail> {
+    let mut desk = empty_desk(rt.alloc(), 0)?;
+    assert!(rt; ends_inside_a_pair(rt.alloc(), &mut desk)?);
+    Ok(())
+}
+
+// A deletion over characters of both widths, as sessions of both counts are told of it.
+fn deletes_both_widths(alloc: Global, desk: &mut RoomDesk) -> Result<bool, Fail> {
+    let mut all = accepts(desk, Call::Join { units: true })?;
+    all &= accepts(desk, Call::Join { units: false })?;
+    let text = insertion(alloc, 1, 1, 0, 0, "a\u{1F600}b")?;
+    all &= leads(desk, text, (0, 3))?;
+    all &= is_sent(desk, 0)?;
+    all &= leads(desk, deletion(2, 3, 0, 4), (3, 6))?;
+    let in_units = [
+        Edit::DelUnits(0, 1),
+        Edit::DelUnits(0, 2),
+        Edit::DelUnits(0, 1),
+    ];
+    all &= are_edits(&pulled(desk, 1, 3)?, &in_units);
+    let in_characters = [
+        Edit::Ins(0, 'a'),
+        Edit::Ins(1, '\u{1F600}'),
+        Edit::Ins(2, 'b'),
+        Edit::Del(0),
+        Edit::Del(0),
+        Edit::Del(0),
+    ];
+    all &= are_edits(&pulled(desk, 2, 0)?, &in_characters);
+    Ok(all)
+}
+
+#[test]
+fn a_deletion_over_both_widths(rt: HostRuntime) -> Result<(), Fail> {
+    let mut desk = empty_desk(rt.alloc(), 0)?;
+    assert!(rt; deletes_both_widths(rt.alloc(), &mut desk)?);
     Ok(())
 }

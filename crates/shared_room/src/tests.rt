@@ -7,7 +7,7 @@ ghost use Rattle.shared_room.specs.Turns.{Answers};
 
 use crate::{Pass, PassDesk, SharedRoom};
 use history_lock::Ticket;
-use opid::{Refusal, Site};
+use opid::{Edit, Refusal, Site};
 use room::{Call, Characters, Desk, DeskFault, Reply, Room};
 use std::alloc::{AllocError, Global};
 use std::sync::Wait;
@@ -248,6 +248,46 @@ fn both_find<R: Threads + Wait + Clock + Sync>(
             requires { IsSync R.row × IsPassOf room.now b }
         { takes_part(rt, room, b, second, "a") },
     )
+}
+
+// Joins to count UTF-16 units, and puts in a pair and then a letter: the reply to a pull of both, and to an insertion inside the
+// pair.
+fn types_in_units(room: &SharedRoom, pass: &mut Pass, text: Call, inside: Call) -> bool
+    requires { IsPassOf room.now pass.old }
+{
+    let mut all = room.try_call(pass, Call::Join { units: true }).is_ok();
+    all &= room.try_call(pass, text).is_ok();
+    let pull = Call::Pull {
+        s: 1,
+        have: 0,
+        max: 64,
+    };
+    all &= match room.try_call(pass, pull) {
+        Ok(Reply::Edits { from: _, es }) => {
+            es.as_slice() == [Edit::Ins(0, '\u{1F600}'), Edit::Ins(2, 'a')].as_slice()
+        }
+        _ => false,
+    };
+    all && matches!(
+        room.try_call(pass, inside),
+        Ok(Reply::No(Refusal::BadPlace))
+    )
+}
+
+#[test]
+fn a_session_counts_units(rt: HostRuntime) -> Result<(), Fail> {
+    let alloc = rt.alloc();
+    let (room, mut pass) = opened(alloc)?;
+    let text = insertion(alloc, 1, "\u{1F600}a")?;
+    let inside = Call::Ins {
+        s: 1,
+        n: 2,
+        v: 2,
+        k: 1,
+        x: Characters::new(String::from_str(alloc, "b")?),
+    };
+    assert!(rt; types_in_units(&room, &mut pass, text, inside));
+    Ok(())
 }
 
 #[test]
