@@ -250,26 +250,41 @@ fn both_find<R: Threads + Wait + Clock + Sync>(
     )
 }
 
-// Joins to count UTF-16 units, and puts in a pair and then a letter: the reply to a pull of both, and to an insertion inside the
-// pair.
-fn types_in_units(room: &SharedRoom, pass: &mut Pass, text: Call, inside: Call) -> bool
+// Whether these are the edits of a pair of units and the letter behind it.
+fn are_both(reply: &Reply) -> bool {
+    match reply {
+        Reply::Edits { from: _, es } => {
+            es.as_slice() == [Edit::Ins(0, '\u{1F600}'), Edit::Ins(2, 'a')].as_slice()
+        }
+        _ => false,
+    }
+}
+
+// Whether the session is sent both.
+fn is_sent_both(room: &SharedRoom, pass: &mut Pass) -> bool
     requires { IsPassOf room.now pass.old }
+    ensures { IsPassOf room.now pass.new }
 {
-    let mut all = room.try_call(pass, Call::Join { units: true }).is_ok();
-    all &= room.try_call(pass, text).is_ok();
     let pull = Call::Pull {
         s: 1,
         have: 0,
         max: 64,
     };
-    all &= match room.try_call(pass, pull) {
-        Ok(Reply::Edits { from: _, es }) => {
-            es.as_slice() == [Edit::Ins(0, '\u{1F600}'), Edit::Ins(2, 'a')].as_slice()
-        }
-        _ => false,
-    };
+    match &room.try_call(pass, pull) {
+        Ok(reply) => are_both(reply),
+        Err(_) => false,
+    }
+}
+
+// Joins to count UTF-16 units, puts in a pair and then a letter, and is refused inside the pair.
+fn types_in_units(room: &SharedRoom, pass: &mut Pass, text: Call, inside: Call) -> bool
+    requires { IsPassOf room.now pass.old }
+{
+    let mut all = room.try_call(pass, Call::Join { units: true }).is_ok();
+    all &= room.try_call(pass, text).is_ok();
+    all &= is_sent_both(room, pass);
     all && matches!(
-        room.try_call(pass, inside),
+        &room.try_call(pass, inside),
         Ok(Reply::No(Refusal::BadPlace))
     )
 }
