@@ -1,5 +1,5 @@
 -- Calls of a reader or of a writer, one after another, and how many failed. What a call may do is the reader's or the writer's own.
-use Rattle.std.specs.Prelude.{◌≡◌, ◌≤◌, ◌⊎◌, ℕ, zero, suc, ◌+◌, ◌-◌, ◌^◌, List, [], ◌∷◌, length, Result, Ok, Err}
+use Rattle.std.specs.Prelude.{◌≡◌, ◌<◌, ◌≤◌, ◌⊎◌, ℕ, zero, suc, ◌+◌, ◌-◌, ◌^◌, List, [], ◌∷◌, length, Result, Ok, Err}
 
 -- from one state to another by calls with these results
 abbrev pub Makes : {S E : Type 0} → (S → Result ℕ E → S → Type 0) → S → List (Result ℕ E) → S → Type 0
@@ -9,6 +9,10 @@ Makes {S} calls old (r ∷ rs) new = (mid : S) × calls old r mid × Makes calls
 -- a read that was asked for at least 65,536 bytes
 abbrev pub for_a_block : {S E : Type 0} → (S → ℕ → Result ℕ E → S → Type 0) → S → Result ℕ E → S → Type 0
 for_a_block reads old result new = (most : ℕ) × (65536 ≤ most) × reads old most result new
+
+-- a write that was asked to take some bytes
+abbrev pub of_bytes : {S E : Type 0} → (S → ℕ → Result ℕ E → S → Type 0) → S → Result ℕ E → S → Type 0
+of_bytes writes old result new = (most : ℕ) × (0 < most) × writes old most result new
 
 -- how many of these reads failed
 abbrev pub failed_reads : {E : Type 0} → List (Result ℕ E) → ℕ

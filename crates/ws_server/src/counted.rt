@@ -2,7 +2,7 @@
 ghost use Rattle.std.specs.Prelude.{◌≡◌, ◌⊎◌, ◌+◌, ◌-◌, ◌^◌, ℕ, List, [], Result, ◌<◌, min, take, length, MatchOption, MatchBool, IfOk};
 ghost use Rattle.std.specs.Io.KnownBytes.{Keeps, Appends, Consumes, IsAtEnd};
 ghost use Rattle.std.specs.declared.io.Error.{Error};
-ghost use Rattle.ws_server.specs.Calls.{Makes, failed_reads, CountsWrites};
+ghost use Rattle.ws_server.specs.Calls.{Makes, of_bytes, failed_reads, CountsWrites};
 ghost use Rattle.ws_server.specs.Counting.{ReadGave, WriteTook, WroteAll};
 
 use crate::sink::Sink;
@@ -91,7 +91,8 @@ impl<W: Sink> Counted<W> {
         requires few_failed { self.old.failures < 2 ^ 63 }
         ensures took { WriteTook (W.contents self.old.inner) (W.contents self.new.inner) result buf.now }
         ensures counted { MatchOption result (self.new.failures ≡ self.old.failures + 1) (λ _. self.new.failures ≡ self.old.failures) }
-        ensures made { CountsWrites W.writes self.old.inner self.old.failures self.new.inner self.new.failures }
+        ensures made { CountsWrites (λ s r t. W.writes s (length buf.now) r t) self.old.inner self.old.failures self.new.inner
+            self.new.failures }
         ensures reads { self.new.calls ≡ self.old.calls }
     {
         match self.inner.write_once(buf) {
@@ -109,12 +110,12 @@ impl<W: Sink> Counted<W> {
 
     /// Writes all the bytes, in one call where the writer takes them whole. `false` where a call failed or took none:
     /// then some of the bytes may be written. Makes at most as many calls as there are bytes.
-    #[tactic(auto, using(crate::proofs::Making::writes_none, crate::proofs::Making::writes_more))]
+    #[tactic(auto, using(crate::proofs::Making::writes_none, crate::proofs::Making::writes_once, crate::proofs::Making::writes_more))]
     pub fn write_all(&mut self, bytes: &[u8]) -> bool
         requires few_failed { self.old.failures < 2 ^ 63 }
         ensures wrote { WroteAll (W.contents self.old.inner) (W.contents self.new.inner) result bytes.now }
         ensures counted { MatchBool result (self.new.failures ≡ self.old.failures) (self.new.failures ≡ self.old.failures + 1) }
-        ensures made { CountsWrites W.writes self.old.inner self.old.failures self.new.inner self.new.failures }
+        ensures made { CountsWrites (of_bytes W.writes) self.old.inner self.old.failures self.new.inner self.new.failures }
         ensures reads { self.new.calls ≡ self.old.calls }
     {
         let mut rest = bytes;

@@ -6,7 +6,7 @@ ghost use Rattle.room.specs.declared.reply.Reply.TheVariants.{No};
 ghost use Rattle.wire_json.specs.Text.{text};
 ghost use Rattle.ws_server.specs.AnsweredRequests.{AnswersRequest};
 ghost use Rattle.ws_server.specs.ServedLines.{Serves, StartsNot};
-ghost use Rattle.ws_server.specs.Calls.{for_a_block, CountsReads, CountsWrites};
+ghost use Rattle.ws_server.specs.Calls.{for_a_block, of_bytes, CountsReads, CountsWrites};
 ghost use Rattle.ws_server.specs.Counting.{Rises};
 ghost use Rattle.ws_server.specs.Turns.{Turn, after_sending, SentOn, work};
 
@@ -35,7 +35,7 @@ fn serve_line<P: Protocol, W: Sink>(
     ensures sent { (text : List ℕ) × P.answers state.old line.now text state.new
         × SentOn (W.contents output.old.inner) (W.contents output.new.inner) text result }
     ensures counted { Rises 0 0 output.old.failures output.new.failures result }
-    ensures writes { CountsWrites W.writes output.old.inner output.old.failures output.new.inner output.new.failures }
+    ensures writes { CountsWrites (of_bytes W.writes) output.old.inner output.old.failures output.new.inner output.new.failures }
 {
     let Ok(made) = P::answer(alloc, state, line) else {
         return Err(ServeFault::Memory);
@@ -53,7 +53,7 @@ fn refuse_long<W: Sink>(output: &mut Counted<W>) -> Result<(), ServeFault>
     ensures sent { SentOn (W.contents output.old.inner) (W.contents output.new.inner) (text (No TooLong)) result }
     ensures write { IfErr result (λ why. why ≡ ServeFault.Write) }
     ensures counted { Rises 0 0 output.old.failures output.new.failures result }
-    ensures writes { CountsWrites W.writes output.old.inner output.old.failures output.new.inner output.new.failures }
+    ensures writes { CountsWrites (of_bytes W.writes) output.old.inner output.old.failures output.new.inner output.new.failures }
 {
     if output.write_all(refusal_line(Refusal::TooLong).as_bytes()) {
         Ok(())
@@ -82,7 +82,7 @@ fn serve_next<P: Protocol, R: Source, W: Sink>(
     ensures counts { Rises input.old.failures input.new.failures output.old.failures output.new.failures result }
     ensures reads { CountsReads (for_a_block R.reads) input.old.inner input.old.calls input.old.failures input.new.inner input.new.calls
         input.new.failures }
-    ensures writes { CountsWrites W.writes output.old.inner output.old.failures output.new.inner output.new.failures }
+    ensures writes { CountsWrites (of_bytes W.writes) output.old.inner output.old.failures output.new.inner output.new.failures }
     ensures smaller { IfOk result (λ goes_on. IsTrue goes_on → work input.new.calls window.new < work input.old.calls window.old) }
 {
     let Some(next) = next_line(P::LIMIT, window, input) else {
@@ -148,7 +148,7 @@ pub fn serve<P: Protocol, R: Source, W: Sink>(
     ensures counted { Rises input.old.failures input.new.failures output.old.failures output.new.failures result }
     ensures reads { CountsReads (for_a_block R.reads) input.old.inner input.old.calls input.old.failures input.new.inner input.new.calls
         input.new.failures }
-    ensures writes { CountsWrites W.writes output.old.inner output.old.failures output.new.inner output.new.failures }
+    ensures writes { CountsWrites (of_bytes W.writes) output.old.inner output.old.failures output.new.inner output.new.failures }
 {
     'serving: loop {
         match serve_next::<P, R, W>(alloc, window, state, input, output) {
@@ -183,7 +183,7 @@ pub fn serve_lines<D: Desk, R: Source, W: Sink>(
     ensures counted { Rises input.old.failures input.new.failures output.old.failures output.new.failures result }
     ensures reads { CountsReads (for_a_block R.reads) input.old.inner input.old.calls input.old.failures input.new.inner input.new.calls
         input.new.failures }
-    ensures writes { CountsWrites W.writes output.old.inner output.old.failures output.new.inner output.new.failures }
+    ensures writes { CountsWrites (of_bytes W.writes) output.old.inner output.old.failures output.new.inner output.new.failures }
 {
     let Ok(mut window) = Window::new(alloc) else {
         return Err(ServeFault::Memory);

@@ -3,7 +3,7 @@ ghost use Rattle.std.specs.Prelude.{◌≡◌, ◌⊎◌, ℕ, ◌^◌, ◌<◌,
 ghost use Rattle.std.specs.Io.KnownBytes.{Appends, Consumes};
 ghost use Rattle.shared_room.specs.Views.{view, opening, IsPassOf};
 ghost use Rattle.ws_server.specs.AnsweredRequests.{AnswersRequest};
-ghost use Rattle.ws_server.specs.Calls.{for_a_block, CountsReads, CountsWrites};
+ghost use Rattle.ws_server.specs.Calls.{for_a_block, of_bytes, CountsReads, CountsWrites};
 ghost use Rattle.ws_server.specs.Counting.{Rises};
 ghost use Rattle.ws_server.specs.PassSteps.{pass_step, pass_fault};
 ghost use Rattle.ws_server.specs.ServedLines.{Serves, StartsNot};
@@ -41,7 +41,7 @@ pub fn serve_through_pass<H: Wait, R: Source, W: Sink>(
     ensures counted { Rises input.old.failures input.new.failures output.old.failures output.new.failures result }
     ensures reads { CountsReads (for_a_block R.reads) input.old.inner input.old.calls input.old.failures input.new.inner input.new.calls
         input.new.failures }
-    ensures writes { CountsWrites W.writes output.old.inner output.old.failures output.new.inner output.new.failures }
+    ensures writes { CountsWrites (of_bytes W.writes) output.old.inner output.old.failures output.new.inner output.new.failures }
 {
     let mut desk = PassDesk::new(rt, room, pass);
     serve_lent(alloc, &mut desk, input, output)
@@ -68,7 +68,7 @@ fn serve_lent<H: Wait, R: Source, W: Sink>(
     ensures counted { Rises input.old.failures input.new.failures output.old.failures output.new.failures result }
     ensures reads { CountsReads (for_a_block R.reads) input.old.inner input.old.calls input.old.failures input.new.inner input.new.calls
         input.new.failures }
-    ensures writes { CountsWrites W.writes output.old.inner output.old.failures output.new.inner output.new.failures }
+    ensures writes { CountsWrites (of_bytes W.writes) output.old.inner output.old.failures output.new.inner output.new.failures }
 {
     serve_lines(alloc, desk, input, output)
 }

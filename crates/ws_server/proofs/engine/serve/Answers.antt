@@ -2,7 +2,7 @@
 use Rattle.std.proofs.Common.{[], ◌++◌, Ok, Err, refl, ◌∙◌, append-nil}
 use Rattle.std.proofs.lemmas.List.Elements.{All-nil}
 use Rattle.ws_server.specs.Lines.{IsLine}
-use Rattle.ws_server.specs.Calls.{for_a_block}
+use Rattle.ws_server.specs.Calls.{for_a_block, of_bytes}
 use Rattle.ws_server.proofs.Making.{reads_none, reads_more, writes_none, writes_more}
 use Rattle.ws_server.proofs.Known.{Consumes-none, Appends-none}
 use Rattle.ws_server.proofs.Rounds.{round_on, round_last, Serves-err}
@@ -24,7 +24,7 @@ serving-init g c = record {
   reads = refl;
   writes = refl;
   reads_made = reads_none (for_a_block g.R.Source.reads) c.args.input.now.inner c.args.input.now.calls c.args.input.now.failures;
-  writes_made = writes_none g.W.Sink.writes c.args.output.now.inner c.args.output.now.failures;
+  writes_made = writes_none (of_bytes g.W.Sink.writes) c.args.output.now.inner c.args.output.now.failures;
 }
 
 pub serving-preserved : goal.serving-preserved
@@ -44,7 +44,7 @@ serving-preserved g c =
       reads_made = reads_more (for_a_block g.R.Source.reads) c.args.input.now.inner c.serving.input.inner c.serve_next.new.input.inner
           c.args.input.now.calls c.args.input.now.failures c.serving.input.calls c.serving.input.failures c.serve_next.new.input.calls
           c.serve_next.new.input.failures i.reads_made i.reads c.in-Ok-true.ensures.reads;
-      writes_made = writes_more g.W.Sink.writes c.args.output.now.inner c.serving.output.inner c.serve_next.new.output.inner
+      writes_made = writes_more (of_bytes g.W.Sink.writes) c.args.output.now.inner c.serving.output.inner c.serve_next.new.output.inner
           c.args.output.now.failures c.serving.output.failures c.serve_next.new.output.failures i.writes_made c.in-Ok-true.ensures.writes;
     }
 
@@ -85,8 +85,8 @@ returns-in-Ok-false-clause-reads g c =
 pub returns-in-Ok-false-clause-writes : goal.returns-in-Ok-false-clause-writes
 returns-in-Ok-false-clause-writes g c =
     let i = c.serving.invariant in
-    writes_more g.W.Sink.writes c.args.output.now.inner c.serving.output.inner c.serve_next.new.output.inner c.args.output.now.failures
-    c.serving.output.failures c.serve_next.new.output.failures i.writes_made c.in-Ok-false.ensures.writes
+    writes_more (of_bytes g.W.Sink.writes) c.args.output.now.inner c.serving.output.inner c.serve_next.new.output.inner
+    c.args.output.now.failures c.serving.output.failures c.serve_next.new.output.failures i.writes_made c.in-Ok-false.ensures.writes
 
 pub returns-in-Err-clause-reads : goal.returns-in-Err-clause-reads
 returns-in-Err-clause-reads g c =
@@ -98,5 +98,5 @@ returns-in-Err-clause-reads g c =
 pub returns-in-Err-clause-writes : goal.returns-in-Err-clause-writes
 returns-in-Err-clause-writes g c =
     let i = c.serving.invariant in
-    writes_more g.W.Sink.writes c.args.output.now.inner c.serving.output.inner c.serve_next.new.output.inner c.args.output.now.failures
-    c.serving.output.failures c.serve_next.new.output.failures i.writes_made c.in-Err.ensures.writes
+    writes_more (of_bytes g.W.Sink.writes) c.args.output.now.inner c.serving.output.inner c.serve_next.new.output.inner
+    c.args.output.now.failures c.serving.output.failures c.serve_next.new.output.failures i.writes_made c.in-Err.ensures.writes

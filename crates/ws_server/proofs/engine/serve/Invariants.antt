@@ -1,6 +1,6 @@
 -- The lines that were cut off were answered, the bytes held are those after them, and nothing failed.
 use Rattle.std.proofs.Common.{◌≡◌}
-use Rattle.ws_server.specs.Calls.{for_a_block, CountsReads, CountsWrites}
+use Rattle.ws_server.specs.Calls.{for_a_block, of_bytes, CountsReads, CountsWrites}
 use Rattle.ws_server.specs.Turns.{work}
 use Rattle.ws_server.proofs.Rounds.{HasServed}
 use Rattle.ws_server.proofs.engine.serve.Given as goal
@@ -15,7 +15,7 @@ invariant-serving g l = record {
   writes : l.output.failures ≡ l.fn.output.failures;
   reads_made : CountsReads (for_a_block g.R.Source.reads) l.fn.input.inner l.fn.input.calls l.fn.input.failures l.input.inner
       l.input.calls l.input.failures;
-  writes_made : CountsWrites g.W.Sink.writes l.fn.output.inner l.fn.output.failures l.output.inner l.output.failures;
+  writes_made : CountsWrites (of_bytes g.W.Sink.writes) l.fn.output.inner l.fn.output.failures l.output.inner l.output.failures;
 }
 
 abbrev pub decreases-serving : goal.decreases-serving

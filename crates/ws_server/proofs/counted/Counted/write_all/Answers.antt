@@ -1,7 +1,9 @@
 -- A write more sends some of what was left.
-use Rattle.std.proofs.Common.{◌∙◌}
+use Rattle.std.proofs.Common.{length, ◌<◌, ◌∙◌, arith}
+use Rattle.std.proofs.lemmas.Bool.Decides.{nat_tests}
+use Rattle.ws_server.specs.Calls.{of_bytes}
 use Rattle.ws_server.proofs.Known.{wrote-more}
-use Rattle.ws_server.proofs.Making.{writes_more}
+use Rattle.ws_server.proofs.Making.{writes_once, writes_more}
 use Rattle.ws_server.proofs.counted.Counted.write_all.Goals as goal
 
 pub loop-rest-preserved : goal.loop-rest-preserved
@@ -11,6 +13,17 @@ loop-rest-preserved g c =
       c.in-Some.ensures.counted
           ∙ i.1,
       c.in-Some.ensures.reads ∙ i.2,
-      writes_more g.W.Sink.writes c.args.self.now.inner c.loop-rest.self.inner
-          c.write.new.self.inner c.args.self.now.failures c.loop-rest.self.failures c.write.new.self.failures i.3 c.in-Some.ensures.made,
+      writes_more (of_bytes g.W.Sink.writes) c.args.self.now.inner c.loop-rest.self.inner
+          c.write.new.self.inner c.args.self.now.failures c.loop-rest.self.failures c.write.new.self.failures i.3
+          (writes_once g.W.Sink.writes (length c.loop-rest.rest.now) (omega (arith, c.in-Some.ensures.took)) c.loop-rest.self.inner
+          c.write.new.self.inner c.loop-rest.self.failures c.write.new.self.failures c.in-Some.ensures.made),
     )
+
+pub returns-in-None-clause-made : goal.returns-in-None-clause-made
+returns-in-None-clause-made g c =
+    let i = c.loop-rest.invariant in
+    let some : 0 < length c.loop-rest.rest.now = grind (arith, nat_tests) in
+    writes_more (of_bytes g.W.Sink.writes) c.args.self.now.inner c.loop-rest.self.inner c.write.new.self.inner
+    c.args.self.now.failures c.loop-rest.self.failures c.write.new.self.failures i.3
+    (writes_once g.W.Sink.writes (length c.loop-rest.rest.now) some c.loop-rest.self.inner c.write.new.self.inner
+    c.loop-rest.self.failures c.write.new.self.failures c.in-None.ensures.made)
