@@ -1,20 +1,15 @@
 -- The text of packed operations is read as their JSON values, so no two lists of operations have one.
 use Rattle.std.proofs.Common.{◌≡◌, ◌<◌, ◌≤◌, ℕ, List, [], ◌∷◌, ◌++◌, codes, decimal, Option, Some, None, Result, Ok, option_and_then}
-use Rattle.std.proofs.Common.{option_map, refl, sym, ap, ap₂, ◌∙◌, arith, append-nil, lit≤}
+use Rattle.std.proofs.Common.{option_map, refl, ap, ap₂, ◌∙◌, arith, lit≤}
 use Rattle.std.specs.List.{AllByRecursion as Each}
-use Rattle.json.specs.Json as json
-use Rattle.json.specs.Lex.{tokens}
 use Rattle.json.specs.Print.{escape_byte}
-use Rattle.json.specs.Tree.{depth, items_depth, HasNumbers, ItemsHaveNumbers, json_tokens}
-use Rattle.json.proofs.Printed.Trees.{value-json_tokens, ArePrintable-json_tokens}
-use Rattle.json.proofs.Printed.Tokens.{tokens-print}
+use Rattle.json.specs.Tree.{depth, items_depth, HasNumbers, ItemsHaveNumbers}
 use Rattle.json.proofs.Printed.Decimals.{IsNumber-decimal}
 use Rattle.serde_json.specs.Data.{Data, array}
 use Rattle.serde_json.specs.Find.{as_array}
 use Rattle.serde_json.specs.Read.{read, max_depth, of_json, of_items}
 use Rattle.serde_json.specs.Written.{outline, items_outline, compact_text}
 use Rattle.serde_json.proofs.Numbers.{number_of-decimal}
-use Rattle.serde_json.proofs.Texts.{print-outline}
 use Rattle.opid.specs.declared.refusal.Refusal.{Refusal}
 use Rattle.opid.specs.declared.stamp.Stamp.{Stamp}
 use Rattle.opid.specs.declared.kind.OpKind.{OpKind}
@@ -30,7 +25,7 @@ use Rattle.wire_json.specs.Written.{each_data, run_data_of, item_data_of, item_d
 use Rattle.wire_json.proofs.ListTexts.{list_compact}
 use Rattle.wire_json.proofs.OperationTexts.{op_compact, regroup_9, clock_compact, parent_compact}
 use Rattle.wire_json.proofs.Pairs.{pairs_small}
-use Rattle.wire_json.proofs.Read.{op_numbers, op_depth, op_read, whole, two_numbers, pairs_numbers, pairs_shallow, two_read, pairs_read}
+use Rattle.wire_json.proofs.Read.{op_numbers, op_depth, op_read, text_read, two_numbers, pairs_numbers, pairs_shallow, two_read, pairs_read}
 use Rattle.wire_json.proofs.PackedBack.{IsPacked, are_packed, packed_back}
 
 -- ---- texts
@@ -129,15 +124,12 @@ one_outline xs ys h k e =
 abbrev list_data : List Operation → Data
 list_data ops = array (each_data item_data (packed ops))
 
-text_read : (ops : List Operation) → Each IsOperationInRange ops → read (packed_text ops) ≡ Some (list_data ops)
-text_read ops h =
+list_read : (ops : List Operation) → Each IsOperationInRange ops → read (packed_text ops) ≡ Some (list_data ops)
+list_read ops h =
     let packs : Each IsPacked (packed ops) = are_packed ops h in
     let shallow : depth (outline (list_data ops)) ≤ max_depth = omega (arith, items_shallow (packed ops)) in
-    let same : tokens (packed_text ops) ≡ json_tokens (outline (list_data ops)) =
-    ap tokens (sym (print-outline (list_data ops) ∙ list_compact item_data item_text item_compact (packed ops)))
-    ∙ tokens-print (json_tokens (outline (list_data ops)))
-    (ArePrintable-json_tokens (outline (list_data ops)) (items_numbers (packed ops) packs)) in
-    ap whole (ap (json.value max_depth) (same ∙ sym (append-nil _)) ∙ value-json_tokens (outline (list_data ops)) max_depth [] shallow)
+    text_read (list_data ops) (packed_text ops) (list_compact item_data item_text item_compact (packed ops))
+    (items_numbers (packed ops) packs) shallow
     ∙ array_read ops packs
   where
     array_read : (ops : List Operation) → Each IsPacked (packed ops) → of_json (outline (list_data ops)) ≡ Some (list_data ops)
@@ -147,8 +139,8 @@ text_read ops h =
 abbrev told : Option Data → Option (Result (List Operation) Refusal)
 told d = option_map (λ ds. packed_ops_of (items_in ds)) (option_and_then as_array d)
 
-pub reads_back : (ops : List Operation) → Each IsOperationInRange ops → told (read (packed_text ops)) ≡ Some (Ok ops)
-reads_back ops h = ap told (text_read ops h) ∙ ap Some (packed_back ops h)
+reads_back : (ops : List Operation) → Each IsOperationInRange ops → told (read (packed_text ops)) ≡ Some (Ok ops)
+reads_back ops h = ap told (list_read ops h) ∙ ap Some (packed_back ops h)
 
 pub different : (a b : List Operation) → Each IsOperationInRange a → Each IsOperationInRange b → packed_text a ≡ packed_text b → a ≡ b
 different a b h k e =

@@ -161,7 +161,7 @@ outcome_numbers (outcomes.Kept ∷ os) h = ((tt, tt), outcome_numbers os h.1)
 outcome_numbers (outcomes.Again ∷ os) h = ((tt, tt), outcome_numbers os h.1)
 outcome_numbers (outcomes.No why ∷ os) h = ((tt, (IsNumber-decimal (number_of why) (number_small why), tt)), outcome_numbers os h.1)
 
-numbers : (r : reply.Reply) → IsInRange r → HasNumbers (outline (data_of r))
+pub numbers : (r : reply.Reply) → IsInRange r → HasNumbers (outline (data_of r))
 numbers (Joined s v x) h = (tt, (IsNumber-decimal s (small s h.0), (IsNumber-decimal v (small v h.1), (tt, tt))))
 numbers (Ok «from» to) h = (IsNumber-decimal «from» (small «from» h.0), (tt, (IsNumber-decimal to (small to h.1), tt)))
 numbers (Edits «from» es) h = (edit_numbers es h.1, (IsNumber-decimal «from» (small «from» h.0), (tt, tt)))

@@ -1,14 +1,15 @@
 //! Laws of the texts of replies and of operations.
-ghost use Rattle.std.specs.Prelude.{◌≡◌, option_map, option_and_then, Some, Ok, List};
+ghost use Rattle.std.specs.Prelude.{◌≡◌, ◌≤◌, ℕ, option_map, option_and_then, Some, Ok, List, length, codes};
 ghost use Rattle.std.specs.List.{AllByRecursion};
-ghost use Rattle.serde_json.specs.Find.{as_array};
+ghost use Rattle.serde_json.specs.Find.{get, as_array};
 ghost use Rattle.serde_json.specs.Read.{read};
 ghost use Rattle.opid.specs.Operations.{Operation};
 ghost use Rattle.causal_clock.specs.Kinds.{IsOperation};
 ghost use Rattle.room.specs.declared.reply.Reply.{Reply};
+ghost use Rattle.room.specs.declared.reply.Reply.TheVariants.{Ops};
 ghost use Rattle.wire_json.specs.Operations.{op_of, items_in};
 ghost use Rattle.wire_json.specs.Packing.{unfolded_all, packed};
-ghost use Rattle.wire_json.specs.PackedOperations.{packed_ops_of};
+ghost use Rattle.wire_json.specs.PackedOperations.{packed_ops_of, handed_over};
 ghost use Rattle.wire_json.specs.Text.{IsInRange, IsKindInRange, IsOperationInRange, text, op_text, packed_text};
 
 /// Two different replies have different texts: a client can tell each reply from its line alone.
@@ -32,11 +33,15 @@ pub fn packing_unfolds()
     ensures { (ops : List Operation) → unfolded_all (packed ops) ≡ ops }
 {}
 
-/// The text of packed operations is JSON that tells just those operations: what an `ops` reply holds is read in a `put` as
-/// the same single operations.
+/// The text of an `ops` reply is JSON whose list at the key "ops" tells just the reply's operations. Where they are at most 64, a
+/// `put` of that list hands over the same operations.
 pub fn packed_operations_read_back()
-    ensures { (ops : List Operation) → AllByRecursion IsOperationInRange ops
-        → option_map (λ ds. packed_ops_of (items_in ds)) (option_and_then as_array (read (packed_text ops))) ≡ Some (Ok ops) }
+    ensures told { (place : ℕ) (ops : List Operation) → IsInRange (Ops place ops)
+        → option_map (λ ds. packed_ops_of (items_in ds))
+        (option_and_then as_array (option_and_then (get (codes "ops")) (read (text (Ops place ops))))) ≡ Some (Ok ops) }
+    ensures put { (place : ℕ) (ops : List Operation) → IsInRange (Ops place ops) → length ops ≤ 64
+        → option_map (λ ds. handed_over (items_in ds))
+        (option_and_then as_array (option_and_then (get (codes "ops")) (read (text (Ops place ops))))) ≡ Some (Ok ops) }
 {}
 
 /// Two different lists of operations have different packed texts.

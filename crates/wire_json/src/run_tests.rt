@@ -1,4 +1,6 @@
 //! Runs as JSON shows them.
+ghost use Rattle.std.specs.Prelude.{◌<◌};
+
 use crate::operation_tests::ops_of;
 use crate::packing::packed_values;
 use causal_clock::{Clock, MAX_SUM, Op};
@@ -32,18 +34,28 @@ fn are_read_back(alloc: Global, ops: &[Op]) -> Result<bool, Refusal> {
     Ok(read.as_slice() == ops)
 }
 
-// One operation more, of a site that knows all before it, and its stamp.
-fn grow(ops: &mut Vec<Op>, site: Site, kind: OpKind) -> Result<Stamp, Refusal> {
-    let clock = match ops.last() {
-        Some(op) => op.clock(),
-        None => Clock::zero(),
-    };
+// The clock that counts one operation more of the site.
+fn raised(clock: &Clock, site: Site) -> Result<Clock, Refusal> {
     if clock.sum() >= MAX_SUM {
         return Err(Refusal::Full);
     }
-    let op = Op::new(site, clock.raised(site), kind)?;
+    Ok(clock.raised(site))
+}
+
+// One operation more, with this clock, and its stamp.
+fn push(ops: &mut Vec<Op>, site: Site, clock: Clock, kind: OpKind) -> Result<Stamp, Refusal> {
+    let op = Op::new(site, clock, kind)?;
     ops.push(op)?;
     Ok(op.stamp())
+}
+
+// One operation more, of a site that knows all before it, and its stamp.
+fn grow(ops: &mut Vec<Op>, site: Site, kind: OpKind) -> Result<Stamp, Refusal> {
+    let known = match ops.last() {
+        Some(op) => op.clock(),
+        None => Clock::zero(),
+    };
+    push(ops, site, raised(&known, site)?, kind)
 }
 
 // One of all insertions and deletions over these elements: 0 is an insertion at the head, then come those behind an element,
@@ -64,27 +76,71 @@ fn kind_of(what: usize, elements: &[Stamp], ch: char) -> OpKind {
     }
 }
 
-// The log that a number's digits tell. Each says whose the next operation is, which of so many letters it puts in, and which it
-// is of all insertions and deletions over the elements so far.
-fn log_of(alloc: Global, number: usize, length: usize, letters: usize) -> Result<Vec<Op>, Refusal> {
+// In what the operations of logs differ besides their sites and kinds.
+#[derive(Clone, Copy, PartialEq, Eq)]
+enum Also {
+    // In nothing: each puts in an a and knows all before it.
+    Nothing,
+    // Each puts in an a or a b.
+    Letters,
+    // Each knows all before it, or only those of its own site and what these know.
+    Knowledge,
+}
+
+// The lowest binary digit of a number, which is taken off it.
+fn take_digit(left: &mut usize) -> usize
+    ensures { result < 2 }
+{
+    let digit = *left % 2;
+    *left /= 2;
+    digit
+}
+
+// The log that a number's digits tell. Each says whose the next operation is, in what else it differs, and which it is of all
+// insertions and deletions over the elements so far, whether it knows them or not.
+fn log_of(alloc: Global, number: usize, length: usize, also: Also) -> Result<Vec<Op>, Refusal> {
     let mut ops = Vec::new(alloc);
     let mut elements: Vec<Stamp> = Vec::new(alloc);
+    let mut all = Clock::zero();
+    let mut own = [Clock::zero(); 2];
     let mut left = number;
     for _ in 0..length {
-        let site = Site::new((left % 2) as u8)?;
-        let is_first = letters < 2 || left / 2 % 2 == 0;
-        left /= if letters < 2 { 2 } else { 4 };
+        let place = take_digit(&mut left);
+        let site = Site::new(place as u8)?;
+        let is_b = also == Also::Letters && take_digit(&mut left) == 1;
+        let is_apart = also == Also::Knowledge && take_digit(&mut left) == 1;
         let choices = elements.len() + elements.len() + 1;
-        let ch = if is_first { 'a' } else { 'b' };
+        let ch = if is_b { 'b' } else { 'a' };
         let kind = kind_of(left % choices, elements.as_slice(), ch);
         left /= choices;
-        let stamp = grow(&mut ops, site, kind)?;
-        match kind {
+        let known = if is_apart { own[place] } else { all };
+        let clock = raised(&known, site)?;
+        let stamp = push(&mut ops, site, clock, kind)?;
+        own[place] = clock;
+        all = raised(&all, site)?;
+        match &kind {
             OpKind::Ins { parent: _, ch: _ } => elements.push(stamp)?,
             OpKind::Del { target: _ } => {}
         }
     }
     Ok(ops)
+}
+
+// Whether each of so many logs of a length is read back. The first operation is site 0's insertion of an a: the other site and
+// letter have the same logs, and it has nothing to know.
+fn logs_are_read_back(
+    alloc: Global,
+    length: usize,
+    also: Also,
+    logs: u32,
+) -> Result<bool, Refusal> {
+    let first = if also == Also::Nothing { 2 } else { 4 };
+    let mut all = true;
+    for number in 0..logs {
+        let ops = log_of(alloc, first * number as usize, length, also)?;
+        all &= are_read_back(alloc, ops.as_slice())?;
+    }
+    Ok(all)
 }
 
 // A log of 2,000 operations of four sites, most of them typed behind the one before.
@@ -211,26 +267,36 @@ fn tells_what_is_wrong_with_a_run(rt: HostRuntime) -> Result<(), Fail> {
     Ok(())
 }
 
-// Up to five operations with two letters, and six with one. The first operation is site 0's insertion of an a: the other site
-// and letter have the same logs.
+// Up to five operations with two letters, and six with one.
 #[test]
 fn every_short_log_is_read_back(rt: HostRuntime) -> Result<(), Fail> {
     let alloc = rt.alloc();
-    let mut all = true;
-    for (length, letters, logs) in [
-        (1, 2, 1),
-        (2, 2, 4 * 3),
-        (3, 2, 4 * 3 * 4 * 5),
-        (4, 2, 4 * 3 * 4 * 5 * 4 * 7),
-        (5, 2, 4 * 3 * 4 * 5 * 4 * 7 * 4 * 9),
-        (6, 1, 2 * 3 * 2 * 5 * 2 * 7 * 2 * 9 * 2 * 11),
+    for (length, also, logs) in [
+        (1, Also::Letters, 1),
+        (2, Also::Letters, 4 * 3),
+        (3, Also::Letters, 4 * 3 * 4 * 5),
+        (4, Also::Letters, 4 * 3 * 4 * 5 * 4 * 7),
+        (5, Also::Letters, 4 * 3 * 4 * 5 * 4 * 7 * 4 * 9),
+        (6, Also::Nothing, 2 * 3 * 2 * 5 * 2 * 7 * 2 * 9 * 2 * 11),
     ] {
-        for number in 0..logs {
-            let ops = log_of(alloc, 2 * letters * number, length, letters)?;
-            all &= are_read_back(alloc, ops.as_slice())?;
-        }
+        assert!(rt; logs_are_read_back(alloc, length, also, logs)?);
     }
-    assert!(rt; all);
+    Ok(())
+}
+
+// Up to five operations with one letter, where an operation may not know those of the other site before it.
+#[test]
+fn every_short_log_of_sites_apart_is_read_back(rt: HostRuntime) -> Result<(), Fail> {
+    let alloc = rt.alloc();
+    for (length, logs) in [
+        (1, 1),
+        (2, 4 * 3),
+        (3, 4 * 3 * 4 * 5),
+        (4, 4 * 3 * 4 * 5 * 4 * 7),
+        (5, 4 * 3 * 4 * 5 * 4 * 7 * 4 * 9),
+    ] {
+        assert!(rt; logs_are_read_back(alloc, length, Also::Knowledge, logs)?);
+    }
     Ok(())
 }
 
