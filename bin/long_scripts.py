@@ -1,9 +1,10 @@
 """Scripts of a world that are too long to be written down, with the lines that are wanted of the program: those of random
-events are answered by the plain world, those of a full log by what is known of a text that was typed from its end on."""
+events are answered by the plain world, those of a full log by what is known of a text that was typed from its end on. And a
+random log."""
 import json
 import random
 
-from plain_world import LIMIT, World, places
+from plain_world import LIMIT, World, operation_of, places
 
 ALPHABET = "abcdefghijklmnopqrstuvwxyz"
 CHARACTERS = ALPHABET + ' é\u20ac"\\' + 4 * "\U0001f600\U00010000\U0010ffff"
@@ -160,3 +161,27 @@ def full_log():
     beside = full[:62] + full[64:-64] + "->" + full[-64:]
     script.end([(0, LIMIT, full), (1, LIMIT, full), (2, LIMIT, beside), (3, LIMIT, full)])
     return script
+
+
+def random_log(count):
+    """A lawful log of so many operations of three sites, each of which mostly types behind its last character, and now and then
+    hears of all that there is."""
+    dice = random.Random(24)
+    log, site = [], 0
+    clocks, known, last = [[0] * 32 for _ in range(3)], [[] for _ in range(3)], [None] * 3
+    for _ in range(count):
+        if dice.random() < 0.1:
+            site = dice.randrange(3)
+        if log and dice.random() < 0.05:
+            clocks[site] = [max(counts) for counts in zip(*(it.clock for it in log))]
+            known[site] = [it.stamp for it in log if it.kind == "i"]
+        clocks[site][site] += 1
+        clock, what = tuple(clocks[site]), dice.random()
+        if known[site] and what < 0.05:
+            log.append(operation_of(site, clock, "d", dice.choice(known[site])))
+            continue
+        parent = dice.choice([None, *known[site]]) if what < 0.1 else last[site]
+        log.append(operation_of(site, clock, "i", parent, dice.choice(CHARACTERS)))
+        last[site] = log[-1].stamp
+        known[site].append(last[site])
+    return log
