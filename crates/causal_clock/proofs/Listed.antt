@@ -12,7 +12,9 @@ use Rattle.opid.specs.Clocks.{sites}
 use Rattle.opid.specs.Delivery.{count_of, clock_of}
 use mathlib.Core.Path.{ap₂}
 use Rattle.causal_clock.specs.Listing.{count_in, clock_with}
-use Rattle.causal_clock.proofs.Listings.{AreRising, IsListing}
+use Rattle.causal_clock.proofs.Changing.{length-fill}
+use Rattle.opid.specs.RisingPairs.{AreRising}
+use Rattle.causal_clock.proofs.Listings.{IsListing}
 
 -- the counts with each pair's put in
 abbrev pub fill : List ℕ → List (ℕ × ℕ) → List ℕ
@@ -77,10 +79,6 @@ from_none (p ∷ ps) = (omega arith, from_none ps)
 
 pub goes_on-IsListing : (ps : List (ℕ × ℕ)) → IsListing ps → GoOn 0 0 ps
 goes_on-IsListing ps h = goes_on 0 0 ps (from_none ps) h.rising h.counted (omega (arith, h.limit))
-
-length-fill : (c : List ℕ) (ps : List (ℕ × ℕ)) → length (fill c ps) ≡ length c
-length-fill c [] = refl
-length-fill c (p ∷ ps) = length-fill (set c p.0 p.1) ps ∙ length-set c p.0 p.1
 
 -- counts below the least site stay
 fill-below : (c : List ℕ) (ps : List (ℕ × ℕ)) (least s : ℕ) → Each (λ p. least ≤ p.0) ps → s < least → get_or (fill c ps) s 0 ≡ get_or c s 0

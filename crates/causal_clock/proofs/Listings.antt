@@ -5,12 +5,8 @@ use Rattle.std.specs.List.{AllByRecursion, list_all, sum_by}
 use Rattle.std.proofs.lemmas.Bool.{and_parts, ltb-true, lt-ltb, cond-true, cond-false, false_from_ne_true}
 use Rattle.std.proofs.lemmas.Bool.Decides.{nat_tests}
 use Rattle.opid.specs.declared.refusal.Refusal.TheVariants.{BadClock}
+use Rattle.opid.specs.RisingPairs.{AreRising}
 use Rattle.causal_clock.specs.Listing.{clock_with, rises, tells_clock, clock_told}
-
--- the site of each pair is below those of the pairs after it
-abbrev pub AreRising : List (ℕ × ℕ) → Type 0
-AreRising [] = Unit {0}
-AreRising (p ∷ ps) = AllByRecursion (λ q. p.0 < q.0) ps × AreRising ps
 
 -- pairs that tell a clock
 pub record IsListing (pairs : List (ℕ × ℕ)) : Type 0 where

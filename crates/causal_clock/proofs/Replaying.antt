@@ -32,9 +32,6 @@ none_passed ops place = drop_of_length-le (take place ops) (omega (arith, length
 pub all_none : (seen : List (Option (List ℕ))) (passed : List Operation) → passed ≡ [] → AreAllSeen seen passed
 all_none seen passed e i h = absurd (omega (arith, h, ap (λ (v : List Operation). count_of v i) e))
 
-some_same : (s t : List ℕ) → Some s ≡ Some t → s ≡ t
-some_same s t h = cc
-
 -- so a clock is kept of each site that was passed
 pub all_more : (seen : List (Option (List ℕ))) (passed : List Operation) (x : Operation) (counts : List ℕ) → x.site < length seen
     → AreAllSeen seen passed → AreAllSeen (set seen x.site (Some counts)) (passed ++ x ∷ [])

@@ -33,7 +33,7 @@ take-zero : {X : Type 0} (xs : List X) → take 0 xs ≡ []
 take-zero [] = refl
 take-zero (x ∷ xs) = refl
 
-drop-zero : {X : Type 0} (xs : List X) → drop 0 xs ≡ xs
+pub drop-zero : {X : Type 0} (xs : List X) → drop 0 xs ≡ xs
 drop-zero [] = refl
 drop-zero (x ∷ xs) = refl
 

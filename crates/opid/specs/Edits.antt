@@ -42,10 +42,6 @@ edits_from_in units ops (x ∷ xs) = edit_after_in units ops x ∷ edits_from_in
 abbrev pub edits_in : Bool → List Operation → List Edit
 edits_in units log = edits_from_in units [] log
 
--- the edit of an operation where characters are counted
-abbrev pub edit_of : Stamp → kind.OpKind → List Insertion → List Insertion → Edit
-edit_of s k before after = edit_of_in false s k before after
-
 -- the edit of an operation behind these, where characters are counted
 abbrev pub edit_after : List Operation → Operation → Edit
 edit_after ops x = edit_after_in false ops x

@@ -1,9 +1,12 @@
 -- Which logs are lawful, and which sets of operations make one tree (Roh and others 2011; Attiya and others 2016).
-use Rattle.std.specs.Prelude.{◌≡◌, ◌<◌, true, false, Some, None, List, [], ◌∷◌, ◌++◌, length, sum, Contains}
+use Rattle.std.specs.Prelude.{◌≡◌, ◌<◌, Bool, true, false, not, if◌then◌else◌, Option, Some, None, List, [], ◌∷◌, ◌++◌, length, sum}
+use Rattle.std.specs.Prelude.{Contains}
 use Rattle.std.specs.List.{AllByRecursion}
 use Rattle.opid.specs.declared.stamp.Stamp.{Stamp}
 use Rattle.opid.specs.declared.kind.OpKind.{OpKind}
 use Rattle.opid.specs.declared.kind.OpKind.TheVariants.{Ins, Del}
+use Rattle.opid.specs.declared.refusal.Refusal.{Refusal}
+use Rattle.opid.specs.declared.refusal.Refusal.TheVariants.{UnknownElement, NotOlder}
 use Rattle.opid.specs.Stamps.{is_before, is_same}
 use Rattle.opid.specs.Operations.{Operation, Insertion, stamp_of, insertions, has_element}
 use Rattle.opid.specs.Delivery.{is_ready}
@@ -14,6 +17,10 @@ abbrev pub IsAllowed : List Operation → Stamp → OpKind → Type 0
 IsAllowed ops s (Ins None ch) = Unit {0}
 IsAllowed ops s (Ins (Some p) ch) = (has_element ops p ≡ true) × (is_before p s ≡ true)
 IsAllowed ops s (Del target) = has_element ops target ≡ true
+
+-- why an insertion after an element is refused: that is not there, or its stamp isn't smaller
+abbrev pub parent_cause : Bool → Bool → Option Refusal
+parent_cause is_there is_older = if not is_there then Some UnknownElement else if not is_older then Some NotOlder else None
 
 -- its sum is above the sum of each of its site's operations
 abbrev pub IsRisingAt : List Operation → Operation → Type 0

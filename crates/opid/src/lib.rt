@@ -13,7 +13,7 @@ pub mod worked;
 
 pub use edit::Edit;
 pub use kind::OpKind;
-pub use limits::MAX_COUNT;
+pub use limits::{MAX_COUNT, count_characters, is_bad_count};
 pub use refusal::Refusal;
 pub use site::{SITES, Site};
 pub use stamp::Stamp;

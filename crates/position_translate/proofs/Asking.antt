@@ -5,7 +5,7 @@ use Rattle.std.proofs.Common.{get_or, refl, ap, ap₂, ◌∙◌, sym, subst, ar
 use Rattle.std.specs.Prelude.{nat_lt, slice_get, option_map}
 use Rattle.std.specs.Option.{option_map_or}
 use Rattle.std.specs.Char.Utf16.{is_low_surrogate}
-use Rattle.std.proofs.lemmas.Bool.{cond-true, cond-false}
+use Rattle.std.proofs.lemmas.Bool.{cond-true, cond-false, or_parts}
 use Rattle.std.proofs.lemmas.Bool.Decides.{nat_tests}
 use Rattle.std.proofs.lemmas.List.{append-nil, drop_all, length-drop, length-map, length-take-le}
 use Rattle.opid.specs.declared.stamp.Stamp.{Stamp}
@@ -182,21 +182,13 @@ asked_deletions-is u log ops clock site v k c e p q is =
 -- a place that is not bad is between characters, and within
 pub outside_pairs : (u : Bool) (log : List Operation) (v k : ℕ) → is_bad_place u log v k ≡ false
     → is_inside u (reading_in_at u log v) k ≡ false
-outside_pairs u log v k h = go (is_inside u (reading_in_at u log v) k) (nat_lt (length (visible_in_at u log v)) k) h
-  where
-    go : (a b : Bool) → (a || b) ≡ false → a ≡ false
-    go false b e = refl
-    go true b e = cc
+outside_pairs u log v k h = (or_parts (is_inside u (reading_in_at u log v) k) (nat_lt (length (visible_in_at u log v)) k) h).0
 
 pub within : (u : Bool) (log : List Operation) (v k : ℕ) → is_bad_place u log v k ≡ false → k ≤ length (visible_in_at u log v)
 within u log v k h =
     let e : nat_lt (length (visible_in_at u log v)) k ≡ false =
-    go (is_inside u (reading_in_at u log v) k) (nat_lt (length (visible_in_at u log v)) k) h in
+    (or_parts (is_inside u (reading_in_at u log v) k) (nat_lt (length (visible_in_at u log v)) k) h).1 in
     grind (arith, nat_tests)
-  where
-    go : (a b : Bool) → (a || b) ≡ false → b ≡ false
-    go false b e = e
-    go true b e = cc
 
 pub asked_insertions-is : (u : Bool) (log ops : List Operation) (clock : List ℕ) (site v k : ℕ) (parent : Option Stamp) (cs : List ℕ)
     → clock ≡ clock_of log → is_bad_place u log v k ≡ false → parent ≡ parent_in_at u log v k

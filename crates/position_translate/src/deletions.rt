@@ -10,7 +10,7 @@ ghost use Rattle.position_translate.specs.Causes.{deletion_refusal, deletion_ref
 use crate::next::next_op;
 use crate::places::{is_inside, len_at, stamp_at};
 use causal_clock::{Clock, Op};
-use opid::{MAX_COUNT, OpKind, Refusal, Site};
+use opid::{OpKind, Refusal, Site, is_bad_count};
 use std::alloc::{AllocError, Global};
 use versions::{Doc, MAX_OPERATIONS};
 
@@ -87,7 +87,7 @@ fn deletions_at(
         return Err(Refusal::BadVersion);
     }
     let count = count as usize;
-    if count == 0 || count > MAX_COUNT as usize {
+    if is_bad_count(count) {
         return Err(Refusal::BadCount);
     }
     let first = place as usize;

@@ -10,7 +10,7 @@ ghost use Rattle.position_translate.specs.Causes.{is_bad_place, insertion_refusa
 use crate::next::next_op;
 use crate::places::{is_inside, len_at, stamp_at};
 use causal_clock::{Clock, Op};
-use opid::{MAX_COUNT, OpKind, Refusal, Site, Stamp};
+use opid::{OpKind, Refusal, Site, Stamp, count_characters, is_bad_count};
 use std::alloc::{AllocError, Global};
 use versions::{Doc, MAX_OPERATIONS};
 
@@ -89,8 +89,8 @@ fn insertions_at(
     if version > doc.version() {
         return Err(Refusal::BadVersion);
     }
-    let count = characters_in(text);
-    if count == 0 || count > MAX_COUNT as usize {
+    let count = count_characters(text);
+    if is_bad_count(count) {
         return Err(Refusal::BadText);
     }
     let Some(parent) = parent_in(doc, units, version, place) else {
@@ -100,13 +100,6 @@ fn insertions_at(
         return Err(Refusal::Full);
     }
     Ok(run(alloc, site, doc.clock(), parent, text)?)
-}
-
-/// How many characters the text has.
-fn characters_in(text: &str) -> usize
-    ensures { result ≡ length (chars text.now) }
-{
-    text.chars().count()
 }
 
 /// The parent of what is put in at the place of the version: none for the head. `None` where there is no such place.
@@ -139,7 +132,7 @@ fn run(
     requires { sum clock + length (chars text.now) ≤ MAX_OPERATIONS }
     ensures { IfOk result (λ ops. ops.items ≡ insertion_run site clock parent (chars text.now)) }
 {
-    let mut ops = Vec::with_capacity(alloc, characters_in(text))?;
+    let mut ops = Vec::with_capacity(alloc, count_characters(text))?;
     let mut clock = clock;
     let mut parent = parent;
     for ch in text.chars() {

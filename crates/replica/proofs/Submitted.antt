@@ -41,10 +41,3 @@ pub never_refused : (log : List Operation) (x : Operation) (e : Refusal) (room :
     → (refusal_of log x ≡ Some e) ⊎ ((e ≡ Memory) × (room ≡ 0) × (length log < 131072)) → ⊥
 never_refused log x e room n r (inl h) = cc
 never_refused log x e room n r (inr h) = omega (arith, h.1, r)
-
-pub one_more : (first log log' ops : List Operation) (n : ℕ) (x : Operation) → n < length ops → x ≡ get_or ops n x
-    → log ++ drop n ops ≡ first ++ ops → log' ≡ log ++ x ∷ []
-    → log' ++ drop (n + 1) ops ≡ first ++ ops
-one_more first log log' ops n x h e so_far is =
-    ap (λ l. l ++ drop (n + 1) ops) is ∙ append_assoc log (x ∷ []) (drop (n + 1) ops)
-    ∙ ap (λ xs. log ++ xs) (sym (rest_at ops n x h e)) ∙ so_far

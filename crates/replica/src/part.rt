@@ -4,7 +4,7 @@ ghost use Rattle.opid.specs.declared.refusal.Refusal.TheVariants.{Memory};
 ghost use Rattle.replica.specs.Part.{part_of};
 
 use causal_clock::Op;
-use opid::{MAX_COUNT, Refusal};
+use opid::{Refusal, is_bad_count};
 use versions::Doc;
 
 /// The operations of the log from a place on, at most `max`. Takes what `Doc::copy_ops` takes.
@@ -13,7 +13,7 @@ pub(crate) fn copy_part(doc: &Doc, after: u32, max: u32) -> Result<Vec<Op>, Refu
     ensures ok { IfOk result (λ ops. part_of doc.now.log after max ≡ Ok ops.items) }
     ensures cause { IfErr result (λ e. (part_of doc.now.log after max ≡ Err e) ⊎ (IsOk (part_of doc.now.log after max) × (e ≡ Memory))) }
 {
-    if after > doc.version() || max == 0 || max > MAX_COUNT {
+    if after > doc.version() || is_bad_count(max as usize) {
         return Err(Refusal::BadRange);
     }
     let end = doc.version().min(after + max);

@@ -12,6 +12,7 @@ use Rattle.opid.specs.Operations.{Operation, Insertion, stamp_at, stamp_of, inse
 use Rattle.opid.specs.Tree.{all}
 use Rattle.opid.specs.Edits.{place_of}
 use Rattle.opid.specs.Lawful.{IsAllowed, IsSound, AreApart}
+use Rattle.opid.proofs.Places.{place_of-append}
 use Rattle.opid.proofs.Order.{is_same-refl, is_same-sym}
 use Rattle.opid.proofs.Walk.{walk, Each-append, Each-weaker, append-nil, stand as stand_among, stand_after as stand_after_among}
 use Rattle.opid.proofs.Runs.{all-elements}
@@ -60,17 +61,6 @@ has_stamp-listed ops h s = go (all ops) ∙ list_any-all ops h s
     go [] = refl
     go (x ∷ xs) = ap (λ r. is_same s x.stamp || r) (go xs)
 
--- a place among the insertions stays when more arrive
-place_of-append : (s : Stamp) (xs ys : List Insertion) → list_any (λ x. is_same s x.stamp) xs ≡ true → place_of s (xs ++ ys) ≡ place_of s xs
-place_of-append s [] ys h = cc
-place_of-append s (x ∷ xs) ys h = go (is_same s x.stamp) (place_of-append s xs ys) h
-  where
-    go : (t : Bool) → (list_any (λ z. is_same s z.stamp) xs ≡ true → place_of s (xs ++ ys) ≡ place_of s xs)
-        → (t || list_any (λ z. is_same s z.stamp) xs) ≡ true
-        → cond t 0 (place_of s (xs ++ ys) + 1) ≡ cond t 0 (place_of s xs + 1)
-    go true ih k = refl
-    go false ih k = ap (λ n. n + 1) (ih k)
-
 -- the newest stands behind all
 place_of-newest : (xs : List Insertion) (x : Insertion) → list_any (λ y. is_same x.stamp y.stamp) xs ≡ false
     → place_of x.stamp (xs ++ x ∷ []) ≡ length xs
@@ -83,7 +73,7 @@ length-map : (f : Insertion → Entry) (xs : List Insertion) → length (map f x
 length-map f [] = refl
 length-map f (x ∷ xs) = ap suc (length-map f xs)
 
-length-listed : (ops : List Operation) → IsSound ops → length (listed ops) ≡ length (insertions ops)
+pub length-listed : (ops : List Operation) → IsSound ops → length (listed ops) ≡ length (insertions ops)
 length-listed ops h = length-map (entry_for ops) (all ops) ∙ length_permutation (insertions ops) (all ops) (all-permutation ops h)
 
 map-agree : (f g : Insertion → Entry) (xs : List Insertion) → Each (λ y. f y ≡ g y) xs → map f xs ≡ map g xs

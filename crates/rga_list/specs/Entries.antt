@@ -4,8 +4,9 @@ use Rattle.std.specs.Prelude.{[], ◌∷◌, map, length}
 use Rattle.std.specs.List.{AllByRecursion, list_any}
 use Rattle.opid.specs.declared.stamp.Stamp.{Stamp}
 use Rattle.opid.specs.declared.refusal.Refusal.{Refusal}
-use Rattle.opid.specs.declared.refusal.Refusal.TheVariants.{Full, UnknownElement, NotOlder}
+use Rattle.opid.specs.declared.refusal.Refusal.TheVariants.{Full}
 use Rattle.opid.specs.Stamps.{is_before, is_same}
+use Rattle.opid.specs.Lawful.{parent_cause}
 
 -- an element of the list: how many came before it, its stamp, its character, and whether it is shown
 pub record Entry : Type 0 where
@@ -103,8 +104,7 @@ IsGreatestOf entries site s = (s.site ≡ site) × (has_stamp entries s ≡ true
 -- why an insertion with the stamp s after this parent is refused, memory apart
 abbrev pub parent_refusal : List Entry → Option Stamp → Stamp → Option Refusal
 parent_refusal entries None s = None
-parent_refusal entries (Some p) s =
-    if not (has_stamp entries p) then Some UnknownElement else if not (is_before p s) then Some NotOlder else None
+parent_refusal entries (Some p) s = parent_cause (has_stamp entries p) (is_before p s)
 
 -- why an insertion is refused, memory apart: the list is full, or the cause lies in its parent
 abbrev pub refusal_of : List Entry → Option Stamp → Stamp → Option Refusal

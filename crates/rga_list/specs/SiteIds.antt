@@ -1,6 +1,6 @@
 -- The identifiers of one site: its sums in rising order, each with the element that it names. No public clause cites this: it is
 -- the code's alone.
-use Rattle.std.specs.Prelude.{◌≡◌, ℕ, ◌<◌, ◌≤◌, ◌==◌, if◌then◌else◌, Option, Some, None, List, [], ◌∷◌}
+use Rattle.std.specs.Prelude.{◌≡◌, ℕ, ◌≤◌, ◌==◌, if◌then◌else◌, Option, Some, None, List, [], ◌∷◌}
 use Rattle.std.specs.List.{AllByRecursion}
 
 -- the identifiers of a site, and how many more have their memory already
@@ -12,11 +12,6 @@ pub record SiteIds : Type 0 where
 abbrev pub find_id : ℕ → List (ℕ × ℕ) → Option ℕ
 find_id sum [] = None
 find_id sum (id ∷ ids) = if id.0 == sum then Some id.1 else find_id sum ids
-
--- each sum is below the later ones
-abbrev pub AreRising : List (ℕ × ℕ) → Type 0
-AreRising [] = Unit {0}
-AreRising (id ∷ ids) = AllByRecursion (λ i. id.0 < i.0) ids × AreRising ids
 
 -- each sum is at most this one, which is there
 pub record IsGreatest (ids : List (ℕ × ℕ)) (sum : ℕ) : Type 0 where

@@ -10,10 +10,6 @@ two_names : (name a b : List ℕ) (x y : ℕ) → slice_index a 0 ≡ x → slic
 two_names name a b x y first second apart is named =
     apart (sym first ∙ ap (λ (t : List ℕ). slice_index t 0) (sym is ∙ named) ∙ second)
 
--- an option that isn't global leaves a command without any
-pub or_none : (n a b : Bool) → n ≡ (a || b) → a ≡ false → b ≡ false → n ≡ false
-or_none n a b is f g = is ∙ ap₂ (λ (x y : Bool). x || y) f g
-
 -- `lines` with no site
 pub lines_nothing : (name : List ℕ) (rows : List Row) → name ≡ codes "lines"
     → ((site : ℕ) → ReadsTo 31 (first_of (codes "site") rows) (Some site) → ⊥) → AsksNothing (Some (name, rows))

@@ -61,9 +61,6 @@ decimal_is_plain (suc n) h =
     let first : 48 < get_or (decimal (suc n)) 0 0 = first_decimal (suc n) (omega arith) (omega arith) in
     (λ p. omega (arith, p, first), λ p. absurd (omega (arith, p, first)))
 
-pub decimal_is_text : (n : ℕ) → n < 2 ^ 32 → IsUtf8 (decimal n)
-decimal_is_text n h = IsUtf8-from_ascii (decimal n) (IsAscii-decimal n (omega arith))
-
 no_plus : (w : List ℕ) → IsPlain w → without_leading_plus w ≡ w
 no_plus w h = rw (ne_eqb (get_or w 0 0) 43 h.0) refl
 

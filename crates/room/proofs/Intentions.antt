@@ -1,7 +1,8 @@
 -- What an accepted submission asked for stays in the log where it was put, and stands at its place.
 use Rattle.std.proofs.Common.{◌≡◌, ℕ, zero, suc, ◌+◌, ◌-◌, ◌<◌, ◌≤◌, Bool, true, false, Some, None, Ok, List, [], ◌∷◌, ◌++◌}
 use Rattle.std.proofs.Common.{length, take, drop, refl, ap, ◌∙◌, sym, subst, arith, append_assoc}
-use Rattle.std.specs.Prelude.{slice_get, if◌then◌else◌, ◌||◌}
+use Rattle.std.specs.Prelude.{slice_get, if◌then◌else◌}
+use Rattle.std.proofs.lemmas.Bool.{or_parts}
 use Rattle.std.proofs.lemmas.List.{take_at, drop_at, take-append-le}
 use Rattle.opid.specs.declared.refusal.Refusal.{Refusal}
 use Rattle.opid.specs.declared.refusal.Refusal.TheVariants.{BadPlace, Full, HistoryFull}
@@ -84,15 +85,6 @@ none-place e f false true c d h = cc
 none-place e f false false true d h = cc
 none-place e f false false false d h = refl
 
--- of two tests of which neither holds
-pub neither-first : (a b : Bool) → (a || b) ≡ false → a ≡ false
-neither-first false b h = refl
-neither-first true b h = cc
-
-pub neither-second : (a b : Bool) → (a || b) ≡ false → b ≡ false
-neither-second false b h = h
-neither-second true b h = cc
-
 -- an accepted submission: the versions that it is answered with, its operations at the end of the log, and their place
 record Goes (S : State) (c : Call) (start end : ℕ) : Type 0 where
   from : start ≡ length S.log
@@ -131,15 +123,14 @@ accepted-goes S (Del s n v k c) start end l b a e =
     let u : Bool = counts_units s S.outbox in
     let none : deletion_refusal_in u S.log v k c ≡ None =
     first_accepted (submission_of (session_with s S.outbox.sessions) n v) (deletion_refusal_in u S.log v k c) a in
-    let ends : (is_inside u (reading_in_at u S.log v) k || is_bad_place u S.log v (k + c)) ≡ false =
-    none-place _ _ _ (is_bad_count c) _ _ none in
-    let place : is_bad_place u S.log v (k + c) ≡ false = neither-second (is_inside u (reading_in_at u S.log v) k) _ ends in
+    let ends : (is_inside u (reading_in_at u S.log v) k ≡ false) × (is_bad_place u S.log v (k + c) ≡ false) =
+    or_parts (is_inside u (reading_in_at u S.log v) k) _ (none-place _ _ _ (is_bad_count c) _ _ none) in
     let run : List Operation = deletion_run S.site (clock_of S.log) (stamps u (visible_in_at u S.log v) k (k + c)) in
     let is : run ≡ asked_deletions_in u S.log S.site v k c =
     asked_deletions-is u S.log run (clock_of S.log) S.site v k c refl
-    (neither-first (is_inside u (reading_in_at u S.log v) k) _ ends) (outside_pairs u S.log v (k + c) place) refl in
+    ends.0 (outside_pairs u S.log v (k + c) ends.1) refl in
     let size : length (asked_deletions_in u S.log S.site v k c) ≡ element_count u S.log v k c =
-    ap length (sym is) ∙ length-asked_deletions u S.log run (clock_of S.log) S.site v k c (within u S.log v (k + c) place) refl in
+    ap length (sym is) ∙ length-asked_deletions u S.log run (clock_of S.log) S.site v k c (within u S.log v (k + c) ends.1) refl in
     let start_is : length S.log ≡ start = cc e in
     let end_is : length S.log + element_count u S.log v k c ≡ end = cc e in
     record { from = sym start_is; to = omega (arith, end_is, size); grown = refl; placed = λ more. tt }

@@ -32,15 +32,6 @@ at_once R outbox c f r reply e h = record { answered = λ count. (go count f (e 
     go count (Ok (Repeat a b)) k h = found (state_with R outbox count) c (Ok (Repeat a b)) reply _ k (cc) refl
     go count (Ok New) k h = cc
 
--- what a submission did, by the clauses of the calls that carry it out
-pub carries : (r : Option Refusal) (result : Result (ℕ × ℕ) Refusal) (R : ReplicaState) (more : List Operation) (n room : ℕ)
-    (T : ReplicaState)
-    → IfOk result (λ p. p ≡ (length R.log, length R.log + n)) → OnOk result (r ≡ None)
-    → OnOk result (T ≡ record R { log = R.log ++ more; room = room }) → IfErr result (λ e. (r ≡ Some e) ⊎ ((r ≡ None) × (e ≡ Memory)))
-    → OnErr result (T ≡ R) → Submits r result R more n T
-carries r (Ok p) R more n room T a b c d e = (b, a, λ count outbox. ap (λ (q : ReplicaState). state_with q outbox count) c)
-carries r (Err w) R more n room T a b c d e = (d, e)
-
 pub carried : (R : ReplicaState) (outbox : Outbox) (c : Call) (f : Finding) (r : Option Refusal) (s : ℕ) (more : List Operation) (n : ℕ)
     (submitted : Result (ℕ × ℕ) Refusal) (T : ReplicaState)
     (result : Result Reply AllocError) (outbox' : Outbox)

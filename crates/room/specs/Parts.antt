@@ -1,15 +1,18 @@
 -- What a call does with the parts of a room; no public clause cites this.
-use Rattle.std.specs.Prelude.{◌≡◌, ◌≢◌, ◌⊎◌, ℕ, ◌+◌, Option, Some, None, Result, Ok, Err, List, ◌++◌, length}
+use Rattle.std.specs.Prelude.{◌≡◌, ◌≢◌, ◌⊎◌, ℕ, ◌+◌, ◌<◌, false, IsOk, Option, Some, None, Result, Ok, Err, List, ◌++◌, length}
 use Rattle.std.specs.declared.alloc.AllocError.{AllocError}
 use Rattle.opid.specs.declared.refusal.Refusal.{Refusal}
 use Rattle.opid.specs.declared.refusal.Refusal.TheVariants.{Memory}
+use Rattle.opid.specs.Limits.{is_bad_count}
 use Rattle.opid.specs.Operations.{Operation}
+use Rattle.replica.specs.Part.{part_of}
 use Rattle.replica.specs.Deliver.{ReplicaState}
 use Rattle.room.specs.declared.outcome.Outcome.{Outcome}
 use Rattle.room.specs.Deliveries.{hand_over}
 use Rattle.session_outbox.specs.declared.submission.Submission.TheVariants.{New, Repeat}
 use Rattle.session_outbox.specs.Sessions.{Outbox, after_accept}
 use Rattle.room.specs.declared.call.Call.{Call}
+use Rattle.room.specs.declared.call.Call.TheVariants.{Join, Ins, Del, Pull, Leave, Ops, Put, Read}
 use Rattle.room.specs.declared.reply.Reply.{Reply}
 use Rattle.room.specs.declared.reply.Reply.TheVariants as replies
 use Rattle.room.specs.Machine.{State, Finding, recorded_answer, recorded_next}
@@ -23,6 +26,17 @@ pub record Does (replica : ReplicaState) (outbox : Outbox) (c : Call) (reply : R
     (outbox' : Outbox) : Type 0 where
   pub answered : (count : ℕ) → reply ≡ recorded_answer (state_with replica outbox count) c
   pub done : (count : ℕ) → state_with replica' outbox' count ≡ recorded_next (state_with replica outbox count) c
+
+-- where a call that is recorded may find no memory: a join below 64 sessions, a part that is there, a put of 1 to 64 operations
+abbrev pub MayLackMemory : State → Call → Type 0
+MayLackMemory S (Join units) = length S.outbox.sessions < 64
+MayLackMemory S (Ins s n v k x) = Unit {0}
+MayLackMemory S (Del s n v k c) = Unit {0}
+MayLackMemory S (Pull s have max) = Unit {0}
+MayLackMemory S (Leave s) = ⊥
+MayLackMemory S (Ops after most) = IsOk (part_of S.log after most)
+MayLackMemory S (Put ops) = is_bad_count (length ops) ≡ false
+MayLackMemory S Read = Unit {0}
 
 -- the reply to a submission that isn't the session's next one
 abbrev pub reply_at_once : Finding → Option Reply

@@ -12,7 +12,7 @@ ghost use Rattle.session_outbox.specs.Sessions.{Outbox, session_with, MayAccept}
 ghost use Rattle.session_outbox.specs.Answers.{submission_of};
 ghost use Rattle.room.specs.declared.call.Call.TheVariants.{Join, Ins, Del, Pull, Leave, Ops, Put, Read};
 ghost use Rattle.room.specs.Machine.{counts_units, edits_between_in};
-ghost use Rattle.room.specs.Parts.{Does, reply_at_once, Submits, Accepts, IsHandedOver};
+ghost use Rattle.room.specs.Parts.{Does, MayLackMemory, state_with, reply_at_once, Submits, Accepts, IsHandedOver};
 
 use crate::call::Call;
 use crate::edits::Edits;
@@ -21,7 +21,7 @@ use crate::outcome::Outcome;
 use crate::outcomes::Outcomes;
 use crate::reply::Reply;
 use causal_clock::Op;
-use opid::{Edit, MAX_COUNT, Refusal};
+use opid::{Edit, MAX_COUNT, Refusal, is_bad_count};
 use replica::Replica;
 use session_outbox::{Sessions, Submission};
 use std::alloc::{AllocError, Global};
@@ -37,6 +37,7 @@ pub(crate) fn perform(
     requires { outbox.old.next_number < 4294967295 }
     ensures does { IfOk result (λ reply. Does replica.old outbox.old call.now reply replica.new outbox.new) }
     ensures numbers { outbox.new.next_number ≤ outbox.old.next_number + 1 }
+    ensures memory { OnErr result ((count : ℕ) → MayLackMemory (state_with replica.old outbox.old count) call.now) }
     ensures err_replica { OnErr result (replica.new ≡ replica.old) }
     ensures err_outbox { OnErr result (outbox.new ≡ outbox.old) }
 {
@@ -252,7 +253,7 @@ fn put(alloc: Global, replica: &mut Replica, ops: &Operations) -> Result<Reply, 
 {
     let ops = ops.as_slice();
     let count = ops.len();
-    if count == 0 || count > MAX_COUNT as usize {
+    if is_bad_count(count) {
         return Ok(Reply::No(Refusal::BadCount));
     }
     let mut outcomes = Vec::with_capacity(alloc, count)?;

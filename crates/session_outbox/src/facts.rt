@@ -4,7 +4,7 @@ ghost use Rattle.session_outbox.specs.Answers.{submission_of, pull_of};
 ghost use Rattle.session_outbox.specs.Kept.{session_of};
 
 use crate::submission::Submission;
-use opid::{MAX_COUNT, Refusal};
+use opid::{Refusal, is_bad_count};
 
 /// The facts of a session.
 #[derive(Clone, Copy)]
@@ -44,7 +44,7 @@ impl Facts {
     pub(crate) fn edits(self, have: u32, max: u32, version: u32) -> Result<(u32, u32), Refusal>
         ensures { result ≡ pull_of (Some (session_of (0, self))) have max version }
     {
-        if max == 0 || max > MAX_COUNT {
+        if is_bad_count(max as usize) {
             return Err(Refusal::BadCount);
         }
         if have < self.first || have > self.sent {

@@ -19,7 +19,7 @@ use Rattle.wire_json.proofs.PackedBack.{IsPacked, are_packed, more_scalars, run_
 use Rattle.wire_json.proofs.Pairs.{pairs_small}
 use Rattle.snapshot.specs.Snapshot.{AreInRange, log_text}
 
-number_text : (n : ℕ) → n < 2 ^ 32 → IsUtf8 (decimal n)
+pub number_text : (n : ℕ) → n < 2 ^ 32 → IsUtf8 (decimal n)
 number_text n h = IsUtf8-from_ascii (decimal n) (IsAscii-decimal n (omega arith))
 
 -- a text, and then others, one behind the other

@@ -17,9 +17,6 @@ pairs_more : (vs : List Value) (i : ℕ) (v : Value) (p : ℕ × ℕ) → i < le
 pairs_more vs i v p h e is = map_more (λ (w : Value). pair_in (view w)) vs i v h
     ∙ ap (λ q. pairs_in (take i vs) ++ q ∷ []) (ap (λ (w : Value). pair_in (view w)) (sym e) ∙ is)
 
-is_in : (v : Value) (p : ℕ × ℕ) → pair_of (view v) ≡ Ok p → pair_in (view v) ≡ p
-is_in v p e = rw e refl
-
 -- ---- sites
 
 -- a site is the number that it is told by

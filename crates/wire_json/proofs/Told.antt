@@ -4,7 +4,8 @@ use Rattle.std.specs.List.{AllByRecursion}
 use Rattle.std.proofs.lemmas.Bool.{false_from_ne_true}
 use Rattle.opid.specs.declared.refusal.Refusal.TheVariants.{BadClock}
 use Rattle.causal_clock.specs.Listing.{tells_clock, clock_told}
-use Rattle.causal_clock.proofs.Listings.{AreRising, listing}
+use Rattle.opid.specs.RisingPairs.{AreRising}
+use Rattle.causal_clock.proofs.Listings.{listing}
 
 -- the sites rise from the first, below 32
 short : (p : ℕ × ℕ) (ps : List (ℕ × ℕ)) → AllByRecursion (λ q. q.0 < 32) (p ∷ ps) → AreRising (p ∷ ps) → p.0 + length (p ∷ ps) ≤ 32

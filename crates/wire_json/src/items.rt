@@ -12,17 +12,17 @@ ghost use Rattle.wire_json.specs.Given.{Gives};
 
 use crate::offer::{ItemOffer, Offer, OfferedKind, SitedItem};
 use crate::operations::{
-    check_clock, check_pairs, check_sites, count_chars, read_list, read_member, read_offer,
-    read_parent,
+    check_clock, check_pairs, check_sites, read_list, read_member, read_offer, read_parent,
 };
+use crate::packing::MAX_RUN;
 use crate::reading::{check_keys, read_number, read_text};
 use causal_clock::{MAX_SUM, Op};
-use opid::{OpKind, Refusal};
+use opid::{MAX_COUNT, OpKind, Refusal, count_characters};
 use serde_json::Value;
 use std::alloc::Global;
 
 // How many operations of a `put` are kept: one more than a room takes at once.
-const MOST: usize = 65;
+const MOST: usize = MAX_COUNT as usize + 1;
 
 /// The single operations that JSON values hand over, at most the first 65, each an operation object or a run object, refused as
 /// `read_op` does: each fault is sought in all values before the next. `Memory` may stand in the place of any answer.
@@ -122,8 +122,8 @@ fn read_chars(alloc: Global, text: &str) -> Result<(char, Vec<char>), Refusal>
     ensures told { Gives (λ p. (p.0, p.1.items)) result (run_chars (chars text.now)) }
     ensures few { IfOk result (λ p. length p.1.items < 64) }
 {
-    let count = count_chars(text);
-    if count < 2 || count > 64 {
+    let count = count_characters(text);
+    if count < 2 || count > MAX_RUN {
         return Err(Refusal::BadField);
     }
     let all = all_chars(alloc, text)?;

@@ -11,13 +11,13 @@ ghost use Rattle.wire_json.specs.Written.{each_data, item_data, run_data_of};
 use crate::items::next_op;
 use crate::operation_values::{check_op, clock_values, op_value, parent_value};
 use causal_clock::{Clock, MAX_SUM, Op};
-use opid::{OpKind, Refusal, Site, Stamp};
+use opid::{MAX_COUNT, OpKind, Refusal, Site, Stamp};
 use serde_json::{Value, json, push};
 use std::alloc::{AllocError, Global};
 use std::marker::Model;
 
 /// A run has at most so many insertions.
-const MAX_RUN: usize = 64;
+pub(crate) const MAX_RUN: usize = MAX_COUNT as usize;
 
 /// An operation, and the characters of the insertions that follow it.
 #[derive(Drop)]

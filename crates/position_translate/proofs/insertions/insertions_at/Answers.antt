@@ -7,7 +7,7 @@ use Rattle.position_translate.proofs.insertions.insertions_at.Goals as goal
 pub run-requires : goal.run-requires
 run-requires c =
     few_for c.args.doc.now.log c.clock.result (length (chars c.args.text.now)) c.version.ensures.lawful c.clock.ensures
-    (omega (arith, c.characters_in-count.ensures, c.if-count-version.false, c.version-2.ensures.value, c.version-2.ensures.within))
+    (omega (arith, c.count_characters-count.ensures, c.if-count-version.false, c.version-2.ensures.value, c.version-2.ensures.within))
 
 asked : (c : goal.In_ok-run) → c.in_ok-run.field-0.items
     ≡ asked_insertions_in c.args.units c.args.doc.now.log c.args.site c.args.version c.args.place
@@ -29,7 +29,7 @@ pub returns-clause-fits : goal.returns-clause-fits
 returns-clause-fits c = omega (
   arith,
   counted c,
-  c.characters_in-count.ensures,
+  c.count_characters-count.ensures,
   c.if-count-version.false,
   c.version-2.ensures.value,
   c.version-2.ensures.within,

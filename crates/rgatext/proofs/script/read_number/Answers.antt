@@ -4,7 +4,8 @@ use Rattle.std.specs.Prelude.{IfOk, IfErr, IfSome, IfNone, Option}
 use Rattle.std.specs.Result.{result_ok}
 use Rattle.std.specs.Str.Parse.{ParsesUnsigned}
 use Rattle.rgatext.specs.Script.{IsPlain}
-use Rattle.rgatext.proofs.Words.{decimal_is_plain, decimal_is_text, number_read, number_not_read}
+use Rattle.rgatext.proofs.Words.{decimal_is_plain, number_read, number_not_read}
+use Rattle.snapshot.proofs.Utf8.{number_text}
 use Rattle.rgatext.proofs.script.read_number.Goals as goal
 
 some_where_ok : {E : Type 0} (P : ℕ → Type 0) (r : Result ℕ E) (o : Option ℕ) → o ≡ result_ok r → IfOk r P → IfSome o P
@@ -39,4 +40,4 @@ returns-in-Ok-clause-none c =
     (number_not_read word c.parse.result read)
 
 pub returns-in-Err-clause-none : goal.returns-in-Err-clause-none
-returns-in-Err-clause-none c = λ n fits is. c.in-Err.ensures.cases.0 (subst IsUtf8 (sym is) (decimal_is_text n fits))
+returns-in-Err-clause-none c = λ n fits is. c.in-Err.ensures.cases.0 (subst IsUtf8 (sym is) (number_text n fits))

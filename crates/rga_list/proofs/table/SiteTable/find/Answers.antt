@@ -1,7 +1,8 @@
 -- The search by halves finds what is found along the row.
 use Rattle.std.proofs.Common.{◌≡◌, ◌∙◌, ℕ, Some, None, sym, subst, ap, get_or, rules}
 use Rattle.std.proofs.lemmas.List.Sorted.{answers_always}
-use Rattle.rga_list.specs.SiteIds.{SiteIds, find_id, AreRising}
+use Rattle.opid.specs.RisingPairs.{AreRising}
+use Rattle.rga_list.specs.SiteIds.{SiteIds, find_id}
 use Rattle.rga_list.proofs.Identifiers.{halves-found, halves-none}
 use Rattle.rga_list.proofs.table.SiteTable.find.Goals as goal
 
