@@ -1,6 +1,7 @@
 // Peers that the benchmark runs beside `rgatext lines`, over the same lines of JSON:
 //   yjs      answers an editor's join, insertions and pulls over a Yjs document
 //   json     reads each line and writes an answer of the right size, and keeps no document
+//   kept     plays the editor's insertions and tells how many bytes keep the document, with no answers
 //   editors  plays the three editors' insertions on three Yjs documents in memory, with no answers
 const mode = process.argv[2];
 const yjs = mode === "json" ? null : require("yjs");
@@ -38,6 +39,11 @@ function serve() {
   });
 }
 
+async function keep() {
+  for await (const line of readline.createInterface({ input: process.stdin })) answer(JSON.parse(line));
+  console.log(yjs.encodeStateAsUpdate(doc).length);
+}
+
 async function play() {
   const requests = [];
   for await (const line of readline.createInterface({ input: process.stdin })) requests.push(JSON.parse(line));
@@ -60,4 +66,5 @@ async function play() {
 }
 
 if (mode === "editors") play();
+else if (mode === "kept") keep();
 else serve();
