@@ -7,6 +7,7 @@ use causal_clock::{Clock, MAX_SUM, Op};
 use opid::{OpKind, Refusal, Site, Stamp};
 use serde_json::Value;
 use std::alloc::Global;
+use std::ops::Range;
 use std::test::Fail;
 
 const ABC: &str = "[{\"c\":[[1,1]],\"k\":\"r\",\"p\":null,\"s\":1,\"x\":\"abc\"}]";
@@ -76,14 +77,21 @@ fn kind_of(what: usize, elements: &[Stamp], ch: char) -> OpKind {
     }
 }
 
+// One of all insertions of an a or a b and deletions over these elements: first come the insertions, an a and a b of each.
+fn lettered(what: usize, elements: &[Stamp]) -> OpKind {
+    let parents = elements.len() + 1;
+    if what >= parents + parents {
+        return kind_of(what - parents, elements, 'a');
+    }
+    kind_of(what / 2, elements, if what % 2 == 0 { 'a' } else { 'b' })
+}
+
 // In what the operations of logs differ besides their sites and kinds.
 #[derive(Clone, Copy, PartialEq, Eq)]
 enum Also {
-    // In nothing: each puts in an a and knows all before it.
-    Nothing,
-    // Each puts in an a or a b.
+    // Each puts in an a or a b, and knows all before it.
     Letters,
-    // Each knows all before it, or only those of its own site and what these know.
+    // Each puts in an a, and knows all before it, or only those of its own site and what these know.
     Knowledge,
 }
 
@@ -107,12 +115,19 @@ fn log_of(alloc: Global, number: usize, length: usize, also: Also) -> Result<Vec
     for _ in 0..length {
         let place = take_digit(&mut left);
         let site = Site::new(place as u8)?;
-        let is_b = also == Also::Letters && take_digit(&mut left) == 1;
         let is_apart = also == Also::Knowledge && take_digit(&mut left) == 1;
-        let choices = elements.len() + elements.len() + 1;
-        let ch = if is_b { 'b' } else { 'a' };
-        let kind = kind_of(left % choices, elements.as_slice(), ch);
-        left /= choices;
+        let targets = elements.len().min(5); // that many stand before the last of six
+        let kind = if also == Also::Letters {
+            let choices = targets + targets + targets + 2;
+            let what = left % choices;
+            left /= choices;
+            lettered(what, elements.as_slice())
+        } else {
+            let choices = targets + targets + 1;
+            let what = left % choices;
+            left /= choices;
+            kind_of(what, elements.as_slice(), 'a')
+        };
         let known = if is_apart { own[place] } else { all };
         let clock = raised(&known, site)?;
         let stamp = push(&mut ops, site, clock, kind)?;
@@ -126,18 +141,17 @@ fn log_of(alloc: Global, number: usize, length: usize, also: Also) -> Result<Vec
     Ok(ops)
 }
 
-// Whether each of so many logs of a length is read back. The first operation is site 0's insertion of an a: the other site and
-// letter have the same logs, and it has nothing to know.
+// Whether each of so many logs of a length is read back, from the one with this number on. The first operation is site 0's
+// insertion of an a: the other site and letter have the same logs, and it has nothing to know.
 fn logs_are_read_back(
     alloc: Global,
     length: usize,
     also: Also,
-    logs: u32,
+    numbers: Range<u32>,
 ) -> Result<bool, Refusal> {
-    let first = if also == Also::Nothing { 2 } else { 4 };
     let mut all = true;
-    for number in 0..logs {
-        let ops = log_of(alloc, first * number as usize, length, also)?;
+    for number in numbers {
+        let ops = log_of(alloc, 4 * number as usize, length, also)?;
         all &= are_read_back(alloc, ops.as_slice())?;
     }
     Ok(all)
@@ -267,20 +281,75 @@ fn tells_what_is_wrong_with_a_run(rt: HostRuntime) -> Result<(), Fail> {
     Ok(())
 }
 
-// Up to five operations with two letters, and six with one.
+// Up to five operations with two letters.
 #[test]
 fn every_short_log_is_read_back(rt: HostRuntime) -> Result<(), Fail> {
     let alloc = rt.alloc();
-    for (length, also, logs) in [
-        (1, Also::Letters, 1),
-        (2, Also::Letters, 4 * 3),
-        (3, Also::Letters, 4 * 3 * 4 * 5),
-        (4, Also::Letters, 4 * 3 * 4 * 5 * 4 * 7),
-        (5, Also::Letters, 4 * 3 * 4 * 5 * 4 * 7 * 4 * 9),
-        (6, Also::Nothing, 2 * 3 * 2 * 5 * 2 * 7 * 2 * 9 * 2 * 11),
+    for (length, logs) in [
+        (1, 1),
+        (2, 10),
+        (3, 10 * 16),
+        (4, 10 * 16 * 22),
+        (5, 10 * 16 * 22 * 28),
     ] {
-        assert!(rt; logs_are_read_back(alloc, length, also, logs)?);
+        assert!(rt; logs_are_read_back(alloc, length, Also::Letters, 0..logs)?);
     }
+    Ok(())
+}
+
+// Six operations with two letters, in eight parts, as a test has its time.
+fn logs_of_six_are_read_back(alloc: Global, part: u32) -> Result<bool, Refusal>
+    requires { part < 8 }
+{
+    let logs = 10 * 16 * 22 * 28 * 34 / 8;
+    logs_are_read_back(alloc, 6, Also::Letters, part * logs..part * logs + logs)
+}
+
+#[test]
+fn every_log_of_six_first(rt: HostRuntime) -> Result<(), Fail> {
+    assert!(rt; logs_of_six_are_read_back(rt.alloc(), 0)?);
+    Ok(())
+}
+
+#[test]
+fn every_log_of_six_second(rt: HostRuntime) -> Result<(), Fail> {
+    assert!(rt; logs_of_six_are_read_back(rt.alloc(), 1)?);
+    Ok(())
+}
+
+#[test]
+fn every_log_of_six_third(rt: HostRuntime) -> Result<(), Fail> {
+    assert!(rt; logs_of_six_are_read_back(rt.alloc(), 2)?);
+    Ok(())
+}
+
+#[test]
+fn every_log_of_six_fourth(rt: HostRuntime) -> Result<(), Fail> {
+    assert!(rt; logs_of_six_are_read_back(rt.alloc(), 3)?);
+    Ok(())
+}
+
+#[test]
+fn every_log_of_six_fifth(rt: HostRuntime) -> Result<(), Fail> {
+    assert!(rt; logs_of_six_are_read_back(rt.alloc(), 4)?);
+    Ok(())
+}
+
+#[test]
+fn every_log_of_six_sixth(rt: HostRuntime) -> Result<(), Fail> {
+    assert!(rt; logs_of_six_are_read_back(rt.alloc(), 5)?);
+    Ok(())
+}
+
+#[test]
+fn every_log_of_six_seventh(rt: HostRuntime) -> Result<(), Fail> {
+    assert!(rt; logs_of_six_are_read_back(rt.alloc(), 6)?);
+    Ok(())
+}
+
+#[test]
+fn every_log_of_six_eighth(rt: HostRuntime) -> Result<(), Fail> {
+    assert!(rt; logs_of_six_are_read_back(rt.alloc(), 7)?);
     Ok(())
 }
 
@@ -295,7 +364,7 @@ fn every_short_log_of_sites_apart_is_read_back(rt: HostRuntime) -> Result<(), Fa
         (4, 4 * 3 * 4 * 5 * 4 * 7),
         (5, 4 * 3 * 4 * 5 * 4 * 7 * 4 * 9),
     ] {
-        assert!(rt; logs_are_read_back(alloc, length, Also::Knowledge, logs)?);
+        assert!(rt; logs_are_read_back(alloc, length, Also::Knowledge, 0..logs)?);
     }
     Ok(())
 }
