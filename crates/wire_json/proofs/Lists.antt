@@ -1,33 +1,47 @@
 -- Writing the items of a list one after another, as a loop does.
-use Rattle.std.proofs.Common.{◌≡◌, ℕ, zero, suc, ◌+◌, ◌-◌, ◌<◌, List, [], ◌∷◌, ◌++◌, length, take, drop, get_or, refl, sym, ap, ap₂}
-use Rattle.std.proofs.Common.{subst, ◌∙◌, add-one, arith}
-use Rattle.std.proofs.lemmas.List.{take_all}
-use Rattle.std.specs.List.{AllByRecursion}
-use Rattle.serde_json.specs.Data.{Data, Items, no_items, item}
-use Rattle.serde_json.specs.View.{view, items_view}
-use Rattle.serde_json.specs.declared.value.Value.{Value}
-use Rattle.wire_json.specs.Written.{each_data}
+use Rattle.std.proofs.Common.{◌≡◌, ℕ, zero, suc, ◌+◌, ◌-◌, ◌<◌, ◌≤◌, List, [], ◌∷◌, ◌++◌, length, take, drop, get_or, refl, sym, ap}
+use Rattle.std.proofs.Common.{subst, ◌∙◌, add-one, append_assoc, arith}
+use Rattle.std.proofs.lemmas.List.{take_all, take_more, flat_map_more}
+use Rattle.std.specs.List.{AllByRecursion, flat_map}
+use Rattle.json.specs.Token.{Token, begin_array, end_array}
+use Rattle.json.specs.Tree.{items_tokens}
+use Rattle.serde_json.specs.Data.{Data, array}
+use Rattle.serde_json.specs.Written.{items_outline}
+use Rattle.wire_json.specs.Written.{each_data, tokens_of}
 
-abbrev pub behind : Items → Data → Items
-behind no_items d = item d no_items
-behind (item e ds) d = item e (behind ds d)
+-- the tokens of values, one value after another
+abbrev pub each_tokens : {A : Type 0} → (A → Data) → List A → List Token
+each_tokens f xs = flat_map (λ x. tokens_of (f x)) xs
 
-pub items_view-push : (vs : List Value) (v : Value) → items_view (vs ++ v ∷ []) ≡ behind (items_view vs) (view v)
-items_view-push [] v = refl
-items_view-push (w ∷ vs) v = ap (item (view w)) (items_view-push vs v)
+items_tokens-each_data : {A : Type 0} (f : A → Data) (xs : List A)
+    → each_tokens f xs ++ end_array ∷ [] ≡ items_tokens (items_outline (each_data f xs))
+items_tokens-each_data f [] = refl
+items_tokens-each_data f (x ∷ xs) =
+    append_assoc (tokens_of (f x)) (each_tokens f xs) (end_array ∷ []) ∙ ap (λ ts. tokens_of (f x) ++ ts) (items_tokens-each_data f xs)
 
-each_data-more : {A : Type 0} (f : A → Data) (xs : List A) (i : ℕ) (x : A) → i < length xs
-    → each_data f (take (i + 1) xs) ≡ behind (each_data f (take i xs)) (f (get_or xs i x))
-each_data-more f [] i x h = absurd (omega arith)
-each_data-more f (y ∷ xs) zero x h = refl
-each_data-more f (y ∷ xs) (suc i) x h =
-    rw add-one (ap (item (f y)) (ap (λ k. each_data f (take k xs)) (sym (add-one i)) ∙ each_data-more f xs i x (omega arith)))
+-- the tokens of one more item go behind those before them
+pub appended : {A : Type 0} (f : A → Data) (xs : List A) (i : ℕ) (x : A) (opened old new : List Token) → i < length xs
+    → x ≡ get_or xs i x → old ≡ opened ++ each_tokens f (take i xs) → new ≡ old ++ tokens_of (f x)
+    → new ≡ opened ++ each_tokens f (take (i + 1) xs)
+appended f xs i x opened old new h at so_far here =
+    here ∙ ap (λ ts. ts ++ tokens_of (f x)) so_far ∙ flat_map_more (λ y. tokens_of (f y)) opened (take i xs) x
+    ∙ ap (λ ys. opened ++ each_tokens f ys) (ap (λ y. take i xs ++ y ∷ []) at ∙ sym (take_more xs i x h))
 
--- the value of one more item goes behind those before it
-pub pushed : {A : Type 0} (f : A → Data) (vs : List Value) (v : Value) (xs : List A) (i : ℕ) (x : A) → i < length xs
-    → items_view vs ≡ each_data f (take i xs) → view v ≡ f (get_or xs i x)
-    → items_view (vs ++ v ∷ []) ≡ each_data f (take (i + 1) xs)
-pushed f vs v xs i x h e is = items_view-push vs v ∙ ap₂ behind e is ∙ sym (each_data-more f xs i x h)
+-- the items' tokens between brackets are the list's
+pub bracketed : {A : Type 0} (f : A → Data) (xs : List A) (old opened here new : List Token) → opened ≡ old ++ begin_array ∷ []
+    → here ≡ opened ++ each_tokens f xs → new ≡ here ++ end_array ∷ [] → new ≡ old ++ tokens_of (array (each_data f xs))
+bracketed f xs old opened here new first all last =
+    last ∙ ap (λ ts. ts ++ end_array ∷ []) all ∙ append_assoc opened (each_tokens f xs) (end_array ∷ [])
+    ∙ ap (λ ts. opened ++ ts) (items_tokens-each_data f xs)
+    ∙ ap (λ ts. ts ++ items_tokens (items_outline (each_data f xs))) first
+    ∙ append_assoc old (begin_array ∷ []) (items_tokens (items_outline (each_data f xs)))
+
+-- the same at the end of a loop
+pub closed : {A : Type 0} (f : A → Data) (xs : List A) (i : ℕ) (old opened here new : List Token) → length xs ≤ i
+    → opened ≡ old ++ begin_array ∷ [] → here ≡ opened ++ each_tokens f (take i xs) → new ≡ here ++ end_array ∷ []
+    → new ≡ old ++ tokens_of (array (each_data f xs))
+closed f xs i old opened here new h first so_far last =
+    bracketed f xs old opened here new first (so_far ∙ ap (λ ys. opened ++ each_tokens f ys) (take_all i xs h)) last
 
 -- what holds of the items so far holds with one more
 pub all_more : {A : Type 0} (P : A → Type 0) (xs : List A) (i : ℕ) (x : A) → i < length xs → AllByRecursion P (take i xs)

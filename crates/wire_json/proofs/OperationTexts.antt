@@ -1,14 +1,14 @@
 -- The texts of operations, by serde_json's words.
-use Rattle.std.proofs.Common.{◌≡◌, ℕ, List, [], ◌∷◌, ◌++◌, codes, false, Option, Some, None, decimal, refl, ap₂, ◌∙◌, append_assoc}
+use Rattle.std.proofs.Common.{◌≡◌, ℕ, List, [], ◌∷◌, ◌++◌, codes, Option, Some, None, decimal, refl, ap₂, ◌∙◌, append_assoc}
 use Rattle.json.specs.Print.{escape_byte}
 use Rattle.serde_json.specs.Data.{array}
-use Rattle.serde_json.specs.Written.{compact_text, has_float, items_have_float}
+use Rattle.serde_json.specs.Written.{compact_text}
 use Rattle.opid.specs.declared.stamp.Stamp.{Stamp}
 use Rattle.opid.specs.declared.kind.OpKind.{OpKind}
 use Rattle.opid.specs.declared.kind.OpKind.TheVariants.{Ins, Del}
 use Rattle.opid.specs.Operations.{Operation}
 use Rattle.wire_json.specs.Text.{quote, pairs_of, pair_text, clock_text, stamp_text, parent_text, op_text_of, op_text}
-use Rattle.wire_json.specs.Written.{each_data, pair_data, pairs_data, stamp_data, parent_data, op_data_of, op_data}
+use Rattle.wire_json.specs.Written.{pair_data, pairs_data, stamp_data, parent_data, op_data_of, op_data}
 use Rattle.wire_json.proofs.ListTexts.{regroup_5, regroup_7, list_compact}
 
 pair_compact : (p : ℕ × ℕ) → compact_text (pair_data p) ≡ pair_text p
@@ -45,15 +45,3 @@ compact_of s clock (Del target) =
 -- what serde_json writes for the value of an operation is the operation's text
 pub op_compact : (x : Operation) → compact_text (op_data x) ≡ op_text x
 op_compact x = compact_of x.site x.clock x.kind
-
-pairs_no_float : (ps : List (ℕ × ℕ)) → items_have_float (each_data pair_data ps) ≡ false
-pairs_no_float [] = refl
-pairs_no_float (p ∷ ps) = pairs_no_float ps
-
-no_float_of : (s : ℕ) (clock : List ℕ) (kind : OpKind) → has_float (op_data_of s clock kind) ≡ false
-no_float_of s clock (Ins None c) = rw (pairs_no_float (pairs_of clock)) refl
-no_float_of s clock (Ins (Some p) c) = rw (pairs_no_float (pairs_of clock)) refl
-no_float_of s clock (Del target) = rw (pairs_no_float (pairs_of clock)) refl
-
-pub op_no_float : (x : Operation) → has_float (op_data x) ≡ false
-op_no_float x = no_float_of x.site x.clock x.kind

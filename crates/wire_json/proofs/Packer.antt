@@ -1,18 +1,18 @@
 -- Packing operations one after another, as a loop does.
-use Rattle.std.proofs.Common.{◌≡◌, ◌+◌, ◌<◌, ◌≤◌, ℕ, true, false, List, [], ◌∷◌, ◌++◌, length, map, take, drop, get_or, sum}
+use Rattle.std.proofs.Common.{◌≡◌, ◌+◌, ◌<◌, ◌≤◌, ℕ, true, false, List, [], ◌∷◌, ◌++◌, length, take, drop, get_or, sum}
 use Rattle.std.proofs.Common.{refl, sym, ap, ◌∙◌, append_assoc, arith}
 use Rattle.std.specs.Prelude.{nat_lt, encode_utf8, encode_utf8_all}
 use Rattle.std.proofs.lemmas.Bool.{false_from_ne_true, and_parts, cond-true, cond-false}
-use Rattle.std.proofs.lemmas.List.{append-nil, drop_all, map-append, take_more}
-use Rattle.serde_json.specs.Data.{Data, item}
-use Rattle.serde_json.specs.View.{view, items_view, items_of}
-use Rattle.serde_json.specs.declared.value.Value.{Value}
+use Rattle.std.proofs.lemmas.List.{append-nil, drop_all, take_more}
+use Rattle.json.specs.Token.{Token, begin_array, end_array}
+use Rattle.serde_json.specs.Data.{array}
 use Rattle.opid.specs.Operations.{Operation}
 use Rattle.opid.proofs.Counts.{sum-raised}
 use Rattle.opid.proofs.Gathered.{rest_at}
 use Rattle.causal_clock.specs.Kinds.{IsOperation}
 use Rattle.wire_json.specs.Packing.{Item, next, last_of, is_next, joins, alone, with_one_more, char_of, packed_behind}
-use Rattle.wire_json.specs.Written.{each_data, item_data}
+use Rattle.wire_json.specs.Written.{tokens_of, each_data, item_data}
+use Rattle.wire_json.proofs.Lists.{each_tokens, bracketed}
 use Rattle.wire_json.proofs.Packed.{is_next-next}
 
 -- no operation follows one whose clock is at the limit
@@ -38,35 +38,34 @@ pushed i y ch more e same is =
 
 -- ---- the loop
 
-abbrev pub written : List Value → Item → List Operation → List Data
-written vs i ys = map view vs ++ map item_data (packed_behind i ys)
+-- what is written, and what the item becomes with the rest
+abbrev pub written : List Token → Item → List Operation → List Token
+written ts i ys = ts ++ each_tokens item_data (packed_behind i ys)
 
-pub joined_on : (vs : List Value) (i : Item) (ops : List Operation) (k : ℕ) (y : Operation) (total : List Data) → k < length ops
+pub joined_on : (ts : List Token) (i : Item) (ops : List Operation) (k : ℕ) (y : Operation) (total : List Token) → k < length ops
     → y ≡ get_or ops k y → joins i y ≡ true
-    → written vs i (drop k ops) ≡ total → written vs (with_one_more i y) (drop (k + 1) ops) ≡ total
-joined_on vs i ops k y total h at e so_far =
-    sym (ap (written vs i) (rest_at ops k y h at) ∙ ap (λ (items : List Item). map view vs ++ map item_data items) (cond-true _ _ _ e))
+    → written ts i (drop k ops) ≡ total → written ts (with_one_more i y) (drop (k + 1) ops) ≡ total
+joined_on ts i ops k y total h at e so_far =
+    sym (ap (written ts i) (rest_at ops k y h at) ∙ ap (λ (items : List Item). ts ++ each_tokens item_data items) (cond-true _ _ _ e))
     ∙ so_far
 
-pub ended_on : (vs : List Value) (v : Value) (i : Item) (ops : List Operation) (k : ℕ) (y : Operation) (total : List Data)
-    → k < length ops → y ≡ get_or ops k y → joins i y ≡ false → view v ≡ item_data i
-    → written vs i (drop k ops) ≡ total → written (vs ++ v ∷ []) (alone y) (drop (k + 1) ops) ≡ total
-ended_on vs v i ops k y total h at e is so_far =
-    let later = map item_data (packed_behind (alone y) (drop (k + 1) ops)) in
-    ap (λ ds. ds ++ later) (map-append view vs (v ∷ [])) ∙ append_assoc (map view vs) (view v ∷ []) later
-    ∙ ap (λ d. map view vs ++ d ∷ later) is
-    ∙ sym (ap (written vs i) (rest_at ops k y h at) ∙ ap (λ (items : List Item). map view vs ++ map item_data items) (cond-false _ _ _ e))
+pub ended_on : (old new : List Token) (i : Item) (ops : List Operation) (k : ℕ) (y : Operation) (total : List Token)
+    → k < length ops → y ≡ get_or ops k y → joins i y ≡ false → new ≡ old ++ tokens_of (item_data i)
+    → written old i (drop k ops) ≡ total → written new (alone y) (drop (k + 1) ops) ≡ total
+ended_on old new i ops k y total h at e is so_far =
+    let later = each_tokens item_data (packed_behind (alone y) (drop (k + 1) ops)) in
+    ap (λ ts. ts ++ later) is ∙ append_assoc old (tokens_of (item_data i)) later
+    ∙ sym (ap (written old i) (rest_at ops k y h at) ∙ ap (λ (items : List Item). old ++ each_tokens item_data items) (cond-false _ _ _ e))
     ∙ so_far
 
-items_of-each : {A : Type 0} (f : A → Data) (xs : List A) → each_data f xs ≡ items_of (map f xs)
-items_of-each f [] = refl
-items_of-each f (x ∷ xs) = ap (item (f x)) (items_of-each f xs)
-
-pub all_written : (vs : List Value) (v : Value) (i : Item) (ops : List Operation) (k : ℕ) (items : List Item) → length ops ≤ k
-    → view v ≡ item_data i → written vs i (drop k ops) ≡ map item_data items → items_view (vs ++ v ∷ []) ≡ each_data item_data items
-all_written vs v i ops k items h is so_far =
-    ap items_of (map-append view vs (v ∷ []) ∙ ap (λ d. map view vs ++ d ∷ []) is ∙ sym (ap (written vs i) (drop_all k ops h)) ∙ so_far)
-    ∙ sym (items_of-each item_data items)
+-- the last item between brackets with those before it
+pub all_written : (i : Item) (ops : List Operation) (k : ℕ) (items : List Item) (old opened here last new : List Token)
+    → length ops ≤ k → opened ≡ old ++ begin_array ∷ [] → written here i (drop k ops) ≡ opened ++ each_tokens item_data items
+    → last ≡ here ++ tokens_of (item_data i) → new ≡ last ++ end_array ∷ [] → new ≡ old ++ tokens_of (array (each_data item_data items))
+all_written i ops k items old opened here last new h first so_far is end =
+    let alone_left : written here i (drop k ops) ≡ here ++ (tokens_of (item_data i) ++ []) = ap (written here i) (drop_all k ops h) in
+    bracketed item_data items old opened last new first
+    (is ∙ ap (λ ts. here ++ ts) (sym (append-nil (tokens_of (item_data i)))) ∙ sym alone_left ∙ so_far) end
 
 -- ---- texts
 

@@ -1,5 +1,5 @@
 -- The texts of replies, by serde_json's words.
-use Rattle.std.proofs.Common.{◌≡◌, ◌<◌, ◌≤◌, ◌^◌, ℕ, List, [], ◌∷◌, ◌++◌, map, codes, false, Some, None, decimal, refl, sym, ap, ap₂, ◌∙◌}
+use Rattle.std.proofs.Common.{◌≡◌, ◌<◌, ◌≤◌, ◌^◌, ℕ, List, [], ◌∷◌, ◌++◌, map, codes, Some, decimal, refl, sym, ap, ap₂, ◌∙◌}
 use Rattle.std.proofs.Common.{arith}
 use Rattle.std.proofs.Common.{lit<, lit≤}
 use Rattle.std.specs.Prelude.{IsTrue, encode_utf8_all}
@@ -13,7 +13,7 @@ use Rattle.json.specs.Tree.{depth, items_depth, HasNumbers, ItemsHaveNumbers}
 use Rattle.json.proofs.Printed.Trees.{document-print}
 use Rattle.json.proofs.Printed.Decimals.{IsNumber-decimal}
 use Rattle.serde_json.specs.Data.{Data}
-use Rattle.serde_json.specs.Written.{compact_text, outline, items_outline, has_float, items_have_float}
+use Rattle.serde_json.specs.Written.{compact_text, outline, items_outline}
 use Rattle.serde_json.proofs.Texts.{print-outline}
 use Rattle.opid.specs.declared.refusal.Refusal.{Refusal}
 use Rattle.opid.specs.declared.refusal.Refusal.TheVariants.{BadJson, BadField, UnknownKind, NoRoom, NoSession, TooManySessions, BadNumber}
@@ -21,25 +21,21 @@ use Rattle.opid.specs.declared.refusal.Refusal.TheVariants.{BadVersion, BadPlace
 use Rattle.opid.specs.declared.refusal.Refusal.TheVariants.{OwnSite, Conflict, HoldFull, NotRising, UnknownElement, NotOlder, BadHave}
 use Rattle.opid.specs.declared.refusal.Refusal.TheVariants.{BadRange, Busy, Worn, Memory, SiteUsed, BadSnapshot, TooLong}
 use Rattle.opid.specs.Refusals.{number_of}
-use Rattle.opid.specs.declared.kind.OpKind.{OpKind}
-use Rattle.opid.specs.declared.kind.OpKind.TheVariants as kinds
 use Rattle.opid.specs.declared.edit.Edit as edit
 use Rattle.opid.specs.declared.edit.Edit.TheVariants.{Ins, Del, DelUnits, Nop}
 use Rattle.room.specs.declared.reply.Reply as reply
 use Rattle.room.specs.declared.reply.Reply.TheVariants.{Joined, Ok, Edits, Left, Ops, Put, Text, No}
-use Rattle.opid.specs.Operations.{Operation}
 use Rattle.room.specs.declared.outcome.Outcome as outcome
 use Rattle.room.specs.declared.outcome.Outcome.TheVariants as outcomes
 use Rattle.opid.proofs.Told.{number_of-injective}
-use Rattle.wire_json.proofs.OperationTexts.{op_no_float}
 use Rattle.wire_json.proofs.Read.{small}
 use Rattle.wire_json.proofs.PackedTexts.{item_compact, items_numbers, items_shallow, one_outline}
 use Rattle.wire_json.proofs.PackedBack.{are_packed}
 use Rattle.wire_json.specs.Text.{IsInRange, IsEditInRange, IsOutcomeInRange, outcome_text, quote, text, listed}
 use Rattle.wire_json.specs.Text.{edit_text, item_text, packed_text}
-use Rattle.wire_json.specs.Packing.{Item, packed}
+use Rattle.wire_json.specs.Packing.{packed}
 use Rattle.wire_json.proofs.ListTexts.{regroup_3, regroup_5, regroup_7, list_compact}
-use Rattle.wire_json.specs.Written.{data_of, item_data, item_data_of, outcome_data, edit_data, each_data}
+use Rattle.wire_json.specs.Written.{data_of, item_data, outcome_data, edit_data, each_data}
 
 edit_compact : (e : edit.Edit) → compact_text (edit_data e) ≡ edit_text e
 unfolding escape_byte
@@ -75,40 +71,6 @@ compact (Put os) =
     ∙ regroup_3 (codes "{\"os\":") (listed (map outcome_text os)) (codes ",\"r\":\"put\"}")
 compact (Text v x) = regroup_5 (codes "{\"r\":\"text\",\"v\":") (decimal v) (codes ",\"x\":") (quote x) (codes "}")
 compact (No why) = regroup_3 (codes "{\"n\":") (decimal (number_of why)) (codes ",\"r\":\"no\"}")
-
-edits_no_float : (es : List edit.Edit) → items_have_float (each_data edit_data es) ≡ false
-edits_no_float [] = refl
-edits_no_float (Ins k c ∷ es) = edits_no_float es
-edits_no_float (Del k ∷ es) = edits_no_float es
-edits_no_float (DelUnits k w ∷ es) = edits_no_float es
-edits_no_float (Nop ∷ es) = edits_no_float es
-
-pub item_no_float : (x : Operation) (kind : OpKind) (cs : List ℕ) → has_float (item_data_of (record x { kind = kind }) cs) ≡ false
-item_no_float x kind [] = op_no_float (record x { kind = kind })
-item_no_float x (kinds.Ins None c) (d ∷ cs) = op_no_float (record x { kind = kinds.Ins None c })
-item_no_float x (kinds.Ins (Some p) c) (d ∷ cs) = op_no_float (record x { kind = kinds.Ins (Some p) c })
-item_no_float x (kinds.Del t) (d ∷ cs) = op_no_float (record x { kind = kinds.Del t })
-
-items_no_float : (items : List Item) → items_have_float (each_data item_data items) ≡ false
-items_no_float [] = refl
-items_no_float (i ∷ items) = rw (item_no_float i.first i.first.kind i.more) (items_no_float items)
-
-outcomes_no_float : (os : List outcome.Outcome) → items_have_float (each_data outcome_data os) ≡ false
-outcomes_no_float [] = refl
-outcomes_no_float (outcomes.Took taken dropped ∷ os) = outcomes_no_float os
-outcomes_no_float (outcomes.Kept ∷ os) = outcomes_no_float os
-outcomes_no_float (outcomes.Again ∷ os) = outcomes_no_float os
-outcomes_no_float (outcomes.No why ∷ os) = outcomes_no_float os
-
-pub no_float : (r : reply.Reply) → has_float (data_of r) ≡ false
-no_float (Joined s v x) = refl
-no_float (Ok «from» to) = refl
-no_float (Edits «from» es) = rw (edits_no_float es) refl
-no_float Left = refl
-no_float (Ops «from» ops) = rw (items_no_float (packed ops)) refl
-no_float (Put os) = rw (outcomes_no_float os) refl
-no_float (Text v x) = refl
-no_float (No why) = refl
 
 number_small : (why : Refusal) → number_of why < 2 ^ 64
 number_small BadJson = lit< tt

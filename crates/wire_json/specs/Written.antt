@@ -1,6 +1,9 @@
 -- The JSON value of a reply, and of an operation. Private clauses alone cite it.
 use Rattle.std.specs.Prelude.{ℕ, Option, Some, None, List, [], ◌∷◌, codes, encode_utf8_all}
 use Rattle.serde_json.specs.Data.{Data, null, Items, no_items, item, string, number, unsigned, array, object, member, no_members}
+use Rattle.serde_json.specs.Written.{outline}
+use Rattle.json.specs.Token.{Token}
+use Rattle.json.specs.Tree.{json_tokens}
 use Rattle.opid.specs.declared.refusal.Refusal.{Refusal}
 use Rattle.opid.specs.Refusals.{number_of}
 use Rattle.opid.specs.declared.stamp.Stamp.{Stamp}
@@ -15,6 +18,10 @@ use Rattle.room.specs.declared.reply.Reply as reply
 use Rattle.room.specs.declared.reply.Reply.TheVariants.{Joined, Ok, Edits, Left, Ops, Put, Text, No}
 use Rattle.wire_json.specs.Packing.{Item, packed}
 use Rattle.wire_json.specs.Text.{pairs_of}
+
+-- the tokens of a value
+abbrev pub tokens_of : Data → List Token
+tokens_of d = json_tokens (outline d)
 
 -- the value of a `joined`
 abbrev pub joined_data : ℕ → ℕ → List ℕ → Data
@@ -77,11 +84,11 @@ abbrev pub parent_data : Option Stamp → Data
 parent_data None = null
 parent_data (Some s) = stamp_data s
 
--- the value of an insertion
-abbrev pub insertion_data : ℕ → List ℕ → Option Stamp → ℕ → Data
-insertion_data s clock parent c = object (member (codes "c") (array (pairs_data clock))
-    (member (codes "k") (string (codes "i")) (member (codes "p") (parent_data parent)
-    (member (codes "s") (number (unsigned s)) (member (codes "x") (string (encode_utf8_all (c ∷ []))) no_members)))))
+-- the value of what is typed: an insertion or a run, each with its letter and its text
+abbrev pub typed_data : List ℕ → ℕ → List ℕ → Option Stamp → List ℕ → Data
+typed_data letter s clock parent x = object (member (codes "c") (array (pairs_data clock))
+    (member (codes "k") (string letter) (member (codes "p") (parent_data parent)
+    (member (codes "s") (number (unsigned s)) (member (codes "x") (string x) no_members)))))
 
 -- the value of a deletion
 abbrev pub deletion_data : ℕ → List ℕ → Stamp → Data
@@ -91,7 +98,7 @@ deletion_data s clock target = object (member (codes "c") (array (pairs_data clo
 
 -- the value of an operation of this site, clock and kind
 abbrev pub op_data_of : ℕ → List ℕ → kind.OpKind → Data
-op_data_of s clock (kinds.Ins parent c) = insertion_data s clock parent c
+op_data_of s clock (kinds.Ins parent c) = typed_data (codes "i") s clock parent (encode_utf8_all (c ∷ []))
 op_data_of s clock (kinds.Del target) = deletion_data s clock target
 
 -- the value of an operation
@@ -100,9 +107,7 @@ op_data x = op_data_of x.site x.clock x.kind
 
 -- the value of a run: an insertion of this site and clock, and the characters of those that follow it
 abbrev pub run_data_of : ℕ → List ℕ → kind.OpKind → List ℕ → Data
-run_data_of s clock (kinds.Ins parent c) cs = object (member (codes "c") (array (pairs_data clock))
-    (member (codes "k") (string (codes "r")) (member (codes "p") (parent_data parent)
-    (member (codes "s") (number (unsigned s)) (member (codes "x") (string (encode_utf8_all (c ∷ cs))) no_members)))))
+run_data_of s clock (kinds.Ins parent c) cs = typed_data (codes "r") s clock parent (encode_utf8_all (c ∷ cs))
 run_data_of s clock (kinds.Del target) cs = op_data_of s clock (kinds.Del target)
 
 -- the value of an operation that stands alone, or of a run

@@ -15,6 +15,7 @@ mod reading;
 mod run_tests;
 #[cfg(test)]
 mod tests;
+mod tokens;
 mod writing;
 
 pub use items::read_item_ops;

@@ -1,6 +1,7 @@
 //! Operation objects as JSON shows them.
 use crate::items::read_items;
-use crate::packing::packed_values;
+use crate::packing::append_packed;
+use crate::tokens::{text_of, writer};
 use crate::{read_op, write_op};
 use causal_clock::Op;
 use opid::{OpKind, Refusal};
@@ -26,6 +27,13 @@ pub(crate) fn ops_of(alloc: Global, text: &str) -> Result<Vec<Op>, Refusal> {
         Ok(Value::Array(values)) => read_items(alloc, values.as_slice()),
         _ => Err(Refusal::BadJson),
     }
+}
+
+// The text of operations, packed.
+pub(crate) fn packed(alloc: Global, ops: &[Op]) -> Result<String, Refusal> {
+    let mut out = writer(alloc, 0)?;
+    append_packed(alloc, &mut out, ops)?;
+    Ok(text_of(out))
 }
 
 fn written(alloc: Global, text: &str) -> Result<String, Refusal> {
@@ -158,7 +166,6 @@ fn writes_a_list(rt: HostRuntime) -> Result<(), Fail> {
     let alloc = rt.alloc();
     let text = format!(in alloc; "[{H_AT_THE_HEAD},{DELETION}]")?;
     let ops = ops_of(alloc, text.as_str())?;
-    let list = Value::Array(packed_values(alloc, ops.as_slice())?);
-    assert!(rt; list.to_string(alloc)?.as_str() == text.as_str());
+    assert!(rt; packed(alloc, ops.as_slice())?.as_str() == text.as_str());
     Ok(())
 }

@@ -1,17 +1,19 @@
 //! Writing operation objects.
-ghost use Rattle.std.specs.Prelude.{◌≡◌, ◌<◌, IfOk, IfErr, OnOk, string_bytes};
-ghost use Rattle.std.specs.List.{AllByRecursion};
+ghost use Rattle.std.specs.Prelude.{◌≡◌, ◌<◌, ◌++◌, IfOk, IfErr, OnOk, string_bytes};
 ghost use Rattle.opid.specs.declared.refusal.Refusal.TheVariants.{Memory};
-ghost use Rattle.serde_json.specs.View.{view, items_view};
+ghost use Rattle.serde_json.specs.Data.{array};
 ghost use Rattle.opid.specs.Clocks.{entry};
 ghost use Rattle.wire_json.specs.Text.{IsOperationInRange, IsKindInRange, op_text};
-ghost use Rattle.wire_json.specs.Written.{each_data, two_data, pair_data, pairs_data, stamp_data, parent_data, insertion_data};
-ghost use Rattle.wire_json.specs.Written.{deletion_data, op_data};
+ghost use Rattle.wire_json.specs.Written.{tokens_of, two_data, pairs_data, stamp_data, parent_data, typed_data, deletion_data, op_data};
 
+use crate::tokens::{append_number, append_text, text_of, writer};
 use causal_clock::{Clock, Op};
+use json::Writer;
 use opid::{OpKind, Refusal, SITES, Site, Stamp};
-use serde_json::{Value, json, push};
 use std::alloc::{AllocError, Global};
+
+/// Most operations' texts are no longer.
+pub(crate) const LIKELY_LEN: usize = 127;
 
 /// The one text of an operation: a compact JSON object with the keys that `read_op` asks for, in the order of their
 /// bytes, with no line feed.
@@ -23,21 +25,24 @@ pub fn write_op(alloc: Global, op: &Op) -> Result<String, Refusal>
     ensures in_range { OnOk result (IsOperationInRange op.now) }
     ensures memory { IfErr result (λ e. e ≡ Memory) }
 {
-    let value = op_value(alloc, op)?;
-    Ok(value.to_string(alloc)?)
+    check_op(op);
+    let mut out = writer(alloc, LIKELY_LEN)?;
+    append_op(&mut out, op)?;
+    Ok(text_of(out))
 }
 
-/// The JSON value of an operation.
-pub(crate) fn op_value(alloc: Global, op: &Op) -> Result<Value, AllocError>
-    ensures value { IfOk result (λ out. view out ≡ op_data op.now) }
-    ensures in_range { OnOk result (IsOperationInRange op.now) }
+/// Appends an operation.
+pub(crate) fn append_op(out: &mut Writer, op: &Op) -> Result<(), AllocError>
+    ensures before { out.new.before ≡ out.old.before }
+    ensures tokens { OnOk result (out.new.tokens ≡ out.old.tokens ++ tokens_of (op_data op.now)) }
 {
     let site = op.site();
     let clock = op.clock();
-    check_op(op);
     match op.kind() {
-        OpKind::Ins { parent, ch } => insertion_value(alloc, site, &clock, parent, ch),
-        OpKind::Del { target } => deletion_value(alloc, site, &clock, target),
+        OpKind::Ins { parent, ch } => {
+            append_typed(out, "i", site, &clock, parent, ch.encode_utf8(&mut [0; 4]))
+        }
+        OpKind::Del { target } => append_deletion(out, site, &clock, target),
     }
 }
 
@@ -66,47 +71,61 @@ fn check_kind(kind: OpKind)
     }
 }
 
-fn insertion_value(
-    alloc: Global,
+/// Appends an insertion, the letter `i` and its character, or a run, the letter `r` and its characters.
+pub(crate) fn append_typed(
+    out: &mut Writer,
+    letter: &str,
     site: Site,
     clock: &Clock,
     parent: Option<Stamp>,
-    ch: char,
-) -> Result<Value, AllocError>
-    ensures { IfOk result (λ out. view out ≡ insertion_data site clock.now parent ch) }
+    text: &str,
+) -> Result<(), AllocError>
+    ensures before { out.new.before ≡ out.old.before }
+    ensures tokens { OnOk result
+        (out.new.tokens ≡ out.old.tokens ++ tokens_of (typed_data letter.now site clock.now parent text.now)) }
 {
-    let site = u32::from(site.number());
-    let pairs = clock_values(alloc, clock)?;
-    let parent = parent_value(alloc, parent)?;
-    json!(in alloc; {"c": pairs, "k": "i", "p": parent, "s": site, "x": ch.encode_utf8(&mut [0; 4])})
+    out.begin_object()?;
+    out.key("c")?;
+    append_clock(out, clock)?;
+    append_text(out, "k", letter)?;
+    out.key("p")?;
+    append_parent(out, parent)?;
+    append_number(out, "s", u32::from(site.number()))?;
+    append_text(out, "x", text)?;
+    out.end_object()
 }
 
-fn deletion_value(
-    alloc: Global,
+fn append_deletion(
+    out: &mut Writer,
     site: Site,
     clock: &Clock,
     target: Stamp,
-) -> Result<Value, AllocError>
-    ensures { IfOk result (λ out. view out ≡ deletion_data site clock.now target) }
+) -> Result<(), AllocError>
+    ensures before { out.new.before ≡ out.old.before }
+    ensures tokens { OnOk result (out.new.tokens ≡ out.old.tokens ++ tokens_of (deletion_data site clock.now target)) }
 {
-    let site = u32::from(site.number());
-    let pairs = clock_values(alloc, clock)?;
-    let target = stamp_value(alloc, target)?;
-    json!(in alloc; {"c": pairs, "k": "d", "s": site, "t": target})
+    out.begin_object()?;
+    out.key("c")?;
+    append_clock(out, clock)?;
+    append_text(out, "k", "d")?;
+    append_number(out, "s", u32::from(site.number()))?;
+    out.key("t")?;
+    append_stamp(out, target)?;
+    out.end_object()
 }
 
-pub(crate) fn clock_values(alloc: Global, clock: &Clock) -> Result<Vec<Value>, AllocError>
-    ensures { IfOk result (λ list. items_view list.items ≡ pairs_data clock.now) }
+fn append_clock(out: &mut Writer, clock: &Clock) -> Result<(), AllocError>
+    ensures before { out.new.before ≡ out.old.before }
+    ensures tokens { OnOk result (out.new.tokens ≡ out.old.tokens ++ tokens_of (array (pairs_data clock.now))) }
 {
-    let mut list = Vec::new(alloc);
+    out.begin_array()?;
     for number in 0..SITES as u8 {
         let count = entry_of(clock, number);
         if count > 0 {
-            let value = two_value(alloc, u32::from(number), count)?;
-            push(&mut list, value)?;
+            append_two(out, u32::from(number), count)?;
         }
     }
-    Ok(list)
+    out.end_array()
 }
 
 // The count of the site with this number.
@@ -120,23 +139,29 @@ fn entry_of(clock: &Clock, number: u8) -> u32
     }
 }
 
-pub(crate) fn parent_value(alloc: Global, parent: Option<Stamp>) -> Result<Value, AllocError>
-    ensures { IfOk result (λ out. view out ≡ parent_data parent) }
+fn append_parent(out: &mut Writer, parent: Option<Stamp>) -> Result<(), AllocError>
+    ensures before { out.new.before ≡ out.old.before }
+    ensures tokens { OnOk result (out.new.tokens ≡ out.old.tokens ++ tokens_of (parent_data parent)) }
 {
     match parent {
-        Some(stamp) => stamp_value(alloc, stamp),
-        None => Ok(Value::Null),
+        Some(stamp) => append_stamp(out, stamp),
+        None => out.null(),
     }
 }
 
-fn stamp_value(alloc: Global, stamp: Stamp) -> Result<Value, AllocError>
-    ensures { IfOk result (λ out. view out ≡ stamp_data stamp) }
+fn append_stamp(out: &mut Writer, stamp: Stamp) -> Result<(), AllocError>
+    ensures before { out.new.before ≡ out.old.before }
+    ensures tokens { OnOk result (out.new.tokens ≡ out.old.tokens ++ tokens_of (stamp_data stamp)) }
 {
-    two_value(alloc, stamp.sum, u32::from(stamp.site.number()))
+    append_two(out, stamp.sum, u32::from(stamp.site.number()))
 }
 
-fn two_value(alloc: Global, first: u32, second: u32) -> Result<Value, AllocError>
-    ensures { IfOk result (λ out. view out ≡ two_data first second) }
+fn append_two(out: &mut Writer, first: u32, second: u32) -> Result<(), AllocError>
+    ensures before { out.new.before ≡ out.old.before }
+    ensures tokens { OnOk result (out.new.tokens ≡ out.old.tokens ++ tokens_of (two_data first second)) }
 {
-    json!(in alloc; [first, second])
+    out.begin_array()?;
+    out.u64(u64::from(first))?;
+    out.u64(u64::from(second))?;
+    out.end_array()
 }

@@ -1,18 +1,18 @@
 //! Packing operations into runs, from the left.
-ghost use Rattle.std.specs.Prelude.{◌≡◌, ◌<◌, ◌++◌, ◌∷◌, true, map, length, IfOk, IfErr, OnOk, string_bytes, encode_utf8_all};
+ghost use Rattle.std.specs.Prelude.{◌≡◌, ◌<◌, ◌++◌, ◌∷◌, true, IfOk, IfErr, OnOk, string_bytes, encode_utf8_all};
 ghost use Rattle.std.specs.List.{AllByRecursion};
 ghost use Rattle.opid.specs.declared.refusal.Refusal.TheVariants.{Memory};
-ghost use Rattle.opid.specs.declared.kind.OpKind.TheVariants as kinds;
-ghost use Rattle.serde_json.specs.View.{view, items_view};
+ghost use Rattle.serde_json.specs.Data.{array};
 ghost use Rattle.wire_json.specs.Packing.{joins, is_next, alone, with_one_more, packed};
 ghost use Rattle.wire_json.specs.Text.{IsOperationInRange, item_text};
-ghost use Rattle.wire_json.specs.Written.{each_data, item_data, run_data_of};
+ghost use Rattle.wire_json.specs.Written.{tokens_of, each_data, item_data};
 
 use crate::items::next_op;
-use crate::operation_values::{check_op, clock_values, op_value, parent_value};
-use causal_clock::{Clock, MAX_SUM, Op};
-use opid::{MAX_COUNT, OpKind, Refusal, Site, Stamp};
-use serde_json::{Value, json, push};
+use crate::operation_values::{LIKELY_LEN, append_op, append_typed, check_op};
+use crate::tokens::{text_of, writer};
+use causal_clock::{MAX_SUM, Op};
+use json::Writer;
+use opid::{MAX_COUNT, OpKind, Refusal};
 use std::alloc::{AllocError, Global};
 use std::marker::Model;
 
@@ -85,15 +85,16 @@ fn is_next(x: &Op, y: &Op) -> bool
     }
 }
 
-/// The JSON values of operations, packed from the left: an insertion joins the run before it where it is that run's next
+/// Appends the list of operations, packed from the left: an insertion joins the run before it where it is that run's next
 /// one and the run has fewer than 64 characters. Takes time and memory in proportion to the operations.
-pub(crate) fn packed_values(alloc: Global, ops: &[Op]) -> Result<Vec<Value>, AllocError>
-    ensures values { IfOk result (λ list. items_view list.items ≡ each_data item_data (packed ops.now)) }
+pub(crate) fn append_packed(alloc: Global, out: &mut Writer, ops: &[Op]) -> Result<(), AllocError>
+    ensures before { out.new.before ≡ out.old.before }
+    ensures tokens { OnOk result (out.new.tokens ≡ out.old.tokens ++ tokens_of (array (each_data item_data (packed ops.now)))) }
     ensures in_range { OnOk result (AllByRecursion IsOperationInRange ops.now) }
 {
-    let mut list = Vec::with_capacity(alloc, ops.len())?;
+    out.begin_array()?;
     let [first, rest @ ..] = ops else {
-        return Ok(list);
+        return out.end_array();
     };
     check_op(first);
     let mut item = Item::new(alloc, *first);
@@ -102,14 +103,12 @@ pub(crate) fn packed_values(alloc: Global, ops: &[Op]) -> Result<Vec<Value>, All
         if item.is_joined_by(op) {
             item.push(op)?;
         } else {
-            let value = item_value(alloc, &item)?;
-            push(&mut list, value)?;
+            append_item(alloc, out, &item)?;
             item = Item::new(alloc, *op);
         }
     }
-    let value = item_value(alloc, &item)?;
-    push(&mut list, value)?;
-    Ok(list)
+    append_item(alloc, out, &item)?;
+    out.end_array()
 }
 
 /// The one text of an item: of an operation, as `write_op` has it, or of a run. Refused with `Memory`. Takes time and memory
@@ -118,46 +117,40 @@ pub fn write_item(alloc: Global, item: &Item) -> Result<String, Refusal>
     ensures text { IfOk result (λ s. string_bytes s ≡ item_text item.now) }
     ensures memory { IfErr result (λ e. e ≡ Memory) }
 {
-    let value = item_value(alloc, item)?;
-    Ok(value.to_string(alloc)?)
+    let mut out = writer(alloc, LIKELY_LEN)?;
+    append_item(alloc, &mut out, item)?;
+    Ok(text_of(out))
 }
 
-fn item_value(alloc: Global, item: &Item) -> Result<Value, AllocError>
-    ensures { IfOk result (λ out. view out ≡ item_data item.now) }
+fn append_item(alloc: Global, out: &mut Writer, item: &Item) -> Result<(), AllocError>
+    ensures before { out.new.before ≡ out.old.before }
+    ensures tokens { OnOk result (out.new.tokens ≡ out.old.tokens ++ tokens_of (item_data item.now)) }
 {
     let first = &item.first;
     match item.more.as_slice() {
-        [] => op_value(alloc, first),
+        [] => append_op(out, first),
         more => match first.kind() {
             OpKind::Ins { parent, ch } => {
-                run_value(alloc, first.site(), &first.clock(), parent, ch, more)
+                let text = joined(alloc, ch, more)?;
+                append_typed(
+                    out,
+                    "r",
+                    first.site(),
+                    &first.clock(),
+                    parent,
+                    text.as_str(),
+                )
             }
-            OpKind::Del { target: _ } => op_value(alloc, first),
+            OpKind::Del { target: _ } => append_op(out, first),
         },
     }
 }
 
-fn run_value(
-    alloc: Global,
-    site: Site,
-    clock: &Clock,
-    parent: Option<Stamp>,
-    ch: char,
-    more: &[char],
-) -> Result<Value, AllocError>
-    ensures { IfOk result (λ out. view out ≡ run_data_of site clock.now (kinds.Ins parent ch) more.now) }
-{
-    let site = u32::from(site.number());
-    let pairs = clock_values(alloc, clock)?;
-    let parent = parent_value(alloc, parent)?;
-    let text = text_of(alloc, ch, more)?;
-    json!(in alloc; {"c": pairs, "k": "r", "p": parent, "s": site, "x": text})
-}
-
-fn text_of(alloc: Global, first: char, more: &[char]) -> Result<String, AllocError>
+// The characters as one text.
+fn joined(alloc: Global, first: char, more: &[char]) -> Result<String, AllocError>
     ensures { IfOk result (λ s. string_bytes s ≡ encode_utf8_all (first ∷ more.now)) }
 {
-    let mut text = String::new(alloc);
+    let mut text = String::with_capacity(alloc, MAX_RUN)?;
     text.push(first)?;
     for ch in more {
         text.push(*ch)?;

@@ -1,11 +1,9 @@
 //! Runs as JSON shows them.
 ghost use Rattle.std.specs.Prelude.{◌<◌};
 
-use crate::operation_tests::ops_of;
-use crate::packing::packed_values;
+use crate::operation_tests::{ops_of, packed};
 use causal_clock::{Clock, MAX_SUM, Op};
 use opid::{OpKind, Refusal, Site, Stamp};
-use serde_json::Value;
 use std::alloc::Global;
 use std::ops::Range;
 use std::test::Fail;
@@ -15,12 +13,6 @@ const ABC: &str = "[{\"c\":[[1,1]],\"k\":\"r\",\"p\":null,\"s\":1,\"x\":\"abc\"}
 const A_B_C: &str =
     "[{\"c\":[[1,1]],\"k\":\"i\",\"p\":null,\"s\":1,\"x\":\"a\"},{\"c\":[[1,2]],\"k\":\"i\",\"p\":[1,1],\"s\":1,\"x\":\"b\"},\
     {\"c\":[[1,3]],\"k\":\"i\",\"p\":[2,1],\"s\":1,\"x\":\"c\"}]";
-
-// The text of operations, packed.
-fn packed(alloc: Global, ops: &[Op]) -> Result<String, Refusal> {
-    let list = Value::Array(packed_values(alloc, ops)?);
-    Ok(list.to_string(alloc)?)
-}
 
 // The text of the operations that a text tells, packed.
 fn packed_again(alloc: Global, text: &str) -> Result<String, Refusal> {

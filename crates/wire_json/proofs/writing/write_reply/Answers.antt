@@ -1,11 +1,11 @@
 -- The compact text of a reply's value is the reply's text.
-use Rattle.std.proofs.Common.{ap, ◌∙◌}
-use Rattle.serde_json.specs.Written.{has_float, compact_text}
-use Rattle.wire_json.proofs.Texts.{no_float, compact}
+use Rattle.std.proofs.Common.{◌∙◌}
+use Rattle.wire_json.specs.Written.{data_of}
+use Rattle.wire_json.proofs.Printed.{print-tokens_of}
+use Rattle.wire_json.proofs.Texts.{compact}
 use Rattle.wire_json.proofs.writing.write_reply.Goals as goal
 
 pub returns-clause-text : goal.returns-clause-text
 returns-clause-text c =
     let reply = c.args.reply.now in
-    c.in_ok-to_string.ensures.text (ap has_float c.in_ok-value.ensures.value ∙ no_float reply) ∙ ap compact_text c.in_ok-value.ensures.value
-    ∙ compact reply
+    c.text_of.ensures ∙ print-tokens_of (data_of reply) _ _ c.in_ok-out.ensures.tokens c.in_ok-append_reply.ensures.tokens ∙ compact reply

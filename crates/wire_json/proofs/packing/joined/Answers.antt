@@ -1,5 +1,5 @@
 use Rattle.wire_json.proofs.Packer.{text_more}
-use Rattle.wire_json.proofs.packing.text_of.Goals as goal
+use Rattle.wire_json.proofs.packing.joined.Goals as goal
 use Rattle.std.proofs.Common.{string_bytes}
 
 pub loop-ch-preserved : goal.loop-ch-preserved
