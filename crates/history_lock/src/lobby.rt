@@ -12,8 +12,8 @@ use std::sync::Wait;
 use std::sync::atomic::AtomicU64;
 use std::sync::atomic::Ordering::SeqCst;
 
-// How often a thread looks before it sleeps.
-const LOOKS: u32 = 16;
+// How often a thread without a ticket looks before it sleeps.
+const LOOKS_WITHOUT_TICKET: u32 = 16;
 
 /// Where threads sleep that have no ticket. Its word is 1 while one is to be woken, and else 0.
 #[derive(Drop)]
@@ -87,7 +87,7 @@ impl<T: Trailed> TicketLock<T> {
     fn wait_until_free<R: Wait>(&self, rt: &R) {
         let mut woken = false;
         for _ in rt.forever() {
-            for _ in 0..LOOKS {
+            for _ in 0..LOOKS_WITHOUT_TICKET {
                 if self.is_free() {
                     if woken {
                         self.lobby.want();

@@ -19,7 +19,7 @@ use std::snapshot::Snapshot;
 use std::sync::Wait;
 
 // How often a thread looks before it sleeps, where its turn is the next.
-const LOOKS: u32 = 64;
+const LOOKS_AS_NEXT: u32 = 64;
 
 impl<T: Trailed> TicketLock<T> {
     /// A lock round the value, and the first pass, which has 2^62 draws and has seen the value's trail.
@@ -123,7 +123,7 @@ impl<T: Trailed> TicketLock<T> {
                 Err(served) => {
                     if ticket.number.wrapping_sub(served) > 1 {
                         self.sleep_behind(rt, &ticket);
-                    } else if looks < LOOKS {
+                    } else if looks < LOOKS_AS_NEXT {
                         looks += 1;
                         spin_loop();
                     } else {
