@@ -1,11 +1,11 @@
 //! The sessions of a server's document, each by the number that it got when it joined.
 ghost use Rattle.std.specs.Prelude.{◌≡◌, ◌≤◌, ◌<◌, ◌↔◌, false, not, nat_lt, is_some, length, None, Some, Ok, IsOk, IsSome, IfOk, IfErr};
-ghost use Rattle.std.specs.Prelude.{OnOk, OnErr};
+ghost use Rattle.std.specs.Prelude.{OnOk, OnErr, MatchOption};
 ghost use Rattle.std.specs.Option.{option_map};
 ghost use Rattle.opid.specs.declared.refusal.Refusal.TheVariants.{NoSession};
 ghost use Rattle.session_outbox.specs.declared.submission.Submission.TheVariants.{New};
 ghost use Rattle.session_outbox.specs.Sessions.{session_with, change_session, without_session, MayAccept, AreNumbered, empty_outbox};
-ghost use Rattle.session_outbox.specs.Sessions.{after_join, after_leave, after_accept, after_pull};
+ghost use Rattle.session_outbox.specs.Sessions.{submitted, after_join, after_leave, after_accept, after_pull};
 ghost use Rattle.session_outbox.specs.Answers.{submission_of, pull_of, units_of_session, join_refusal};
 ghost use Rattle.session_outbox.specs.Kept.{sessions_of, session_of};
 
@@ -34,6 +34,19 @@ fn replace(facts: &mut IndexMap<u32, Facts>, s: u32, new: Facts)
 {
     if let Some(old) = facts.get_mut(&s) {
         *old = new;
+    }
+}
+
+/// Notes in the facts of the session with this number, which is there, that its next submission led from a version to a
+/// version.
+fn submit(facts: &mut IndexMap<u32, Facts>, s: u32, from: u32, to: u32)
+    requires { MatchOption (session_with s (sessions_of facts.old.entries)) ⊥ (λ w. w.last < 4294967295) }
+    ensures { sessions_of facts.new.entries ≡ change_session s (submitted from to) (sessions_of facts.old.entries) }
+{
+    if let Some(old) = facts.get_mut(&s) {
+        old.last += 1;
+        old.start = from;
+        old.end = to;
     }
 }
 
@@ -139,21 +152,12 @@ impl Sessions {
     }
 
     /// Notes that the session's next submission, `New` by `check_submit`, was accepted and led from a version to a
-    /// version: its last number goes up by one, and these versions are its kept reply. Two look-ups.
+    /// version: its last number goes up by one, and these versions are its kept reply. A look-up.
     pub fn accept(&mut self, s: u32, from: u32, to: u32)
         requires { MayAccept s self.old }
         ensures { self.new ≡ after_accept s from to self.old }
     {
-        if let Some(facts) = facts_with(&self.facts, s) {
-            let last = facts.last + 1;
-            let new = Facts {
-                last,
-                start: from,
-                end: to,
-                ..facts
-            };
-            replace(&mut self.facts, s, new);
-        }
+        submit(&mut self.facts, s, from, to);
     }
 
     /// The versions that the edits lead from and to which a session is sent that has the version `have`, where the
