@@ -1,10 +1,9 @@
 -- What a submission is answered: at once, or when it was carried out or refused.
-use Rattle.std.proofs.Common.{◌≡◌, ℕ, ◌+◌, ◌⊎◌, inl, inr, Option, Some, None, Result, Ok, Err, List, ◌++◌, length, refl, ap, ◌∙◌, sym}
-use Rattle.std.specs.Prelude.{IfOk, IfErr, OnOk, OnErr}
+use Rattle.std.proofs.Common.{◌≡◌, ℕ, ◌+◌, inl, inr, Option, Some, None, Result, Ok, Err, List, ◌++◌, length, refl, ap, ◌∙◌, sym}
+use Rattle.std.specs.Prelude.{IfOk}
 use mathlib.Core.Path.{ap₂}
 use Rattle.std.specs.declared.alloc.AllocError.{AllocError}
 use Rattle.opid.specs.declared.refusal.Refusal.{Refusal}
-use Rattle.opid.specs.declared.refusal.Refusal.TheVariants.{Memory}
 use Rattle.opid.specs.Operations.{Operation}
 use Rattle.replica.specs.Deliver.{ReplicaState}
 use Rattle.session_outbox.specs.declared.submission.Submission.TheVariants.{New, Repeat}
