@@ -20,7 +20,16 @@ found s (e ∷ es) = by (nat_eq s e.0) refl (found s es)
     by true h r = ap (λ k. Some (session_of (k, e.1))) (eqb-true s e.0 h)
     by false h r = r
 
-pub replaced : (s : ℕ) (w : Facts) (es : List (ℕ × Facts)) → sessions_of (set_value (nat_eq s) es w)
+-- the session of a number whose entry is there
+pub there : (s : ℕ) (w : Facts) (es : List (ℕ × Facts)) → Some w ≡ lookup (nat_eq s) es
+    → session_with s (sessions_of es) ≡ Some (session_of (s, w))
+there s w es is = sym (found s es) ∙ ap (option_map (λ (v : Facts). session_of (s, v))) (sym is)
+
+-- no session has a number that has no entry
+pub none_there : (s : ℕ) (es : List (ℕ × Facts)) → None ≡ lookup (nat_eq s) es → session_with s (sessions_of es) ≡ None
+none_there s es is = sym (found s es) ∙ ap (option_map (λ (v : Facts). session_of (s, v))) (sym is)
+
+replaced : (s : ℕ) (w : Facts) (es : List (ℕ × Facts)) → sessions_of (set_value (nat_eq s) es w)
     ≡ change_session s (λ _. session_of (s, w)) (sessions_of es)
 replaced s w [] = refl
 replaced s w (e ∷ es) = by (nat_eq s e.0) refl (replaced s w es)
@@ -52,12 +61,10 @@ is_found s es = by (lookup (nat_eq s) es) (found s es)
     by (Some w) h = ap is_some h
 
 -- facts put in the place of the session's own change it so
-pub changed : (s : ℕ) (f : Session → Session) (w v : Facts) (es fs : List (ℕ × Facts))
-    → sessions_of fs ≡ change_session s (λ _. session_of (s, v)) (sessions_of es)
-    → Some (session_of (s, w)) ≡ session_with s (sessions_of es) → session_of (s, v) ≡ f (session_of (s, w))
-    → sessions_of fs ≡ change_session s f (sessions_of es)
-changed s f w v es fs e k m = e ∙ ap (λ u. change_session s (λ _. u) (sessions_of es)) m
-    ∙ change_session-at s f (session_of (s, w)) (sessions_of es) (sym k)
+pub changed : (s : ℕ) (f : Session → Session) (w v : Facts) (es fs : List (ℕ × Facts)) → fs ≡ set_value (nat_eq s) es v
+    → Some w ≡ lookup (nat_eq s) es → session_of (s, v) ≡ f (session_of (s, w)) → sessions_of fs ≡ change_session s f (sessions_of es)
+changed s f w v es fs e k m = ap sessions_of e ∙ replaced s v es ∙ ap (λ u. change_session s (λ _. u) (sessions_of es)) m
+    ∙ change_session-at s f (session_of (s, w)) (sessions_of es) (there s w es k)
 
 -- the next number is new, so its session goes last
 pub inserted : (low next : ℕ) (w : Facts) (es : List (ℕ × Facts)) → AreNumbered low next (sessions_of es)

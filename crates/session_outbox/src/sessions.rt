@@ -5,7 +5,7 @@ ghost use Rattle.std.specs.Option.{option_map};
 ghost use Rattle.opid.specs.declared.refusal.Refusal.TheVariants.{NoSession};
 ghost use Rattle.session_outbox.specs.declared.submission.Submission.TheVariants.{New};
 ghost use Rattle.session_outbox.specs.Sessions.{session_with, change_session, without_session, MayAccept, AreNumbered, empty_outbox};
-ghost use Rattle.session_outbox.specs.Sessions.{submitted, after_join, after_leave, after_accept, after_pull};
+ghost use Rattle.session_outbox.specs.Sessions.{submitted, sent_to, after_join, after_leave, after_accept, after_pull};
 ghost use Rattle.session_outbox.specs.Answers.{submission_of, pull_of, units_of_session, join_refusal};
 ghost use Rattle.session_outbox.specs.Kept.{sessions_of, session_of};
 
@@ -26,27 +26,40 @@ fn facts_with(facts: &IndexMap<u32, Facts>, s: u32) -> Option<Facts>
     facts.get(&s).copied()
 }
 
-/// Puts other facts in the place of those of the session with this number, which is there.
-#[tactic(auto, using(crate::proofs::Entries::replaced))]
-fn replace(facts: &mut IndexMap<u32, Facts>, s: u32, new: Facts)
-    requires { IsSome (session_with s (sessions_of facts.old.entries)) }
-    ensures { sessions_of facts.new.entries ≡ change_session s (λ _. session_of (s, new)) (sessions_of facts.old.entries) }
-{
-    if let Some(old) = facts.get_mut(&s) {
-        *old = new;
-    }
-}
-
 /// Notes in the facts of the session with this number, which is there, that its next submission led from a version to a
 /// version.
 fn submit(facts: &mut IndexMap<u32, Facts>, s: u32, from: u32, to: u32)
     requires { MatchOption (session_with s (sessions_of facts.old.entries)) ⊥ (λ w. w.last < 4294967295) }
     ensures { sessions_of facts.new.entries ≡ change_session s (submitted from to) (sessions_of facts.old.entries) }
 {
-    if let Some(old) = facts.get_mut(&s) {
-        old.last += 1;
-        old.start = from;
-        old.end = to;
+    if let Some(own) = facts.get_mut(&s) {
+        own.last += 1;
+        own.start = from;
+        own.end = to;
+    }
+}
+
+/// The versions that a pull by the session with this number leads from and to, of which its facts then note the last as sent.
+fn send(
+    facts: &mut IndexMap<u32, Facts>,
+    s: u32,
+    have: u32,
+    max: u32,
+    version: u32,
+) -> Result<(u32, u32), Refusal>
+    ensures value { result ≡ pull_of (session_with s (sessions_of facts.old.entries)) have max version }
+    ensures sent { IfOk result (λ r. sessions_of facts.new.entries ≡ change_session s (sent_to r.1) (sessions_of facts.old.entries)) }
+    ensures err { OnErr result (sessions_of facts.new.entries ≡ sessions_of facts.old.entries) }
+{
+    let Some(own) = facts.get_mut(&s) else {
+        return Err(Refusal::NoSession);
+    };
+    match own.edits(have, max, version) {
+        Ok((from, to)) => {
+            own.sent = own.sent.max(to);
+            Ok((from, to))
+        }
+        Err(why) => Err(why),
     }
 }
 
@@ -163,19 +176,13 @@ impl Sessions {
     /// The versions that the edits lead from and to which a session is sent that has the version `have`, where the
     /// document is at `version`: from `have`, `max` further or to the newest one. That is then its sent version, if it
     /// was older. Refused with `NoSession`; with `BadCount` where `max` is 0 or above 64; and with `BadHave` where
-    /// `have` is below the session's first version or above its sent one. Two look-ups.
+    /// `have` is below the session's first version or above its sent one. A look-up.
     pub fn pull(&mut self, s: u32, have: u32, max: u32, version: u32) -> Result<(u32, u32), Refusal>
         ensures value { result ≡ pull_of (session_with s self.old.sessions) have max version }
         ensures next { IfOk result (λ r. self.new ≡ after_pull s r.1 self.old) }
         ensures err { OnErr result (self.new ≡ self.old) }
     {
-        let Some(facts) = facts_with(&self.facts, s) else {
-            return Err(Refusal::NoSession);
-        };
-        let (from, to) = facts.edits(have, max, version)?;
-        let sent = facts.sent.max(to);
-        replace(&mut self.facts, s, Facts { sent, ..facts });
-        Ok((from, to))
+        send(&mut self.facts, s, have, max, version)
     }
 
     /// Whether the session's places count UTF-16 units, as it said when it joined. Refused with `NoSession`. A look-up.
