@@ -3,19 +3,18 @@
 ghost use Rattle.std.specs.Prelude.{◌≡◌, ℕ, ◌+◌, ◌*◌, ◌<◌, ◌≤◌, ◌^◌, [], ◌∷◌, ◌++◌, length, slice_get, true, max, IfSome, OnOk, OnErr};
 ghost use Rattle.counted_tree.specs.Digits.{digits};
 ghost use Rattle.counted_tree.specs.Entry.{visible, units};
-ghost use Rattle.counted_tree.specs.Versions.{version_list, newest, newest_list, newest_root, root_at};
+ghost use Rattle.counted_tree.specs.Versions.{version_list, newest, newest_list, newest_root, no_root, root_at};
 ghost use Rattle.counted_tree.specs.Changed.{Lists, Shows, put, hidden, before as entries_before};
 ghost use Rattle.counted_tree.specs.Greater.{last_greater};
-ghost use Rattle.counted_tree.specs.Tree.{entries};
-ghost use Rattle.counted_tree.specs.Arena.{IsLinkBelow, AreSound};
-ghost use Rattle.counted_tree.specs.Change.{tree_in};
 
-use crate::build::{Summary, summary_of};
 use crate::change::{hide, insert, last_greater_in, rank_in};
+use crate::entry::Entry;
 use crate::link::Link;
 use crate::nodes::Nodes;
 use crate::packed_above::PackedAbove;
+use crate::root::Root;
 use crate::search::find_in;
+use crate::size::Size;
 use crate::steps::Steps;
 use crate::walk::push_shown_in;
 use std::alloc::{AllocError, Global};
@@ -27,12 +26,12 @@ use std::marker::Model;
 pub struct VersionTree {
     nodes: Nodes,
     table: Vec<PackedAbove>,
-    roots: Vec<Link>,
+    roots: Vec<Root>,
     room: usize,
 }
 
 impl Model for VersionTree {
-    ghost use Rattle.std.specs.Prelude.{◌+◌, ◌≤◌, length, vec_len, vec_capacity};
+    ghost use Rattle.std.specs.Prelude.{◌≡◌, ◌+◌, ◌≤◌, length, vec_len, vec_capacity};
     ghost use Rattle.counted_tree.specs.Versions.{Versions, newest_root, lists_of, AreVersions};
     ghost use Rattle.counted_tree.specs.Change.{tree_in};
     ghost use Rattle.counted_tree.specs.Table.{IsNewest};
@@ -41,8 +40,9 @@ impl Model for VersionTree {
 
     ghost view = { λ a. record { lists = lists_of a.nodes.0 a.roots.items; nodes = length a.nodes.0; room = a.room } };
 
-    ghost invariant = { λ a. AreVersions a.nodes a.roots.items a.room × IsNewest a.table.items (tree_in a.nodes (newest_root a.roots.items))
-        × (vec_len a.roots + a.room ≤ vec_capacity a.roots) × (vec_len a.table + a.room ≤ vec_capacity a.table) };
+    ghost invariant = { λ a. AreVersions a.nodes a.roots.items a.room × IsNewest a.table.items (tree_in a.nodes (newest_root a.roots.items).link)
+        × (vec_len a.roots + a.room ≤ vec_capacity a.roots) × (vec_len a.table + a.room ≤ vec_capacity a.table)
+        × (length a.nodes.2 ≡ vec_len a.table) × (a.room ≤ a.nodes.3) };
 }
 
 impl VersionTree {
@@ -60,7 +60,7 @@ impl VersionTree {
         }
     }
 
-    /// How many nodes stand for all versions, 24 bytes each. Constant time.
+    /// How many nodes stand for all versions, 16 bytes each. Constant time.
     pub fn nodes(&self) -> usize
         ensures value { result ≡ self.now.nodes }
         ensures few { result ≤ 40 * newest self.now }
@@ -101,7 +101,7 @@ impl VersionTree {
         ensures cost { steps.new ≤ steps.old + 2 * digits (length (version_list self.now version)) }
     {
         let root = root_of(self.roots.as_slice(), version);
-        let (elem, _) = find_in(&self.nodes, root, false, k, steps)?;
+        let (elem, _) = find_in(&self.nodes, root.link.get(), false, k, steps)?;
         Some(elem)
     }
 
@@ -113,7 +113,7 @@ impl VersionTree {
         ensures cost { steps.new ≤ steps.old + 2 * digits (length (version_list self.now version)) }
     {
         let root = root_of(self.roots.as_slice(), version);
-        find_in(&self.nodes, root, true, k, steps)
+        find_in(&self.nodes, root.link.get(), true, k, steps)
     }
 
     /// Appends the elements that a version shows, in order, by one pass over its tree: at most a step for each of its elements,
@@ -133,9 +133,9 @@ impl VersionTree {
             + length (visible (version_list self.now version)) * (2 * digits (length (version_list self.now version))) }
     {
         let root = root_of(self.roots.as_slice(), version);
-        let shown = summary_at(&self.nodes, root).shown;
+        let shown = root.size.shown;
         into.reserve(shown as usize)?;
-        push_shown_in(&self.nodes, root, shown, into, steps);
+        push_shown_in(&self.nodes, root.link.get(), shown, into, steps);
         Ok(())
     }
 
@@ -144,8 +144,7 @@ impl VersionTree {
         requires { version < length self.now.lists }
         ensures { result ≡ length (visible (version_list self.now version)) }
     {
-        let root = root_of(self.roots.as_slice(), version);
-        summary_at(&self.nodes, root).shown as usize
+        root_of(self.roots.as_slice(), version).size.items(false)
     }
 
     /// How many units the elements that a version shows have. Constant time.
@@ -153,8 +152,7 @@ impl VersionTree {
         requires { version < length self.now.lists }
         ensures { result ≡ length (units (version_list self.now version)) }
     {
-        let root = root_of(self.roots.as_slice(), version);
-        summary_at(&self.nodes, root).units as usize
+        root_of(self.roots.as_slice(), version).size.items(true)
     }
 
     /// How many shown elements stand before one in the newest version. Takes no memory, and as many steps as `find`.
@@ -165,7 +163,14 @@ impl VersionTree {
         ensures cost { steps.new ≤ steps.old + 2 * digits (length (newest_list self.now)) }
     {
         let root = last_root(self.roots.as_slice());
-        rank_in(&self.nodes, self.table.as_slice(), root, elem, false, steps)
+        rank_in(
+            &self.nodes,
+            self.table.as_slice(),
+            root.link.get(),
+            elem,
+            false,
+            steps,
+        )
     }
 
     /// How many units the shown elements before one have in the newest version. Takes no memory, and as many steps as `find`.
@@ -176,7 +181,14 @@ impl VersionTree {
         ensures cost { steps.new ≤ steps.old + 2 * digits (length (newest_list self.now)) }
     {
         let root = last_root(self.roots.as_slice());
-        rank_in(&self.nodes, self.table.as_slice(), root, elem, true, steps)
+        rank_in(
+            &self.nodes,
+            self.table.as_slice(),
+            root.link.get(),
+            elem,
+            true,
+            steps,
+        )
     }
 
     /// The last element that one passes in the newest version, going right from an element, or from before all others, as
@@ -188,10 +200,17 @@ impl VersionTree {
         ensures cost { steps.new ≤ steps.old + 6 * digits (length (newest_list self.now)) }
     {
         let root = last_root(self.roots.as_slice());
-        last_greater_in(&self.nodes, self.table.as_slice(), root, before, key, steps)
+        last_greater_in(
+            &self.nodes,
+            self.table.as_slice(),
+            root.link.get(),
+            before,
+            key,
+            steps,
+        )
     }
 
-    /// Reserves `n` versions, if fewer are reserved: for each 41 nodes and a row of the table, some 1,000 bytes of which
+    /// Reserves `n` versions, if fewer are reserved: for each 41 nodes and a row of the table, some 700 bytes of which
     /// only what is written comes into memory. Refused memory changes nothing.
     pub fn reserve(&mut self, n: usize) -> Result<(), AllocError>
         requires { length self.old.lists + n ≤ 131073 }
@@ -202,6 +221,7 @@ impl VersionTree {
     {
         if self.room < n {
             self.nodes.reserve(41 * n)?;
+            self.nodes.reserve_elements(n)?;
             self.table.reserve(n)?;
             self.roots.reserve(n)?;
             self.room = n;
@@ -224,17 +244,24 @@ impl VersionTree {
         ensures room { self.new.room + 1 ≡ self.old.room }
     {
         let root = last_root(self.roots.as_slice());
+        let entry = Entry {
+            elem,
+            shown: true,
+            wide,
+            key,
+        };
         let top = insert(
             &mut self.nodes,
             &mut self.table,
-            root,
+            root.link.get(),
             before,
-            elem,
-            key,
-            wide,
+            entry,
         );
         self.room -= 1;
-        self.roots.push_reserved(Link::new(Some(top)));
+        self.roots.push_reserved(Root {
+            link: Link::new(Some(top)),
+            size: root.size.plus(Size::of(&entry)),
+        });
     }
 
     /// Adds a version with an element hidden. Takes memory from the reserve alone, and a logarithmic number of steps and
@@ -248,9 +275,17 @@ impl VersionTree {
         ensures room { self.new.room + 1 ≡ self.old.room }
     {
         let root = last_root(self.roots.as_slice());
-        let top = hide(&mut self.nodes, self.table.as_slice(), root, elem);
+        let (top, less) = hide(
+            &mut self.nodes,
+            self.table.as_slice(),
+            root.link.get(),
+            elem,
+        );
         self.room -= 1;
-        self.roots.push_reserved(Link::new(Some(top)));
+        self.roots.push_reserved(Root {
+            link: Link::new(Some(top)),
+            size: root.size.minus(less),
+        });
     }
 
     /// Adds a version with the newest list again. Constant time.
@@ -262,40 +297,38 @@ impl VersionTree {
     {
         let root = last_root(self.roots.as_slice());
         self.room -= 1;
-        self.roots.push_reserved(Link::new(root));
+        self.roots.push_reserved(root);
     }
 }
 
-/// What a tree shows. Nobody counts the node looked at.
-fn summary_at(nodes: &Nodes, link: Option<u32>) -> Summary
-    requires sound { AreSound nodes.now.0 }
-    requires link { IsLinkBelow (length nodes.now.0) link }
-    requires few { length (entries (tree_in nodes.now link)) ≤ 131072 }
-    ensures shown { result.shown ≡ length (visible (entries (tree_in nodes.now link))) }
-    ensures units { result.units ≡ length (units (entries (tree_in nodes.now link))) }
-{
-    let mut steps = Steps::new();
-    summary_of(nodes, link, &mut steps)
-}
-
-/// A version's root, or none.
-fn root_of(roots: &[Link], version: usize) -> Option<u32>
+/// A version's root, for version 0 that of the empty tree.
+fn root_of(roots: &[Root], version: usize) -> Root
     requires { version ≤ length roots.now }
     ensures { result ≡ root_at roots.now version }
 {
     if version == 0 {
-        None
+        empty()
     } else {
-        roots[version - 1].get()
+        roots[version - 1]
     }
 }
 
-/// The newest root, or none.
-fn last_root(roots: &[Link]) -> Option<u32>
+/// The newest root.
+fn last_root(roots: &[Root]) -> Root
     ensures { result ≡ newest_root roots.now }
 {
     match roots.last() {
-        Some(root) => root.get(),
-        None => None,
+        Some(root) => *root,
+        None => empty(),
+    }
+}
+
+/// The root of the empty tree.
+fn empty() -> Root
+    ensures { result ≡ no_root }
+{
+    Root {
+        link: Link::new(None),
+        size: Size::none(),
     }
 }

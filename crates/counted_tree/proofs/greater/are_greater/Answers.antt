@@ -7,5 +7,5 @@ use Rattle.counted_tree.proofs.greater.are_greater.Goals as goal
 pub returns-in-Some-clause-greater : goal.returns-in-Some-clause-greater
 returns-in-Some-clause-greater c =
     let t = tree_in c.args.nodes.now (Some c.in-Some.at) in
-    let small = least_of_fork t _ _ c.open.result.entry c.open.ensures.tree c.open.ensures.small.1 in
+    let small = least_of_fork t _ _ c.open.result.entry c.open.ensures.tree c.open.ensures.known.0.1 in
     rw (c.in-Some.is, c.open.ensures.least) (by_least c.args.key (entries t) small)
