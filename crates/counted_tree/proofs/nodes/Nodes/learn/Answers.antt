@@ -1,8 +1,8 @@
-use Rattle.std.proofs.Common.{◌≡◌, ℕ, ◌-◌, [], ◌∷◌, ◌++◌, List, length, ap, ◌∙◌, sym, subst, arith}
+use Rattle.std.proofs.Common.{◌≡◌, ℕ, ◌-◌, [], ◌∷◌, ◌++◌, List, length, ap, ◌∙◌, arith}
 use Rattle.std.proofs.lemmas.List.{length_push}
 use Rattle.counted_tree.specs.declared.node.Node.{Node}
 use Rattle.counted_tree.specs.Entry.{traits_of}
-use Rattle.counted_tree.specs.Store.{Store, nodes_of, learnt, AreTold}
+use Rattle.counted_tree.specs.Store.{Store, nodes_of, learnt}
 use Rattle.counted_tree.proofs.Stored.{told_more, nodes_learnt}
 use Rattle.counted_tree.proofs.nodes.Nodes.learn.Goals as goal
 

@@ -1,4 +1,4 @@
-use Rattle.std.proofs.Common.{◌≡◌, ◌<◌, length, Some, ap, ◌∙◌, sym, subst, arith}
+use Rattle.std.proofs.Common.{◌≡◌, length, Some, ap, ◌∙◌, sym, subst, arith}
 use Rattle.std.specs.List.{slice_get}
 use Rattle.counted_tree.specs.declared.node.Node.{Node}
 use Rattle.counted_tree.specs.Entry.{traits_of}
