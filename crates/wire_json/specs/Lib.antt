@@ -6,4 +6,5 @@ pub mod Packing
 pub mod PackedOperations
 pub mod Text
 pub mod Written
+pub mod Flat
 pub mod Request

@@ -1,6 +1,8 @@
 //! Requests and replies as JSON texts: which call the bytes of a request ask for, and the one text of each reply.
 #![tactic(auto)]
 
+mod fields;
+mod flat;
 mod items;
 mod laws;
 mod offer;
@@ -27,5 +29,5 @@ pub use opening::read_open;
 pub use operation_values::{check_op, write_op};
 pub use operations::{read_list, read_op};
 pub use packing::{Item, write_item};
-pub use reading::{MAX_REQUEST_BYTES, check_keys, read_number, read_request, read_value};
+pub use reading::{MAX_REQUEST_BYTES, RequestReader, check_keys, read_number, read_request, read_value};
 pub use writing::write_reply;

@@ -1,0 +1,75 @@
+-- JSON objects whose members are whole numbers and texts. Private clauses alone cite it.
+use Rattle.std.specs.Prelude.{◌≡◌, ℕ, List, [], ◌∷◌, Bool, Option, Some, None, option_and_then, bytes_eq, Result}
+use Rattle.std.specs.List.{list_any, list_all}
+use Rattle.json.specs.Token.{Token, begin_object, end_object, begin_array, end_array, key, string, number, boolean, null, bad}
+use Rattle.json.specs.Json as json
+use Rattle.serde_json.specs.Data as tree
+use Rattle.serde_json.specs.Data.{Data, Members, no_members, put, object, unsigned}
+use Rattle.serde_json.specs.Read.{of_json, number_of, max_depth}
+use Rattle.wire_json.specs.declared.flat.Plain.{Plain}
+use Rattle.wire_json.specs.declared.flat.Plain.TheVariants.{Number, Text}
+use Rattle.wire_json.specs.declared.flat.Member.{Member}
+use Rattle.serde_json.specs.View.{view}
+use Rattle.opid.specs.declared.refusal.Refusal.{Refusal}
+use Rattle.opid.specs.Operations.{Operation}
+use Rattle.wire_json.specs.Members.{◌>>=◌}
+use Rattle.wire_json.specs.Operations.{list_at}
+use Rattle.wire_json.specs.PackedOperations.{handed_over}
+use Rattle.wire_json.specs.declared.fields.Fields.{Fields}
+use Rattle.wire_json.specs.declared.fields.Fields.TheVariants.{Flat, Tree}
+use Rattle.wire_json.specs.declared.flat.Next as next
+use Rattle.wire_json.specs.declared.flat.Next.TheVariants as nexts
+
+-- the value that these tokens are, if no token follows it
+abbrev pub value_of_tokens : List Token → Option Data
+value_of_tokens ts = option_and_then of_json (option_and_then (λ p. json.if_last p.0 p.1) (json.value max_depth ts))
+
+-- the JSON value of a member's value
+abbrev pub plain_data : Plain → Data
+plain_data (Number n) = tree.number (unsigned n)
+plain_data (Text s) = tree.string s.now
+
+-- the members, put in one after another: the last of a repeated key stays
+abbrev pub put_all : List Member → Members → Members
+put_all [] found = found
+put_all (m ∷ ms) found = put_all ms (put m.key.now (plain_data m.value) found)
+
+-- the object that has these members
+abbrev pub flat_data : List Member → Data
+flat_data ms = object (put_all ms no_members)
+
+-- each key is one of the row
+abbrev pub are_of : List (List ℕ) → List Member → Bool
+are_of row ms = list_all (λ m. list_any (λ name. bytes_eq name m.key.now) row) ms
+
+-- the token is by itself this value
+abbrev pub IsPlain : Token → Plain → Type 0
+IsPlain (string s) (Text x) = s ≡ x.now
+IsPlain (number s) (Number n) = number_of s ≡ Some (unsigned n)
+IsPlain _ _ = ⊥
+
+-- of the tokens `old`, a member comes first and `new` are the rest; or a closing bracket is all there is
+abbrev pub IsNext : List Token → next.Next → List Token → Type 0
+IsNext old (nexts.Member m) new = (t : Token) × (old ≡ key m.key.now ∷ t ∷ new) × IsPlain t m.value
+IsNext old nexts.End new = old ≡ end_object ∷ []
+IsNext old nexts.Other new = Unit {0}
+
+-- the tokens `old` are a value and then `new`, and it is the value of the member, whose key was taken before
+abbrev pub IsMember : List ℕ → List Token → next.Next → List Token → Type 0
+IsMember k old (nexts.Member m) new = (t : Token) × (old ≡ t ∷ new) × IsPlain t m.value × (m.key.now ≡ k)
+IsMember k old nexts.End new = ⊥
+IsMember k old nexts.Other new = Unit {0}
+
+-- of the tokens `old`, these members come first and `new` are the rest
+abbrev pub TellsMembers : List Token → List Member → List Token → Type 0
+TellsMembers old [] new = old ≡ new
+TellsMembers old (m ∷ ms) new = (t : Token) × (rest : List Token) × (old ≡ key m.key.now ∷ t ∷ rest) × IsPlain t m.value × TellsMembers rest ms new
+
+-- the value that a request is
+abbrev pub fields_data : Fields → Data
+fields_data (Flat ms) = flat_data ms.now
+fields_data (Tree v) = view v.now
+
+-- the single operations that the list at a key hands over
+abbrev pub operations_at : List ℕ → Data → Result (List Operation) Refusal
+operations_at k d = list_at k d >>= handed_over

@@ -1,0 +1,123 @@
+//! What a request tells by its keys: of an object that was read with no tree, or of any JSON value.
+ghost use Rattle.std.specs.Prelude.{◌≡◌, map, is_some, option_map};
+ghost use Rattle.serde_json.specs.Find.{get};
+ghost use Rattle.wire_json.specs.Flat.{plain_data, flat_data, are_of, fields_data, operations_at};
+ghost use Rattle.wire_json.specs.Members.{only_keys, number_at, text_at};
+ghost use Rattle.wire_json.specs.Given.{Tells, Gives};
+
+use crate::flat::{Member, Plain};
+use crate::items::read_items;
+use crate::operations::read_list;
+use crate::reading::{check_keys, is_among, read_number, read_text};
+use causal_clock::Op;
+use opid::Refusal;
+use serde_json::Value;
+use std::alloc::Global;
+
+/// The value that a request is, in which its keys are looked up.
+#[derive(Clone, Copy, Drop)]
+pub(crate) enum Fields<'v> {
+    /// An object with these members.
+    Flat(&'v [Member<'v>]),
+    /// Any value.
+    Tree(&'v Value),
+}
+
+impl<'v> Fields<'v> {
+    /// Whether the key is there.
+    pub fn has(&self, key: &str) -> bool
+        ensures { result ≡ is_some (get key.now (fields_data self.now)) }
+    {
+        match self {
+            Fields::Flat(members) => value_among(members, key).is_some(),
+            Fields::Tree(value) => value.get(key).is_some(),
+        }
+    }
+
+    /// The number at a key, whole and from 0 to 4,294,967,295.
+    pub fn number(&self, key: &str) -> Result<u32, Refusal>
+        ensures { result ≡ number_at key.now (fields_data self.now) }
+    {
+        match self {
+            Fields::Flat(members) => number_among(members, key),
+            Fields::Tree(value) => read_number(value, key),
+        }
+    }
+
+    /// The text at a key.
+    pub fn text(&self, key: &str) -> Result<&'v str, Refusal>
+        ensures { Tells (λ s. s.now) result (text_at key.now (fields_data self.now)) }
+    {
+        match self {
+            Fields::Flat(members) => text_among(members, key),
+            Fields::Tree(value) => read_text(value, key),
+        }
+    }
+
+    /// Refuses a value that is no object, or that has a key that isn't of the row.
+    pub fn check_keys(&self, row: &[&str]) -> Result<(), Refusal>
+        ensures { result ≡ only_keys (map (λ name. name.now) row.now) (fields_data self.now) }
+    {
+        match self {
+            Fields::Flat(members) => check_members(members, row),
+            Fields::Tree(value) => check_keys(value, row),
+        }
+    }
+
+    /// The single operations that the list at a key hands over. An object that was read with no tree has no list.
+    pub fn operations(&self, alloc: Global, key: &str) -> Result<Vec<Op>, Refusal>
+        ensures { Gives (λ ops. ops.items) result (operations_at key.now (fields_data self.now)) }
+    {
+        match self {
+            Fields::Flat(_) => Err(Refusal::BadField),
+            Fields::Tree(value) => read_items(alloc, read_list(value, key)?),
+        }
+    }
+}
+
+// The last value of a key.
+fn value_among<'v>(members: &[Member<'v>], key: &str) -> Option<Plain<'v>>
+    ensures { option_map plain_data result ≡ get key.now (flat_data members.now) }
+{
+    let mut found = None;
+    for member in members {
+        if member.key == key {
+            found = Some(member.value);
+        }
+    }
+    found
+}
+
+fn number_among(members: &[Member<'_>], key: &str) -> Result<u32, Refusal>
+    ensures { result ≡ number_at key.now (flat_data members.now) }
+{
+    match value_among(members, key) {
+        Some(Plain::Number(n)) if n <= u32::MAX as u64 => Ok(n as u32),
+        _ => Err(Refusal::BadField),
+    }
+}
+
+fn text_among<'v>(members: &[Member<'v>], key: &str) -> Result<&'v str, Refusal>
+    ensures { Tells (λ s. s.now) result (text_at key.now (flat_data members.now)) }
+{
+    match value_among(members, key) {
+        Some(Plain::Text(text)) => Ok(text),
+        _ => Err(Refusal::BadField),
+    }
+}
+
+fn check_members(members: &[Member<'_>], row: &[&str]) -> Result<(), Refusal>
+    ensures { result ≡ only_keys (map (λ name. name.now) row.now) (flat_data members.now) }
+{
+    if are_of(members, row) {
+        Ok(())
+    } else {
+        Err(Refusal::BadField)
+    }
+}
+
+fn are_of(members: &[Member<'_>], row: &[&str]) -> bool
+    ensures { result ≡ are_of (map (λ name. name.now) row.now) members.now }
+{
+    members.iter().all(|member| is_among(member.key, row))
+}

@@ -1,0 +1,143 @@
+//! JSON objects whose members are whole numbers and texts, read token by token, with no tree.
+ghost use Rattle.std.specs.Prelude.{◌≡◌, ◌≤◌, ◌<◌, ◌∷◌, [], length, Some, Ok, IfSome, slice_index, ◌==◌};
+ghost use Rattle.serde_json.specs.Data.{unsigned};
+ghost use Rattle.serde_json.specs.Read.{number_of};
+ghost use Rattle.json.specs.Token.{begin_object};
+ghost use Rattle.wire_json.specs.Request.{json_of};
+ghost use Rattle.wire_json.specs.Flat.{value_of_tokens, flat_data, IsPlain, IsNext, IsMember};
+ghost use Rattle.json.specs.Reads.{token_of};
+
+use arrayvec::ArrayVec;
+use fast_float::Numeral;
+use json::{Reader, Scratch, Token};
+
+/// The most members of such an object.
+pub(crate) const MOST: usize = 8;
+
+/// A member's value.
+#[derive(Clone, Copy, Drop)]
+pub(crate) enum Plain<'a> {
+    /// A whole number, written with no sign, fraction or exponent.
+    Number(u64),
+    Text(&'a str),
+}
+
+impl<'a> Default for Plain<'a> {
+    ghost is_default = { λ value. Unit {0} };
+
+    fn default() -> Plain<'a> {
+        Plain::Number(0)
+    }
+}
+
+/// A key and its value.
+#[derive(Clone, Copy, Default, Drop)]
+pub(crate) struct Member<'a> {
+    pub key: &'a str,
+    pub value: Plain<'a>,
+}
+
+// The next member, or why there is none.
+#[derive(Clone, Copy, Drop)]
+enum Next<'a> {
+    Member(Member<'a>),
+    End,
+    Other,
+}
+
+/// The members of the object that the bytes are, if each is a whole number or a text and there are at most eight. `None` too where
+/// the scratch has too little room and memory is refused. Time in proportion to the bytes.
+pub(crate) fn read_flat<'a>(
+    scratch: &'a mut Scratch,
+    bytes: &'a [u8],
+) -> Option<ArrayVec<Member<'a>, MOST>>
+    ensures { IfSome result (λ ms. json_of bytes.now ≡ Ok (flat_data ms.items)) }
+{
+    let Ok(text) = str::from_utf8(bytes) else {
+        return None;
+    };
+    let Ok(mut reader) = Reader::new(text, scratch) else {
+        return None;
+    };
+    read_members(&mut reader)
+}
+
+// The members of the one object that the reader has, if each is a whole number or a text and there are at most eight.
+fn read_members<'a>(reader: &mut Reader<'a>) -> Option<ArrayVec<Member<'a>, MOST>>
+    ensures { IfSome result (λ ms. value_of_tokens reader.old ≡ Some (flat_data ms.items)) }
+{
+    let Some(Token::BeginObject) = reader.next() else {
+        return None;
+    };
+    let mut members = ArrayVec::new();
+    for _ in 0..=MOST {
+        match read_member(reader) {
+            Next::Member(member) => {
+                if members.is_full() {
+                    return None;
+                }
+                members.push(member);
+            }
+            Next::End => return Some(members),
+            Next::Other => return None,
+        }
+    }
+    None
+}
+
+fn read_member<'a>(reader: &mut Reader<'a>) -> Next<'a>
+    ensures { IsNext reader.old result reader.new }
+{
+    match reader.next() {
+        Some(Token::Key(key)) => read_value(reader, key),
+        Some(Token::EndObject) => match reader.next() {
+            None => Next::End,
+            Some(_) => Next::Other,
+        },
+        _ => Next::Other,
+    }
+}
+
+// The member with this key, whose value comes next.
+fn read_value<'a>(reader: &mut Reader<'a>, key: &'a str) -> Next<'a>
+    ensures { IsMember key.now reader.old result reader.new }
+{
+    let Some(token) = reader.next() else {
+        return Next::Other;
+    };
+    match plain_value(token) {
+        Some(value) => Next::Member(Member { key, value }),
+        None => Next::Other,
+    }
+}
+
+// The value that a token is by itself, if it is a whole number or a text.
+fn plain_value<'a>(token: Token<'a>) -> Option<Plain<'a>>
+    ensures { IfSome result (λ value. IsPlain (token_of token.entry) value) }
+{
+    match token {
+        Token::String(text) => Some(Plain::Text(text)),
+        Token::Number(text) => match whole_number(text) {
+            Some(n) => Some(Plain::Number(n)),
+            None => None,
+        },
+        _ => None,
+    }
+}
+
+// The number that a token writes, if it is whole and written by digits alone.
+fn whole_number(text: &str) -> Option<u64>
+    ensures { IfSome result (λ n. number_of text.now ≡ Some (unsigned n)) }
+{
+    let bytes = text.as_bytes();
+    if has_minus(bytes) {
+        return None;
+    }
+    Numeral::scan(bytes).to_u64()
+}
+
+fn has_minus(bytes: &[u8]) -> bool
+    ensures { result ≡ (slice_index bytes.now 0 == 45) }
+{
+    !bytes.is_empty() && bytes[0] == b'-'
+}
