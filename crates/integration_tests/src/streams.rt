@@ -122,7 +122,7 @@ fn asks<R: Wait>(
 fn reads<R: Wait>(rt: &R, alloc: Global, hall: &Hall, pass: &mut HallPass, want: &str) -> bool
     requires { IsHallPassOf hall.now pass.old }
 {
-    let mut conn = Conn::new();
+    let mut conn = Conn::new(alloc);
     let open = b"{\"t\":\"open\",\"room\":\"notes\"}";
     asks(rt, alloc, hall, pass, &mut conn, open, "{\"r\":\"opened\"}")
         && asks(rt, alloc, hall, pass, &mut conn, b"{\"t\":\"read\"}", want)

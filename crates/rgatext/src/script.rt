@@ -12,7 +12,7 @@ use opid::{Refusal, Site};
 use replica_world::Event;
 use std::alloc::Global;
 use std::str;
-use wire_json::read_request;
+use wire_json::RequestReader;
 
 /// The most bytes of a line.
 pub const MAX_LINE_BYTES: usize = 65_600;
@@ -31,9 +31,13 @@ pub enum Form<'a> {
 /// The event that a line asks for.
 ///
 /// Refused with `TooLong` above 65,600 bytes, with `BadField` where the line has none of the forms, with `BadSite` where
-/// it names a site above 31, which is seen before the request is read, as `read_request` refuses the request, and with
+/// it names a site above 31, which is seen before the request is read, as a `RequestReader` refuses the request, and with
 /// `Memory`. Takes time and memory in proportion to the line.
-pub fn read_event(alloc: Global, line: &[u8]) -> Result<Event, Refusal>
+pub fn read_event(
+    alloc: Global,
+    reader: &mut RequestReader,
+    line: &[u8],
+) -> Result<Event, Refusal>
     ensures asked { (asked : Result Event Refusal) × Asks line.now asked × Gives same result asked }
     ensures too_long { 65600 < length line.now → result ≡ Err TooLong }
 {
@@ -41,18 +45,22 @@ pub fn read_event(alloc: Global, line: &[u8]) -> Result<Event, Refusal>
         return Err(Refusal::TooLong);
     }
     match read_form(line) {
-        Some(form) => event_of(alloc, form),
+        Some(form) => event_of(alloc, reader, form),
         None => Err(Refusal::BadField),
     }
 }
 
-fn event_of(alloc: Global, form: Form<'_>) -> Result<Event, Refusal>
+fn event_of(
+    alloc: Global,
+    reader: &mut RequestReader,
+    form: Form<'_>,
+) -> Result<Event, Refusal>
     ensures { Gives same result (event_of form.entry) }
 {
     match form {
         Form::Call { site, request } => {
             let at = site_of(site)?;
-            let call = read_request(alloc, request)?;
+            let call = reader.read(alloc, request)?;
             Ok(Event::Call(at, call))
         }
         Form::Carry { from, n, to } => {

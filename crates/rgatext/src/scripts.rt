@@ -8,6 +8,7 @@ use crate::script::{MAX_LINE_BYTES, read_event};
 use opid::Refusal;
 use replica_world::{Event, World, WorldReply};
 use std::alloc::{AllocError, Global};
+use wire_json::RequestReader;
 use ws_server::{Protocol, ReplyLine};
 
 /// Lines that are events of a world.
@@ -20,6 +21,8 @@ impl Protocol for Scripts {
 
     type State = World;
 
+    type Scratch = RequestReader;
+
     ghost LIMIT = { 65600 };
 
     ghost ready = { λ _. Unit {0} };
@@ -28,8 +31,17 @@ impl Protocol for Scripts {
 
     const LIMIT: usize = MAX_LINE_BYTES;
 
-    fn answer(alloc: Global, world: &mut World, line: &[u8]) -> Result<ReplyLine, AllocError> {
-        match read_event(alloc, line) {
+    fn scratch(alloc: Global) -> RequestReader {
+        RequestReader::new(alloc)
+    }
+
+    fn answer(
+        alloc: Global,
+        reader: &mut RequestReader,
+        world: &mut World,
+        line: &[u8],
+    ) -> Result<ReplyLine, AllocError> {
+        match read_event(alloc, reader, line) {
             Ok(event) => take(alloc, world, event),
             Err(why) => Ok(ReplyLine::refusal(why)),
         }

@@ -25,6 +25,7 @@ use std::alloc::Global;
 // Answers one line and sends the answer.
 fn serve_line<P: Protocol, W: Sink>(
     alloc: Global,
+    scratch: &mut P::Scratch,
     state: &mut P::State,
     line: &[u8],
     output: &mut Counted<W>,
@@ -37,7 +38,7 @@ fn serve_line<P: Protocol, W: Sink>(
     ensures counted { Rises 0 0 output.old.failures output.new.failures result }
     ensures writes { CountsWrites (of_bytes W.writes) output.old.inner output.old.failures output.new.inner output.new.failures }
 {
-    let Ok(made) = P::answer(alloc, state, line) else {
+    let Ok(made) = P::answer(alloc, scratch, state, line) else {
         return Err(ServeFault::Memory);
     };
     if output.write_all(made.as_bytes()) {
@@ -66,6 +67,7 @@ fn refuse_long<W: Sink>(output: &mut Counted<W>) -> Result<(), ServeFault>
 #[tactic(auto, using(crate::proofs::Making::writes_none))]
 fn serve_next<P: Protocol, R: Source, W: Sink>(
     alloc: Global,
+    scratch: &mut P::Scratch,
     window: &mut Window,
     state: &mut P::State,
     input: &mut Counted<R>,
@@ -90,7 +92,7 @@ fn serve_next<P: Protocol, R: Source, W: Sink>(
     };
     match next {
         Next::Line(n) => {
-            let sent = serve_line::<P, W>(alloc, state, &window.bytes()[..n], output);
+            let sent = serve_line::<P, W>(alloc, scratch, state, &window.bytes()[..n], output);
             window.advance(n + 1);
             goes_on(sent, true)
         }
@@ -100,7 +102,7 @@ fn serve_next<P: Protocol, R: Source, W: Sink>(
                 return Ok(false);
             }
             goes_on(
-                serve_line::<P, W>(alloc, state, window.bytes(), output),
+                serve_line::<P, W>(alloc, scratch, state, window.bytes(), output),
                 false,
             )
         }
@@ -150,8 +152,9 @@ pub fn serve<P: Protocol, R: Source, W: Sink>(
         input.new.failures }
     ensures writes { CountsWrites (of_bytes W.writes) output.old.inner output.old.failures output.new.inner output.new.failures }
 {
+    let mut scratch = P::scratch(alloc);
     'serving: loop {
-        match serve_next::<P, R, W>(alloc, window, state, input, output) {
+        match serve_next::<P, R, W>(alloc, &mut scratch, window, state, input, output) {
             Ok(true) => {}
             Ok(false) => return Ok(()),
             Err(why) => return Err(why),

@@ -20,7 +20,7 @@ use room::{Call, Desk, DeskFault, Reply};
 use shared_room::{Pass, PassDesk, SharedRoom};
 use std::alloc::Global;
 use std::sync::Wait;
-use wire_json::{read_open, read_request};
+use wire_json::{RequestReader, read_open};
 
 // The line that tells that a room was opened.
 const OPENED: &str = "{\"r\":\"opened\"}\n";
@@ -57,6 +57,7 @@ fn answer_over<R: Wait, G: Witness>(
     room: &SharedRoom,
     pass: &mut Pass,
     calls: &mut u64,
+    reader: &mut RequestReader,
     bytes: &[u8],
     gate: &mut G,
 ) -> Result<Answered, ServeFault>
@@ -68,7 +69,7 @@ fn answer_over<R: Wait, G: Witness>(
         × IfOk result (λ answered. (line_bytes answered.line ≡ ended answer) × (answered.call ≡ made)) }
     ensures memory { IfErr result (λ why. why ≡ Memory) }
 {
-    match read_request(alloc, bytes) {
+    match reader.read(alloc, bytes) {
         Ok(call) => {
             let n = next_call(*calls);
             *calls = n;
@@ -140,6 +141,7 @@ pub(crate) fn answer_message<R: Wait, G: Witness>(
             hall.room(at),
             &mut pass.passes[at],
             &mut conn.calls,
+            &mut conn.reader,
             bytes,
             gate,
         ),

@@ -16,6 +16,9 @@ pub trait Protocol {
     /// Who answers.
     type State;
 
+    /// What is kept from line to line so that each takes less work. No answer depends on it.
+    type Scratch: Drop;
+
     // The most bytes that a line has, without its LF.
     ghost LIMIT: { ℕ };
 
@@ -28,8 +31,16 @@ pub trait Protocol {
     /// The most bytes that a line has, without its LF. A longer one is answered by 29.
     const LIMIT: usize;
 
+    /// What is kept before the first line.
+    fn scratch(alloc: Global) -> Self::Scratch;
+
     /// Answers a line. An `Err` is for want of memory for the text; what the line did stays.
-    fn answer(alloc: Global, state: &mut Self::State, line: &[u8]) -> Result<ReplyLine, AllocError>
+    fn answer(
+        alloc: Global,
+        scratch: &mut Self::Scratch,
+        state: &mut Self::State,
+        line: &[u8],
+    ) -> Result<ReplyLine, AllocError>
         requires { ready state.old }
         ensures ready { ready state.new }
         ensures answered { (text : List ℕ) × answers state.old line.now text state.new

@@ -8,7 +8,7 @@ use opid::Refusal;
 use room::{Desk, DeskFault, Reply};
 use std::alloc::{AllocError, Global};
 use std::marker::PhantomData;
-use wire_json::{MAX_REQUEST_BYTES, read_request};
+use wire_json::{MAX_REQUEST_BYTES, RequestReader};
 
 /// Lines that are requests, which a desk answers.
 pub struct Requests<D>(PhantomData<D>);
@@ -20,6 +20,8 @@ impl<D: Desk> Protocol for Requests<D> {
 
     type State = D;
 
+    type Scratch = RequestReader;
+
     ghost LIMIT = { 65536 };
 
     ghost ready = { D.ready };
@@ -28,8 +30,17 @@ impl<D: Desk> Protocol for Requests<D> {
 
     const LIMIT: usize = MAX_REQUEST_BYTES;
 
-    fn answer(alloc: Global, desk: &mut D, line: &[u8]) -> Result<ReplyLine, AllocError> {
-        match read_request(alloc, line) {
+    fn scratch(alloc: Global) -> RequestReader {
+        RequestReader::new(alloc)
+    }
+
+    fn answer(
+        alloc: Global,
+        reader: &mut RequestReader,
+        desk: &mut D,
+        line: &[u8],
+    ) -> Result<ReplyLine, AllocError> {
+        match reader.read(alloc, line) {
             Ok(call) => ReplyLine::new(alloc, &reply_of(desk.call(call))),
             Err(refusal) => Ok(ReplyLine::refusal(refusal)),
         }
