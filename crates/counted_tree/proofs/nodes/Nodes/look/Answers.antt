@@ -28,7 +28,8 @@ returns-clause-node c =
     read_at rows c.args.at row (omega (arith, long, length-nodes_of known rows, c.requires)) c.index-row.ensures in
     let told = told_at (length known) rows c.args.at row c.self.invariant.3 at in
     let traits : slice_get known (elem_of row) ≡ Some t =
-    ap (slice_get known) (sym c.elem_of.ensures) ∙ read_at known c.elem_of.result t (omega (arith, told, c.elem_of.ensures)) c.index.ensures in
+    ap (slice_get known) (sym c.elem_of.ensures)
+    ∙ read_at known c.elem_of.result t (omega (arith, told, c.elem_of.ensures)) c.index.ensures in
     subst (λ (s : Store). slice_get s.0 c.args.at ≡ Some c.unpack.result) c.self.view_is
     (node_at known rows c.args.at row t at traits ∙ ap Some (sym c.unpack.ensures))
 
@@ -43,7 +44,8 @@ returns-clause-told c =
     read_at rows c.args.at row (omega (arith, long, length-nodes_of known rows, c.requires)) c.index-row.ensures in
     let told = told_at (length known) rows c.args.at row c.self.invariant.3 at in
     let traits : slice_get known (elem_of row) ≡ Some t =
-    ap (slice_get known) (sym c.elem_of.ensures) ∙ read_at known c.elem_of.result t (omega (arith, told, c.elem_of.ensures)) c.index.ensures in
+    ap (slice_get known) (sym c.elem_of.ensures)
+    ∙ read_at known c.elem_of.result t (omega (arith, told, c.elem_of.ensures)) c.index.ensures in
     let stays : slice_get known (elem_of row) ≡ Some (traits_of (node_of t row).entry) = traits ∙ ap Some (sym (traits_back t)) in
     subst (λ (s : Store). slice_get s.2 c.unpack.result.entry.elem ≡ Some (traits_of c.unpack.result.entry)) c.self.view_is
     (subst (λ (n : Node). slice_get known n.entry.elem ≡ Some (traits_of n.entry)) (sym c.unpack.ensures) stays)

@@ -10,7 +10,8 @@ pub invariant_of-self : goal.invariant_of-self
 invariant_of-self c =
     let known = c.self.inside.traits.items in
     let told : slice_get known c.args.node.entry.elem ≡ Some (traits_of c.args.node.entry) =
-    subst (λ (s : Store). slice_get s.2 c.args.node.entry.elem ≡ Some (traits_of c.args.node.entry)) (sym c.self.view_is) c.requires.known.1 in
+    subst (λ (s : Store). slice_get s.2 c.args.node.entry.elem ≡ Some (traits_of c.args.node.entry)) (sym c.self.view_is)
+    c.requires.known.1 in
     let spare = ap (λ (s : Store). s.1) c.self.view_is in
     let below = slice_get_within known c.args.node.entry.elem (traits_of c.args.node.entry) told in (
       omega (arith, spare),
@@ -24,7 +25,8 @@ pub returns-clause-rows : goal.returns-clause-rows
 returns-clause-rows c =
     let known = c.self.inside.traits.items in
     let told : slice_get known c.args.node.entry.elem ≡ Some (traits_of c.args.node.entry) =
-    subst (λ (s : Store). slice_get s.2 c.args.node.entry.elem ≡ Some (traits_of c.args.node.entry)) (sym c.self.view_is) c.requires.known.1 in
+    subst (λ (s : Store). slice_get s.2 c.args.node.entry.elem ≡ Some (traits_of c.args.node.entry)) (sym c.self.view_is)
+    c.requires.known.1 in
     ap (nodes_of known) c.push_reserved.ensures.items
     ∙ nodes_pushed known c.self.inside.rows.items c.pack.result c.args.node c.pack.ensures.node c.pack.ensures.elem told
     ∙ ap (λ (s : Store). s.0 ++ c.args.node ∷ []) c.self.view_is

@@ -20,7 +20,8 @@ returns-in_err-elem-clause-found c =
     subst (λ (v : Versions). c.args.version < length v.lists) (sym c.self.view_is) c.requires in
     let list : version_list c.args.self.now c.args.version ≡ list_of ns c.get.result =
     ap (λ (v : Versions). version_list v c.args.version) (sym c.self.view_is)
-    ∙ list_at ns roots c.args.version (omega (arith, many, length-map roots (rooted ns))) ∙ ap (rooted ns) (sym root_is) ∙ ap (list_of ns) (sym c.get.ensures) in
+    ∙ list_at ns roots c.args.version (omega (arith, many, length-map roots (rooted ns))) ∙ ap (rooted ns) (sym root_is)
+    ∙ ap (list_of ns) (sym c.get.ensures) in
     c.from_residual.ensures ∙ sym (ap (λ xs. slice_get (visible xs) c.args.k) list
     ∙ find-visible (list_of ns c.get.result) c.args.k ∙ ap (option_map (λ (p : ℕ × ℕ). p.0)) (sym c.in_err-elem.ensures.found))
 
@@ -34,7 +35,8 @@ returns-in_err-elem-clause-cost c =
     subst (λ (v : Versions). c.args.version < length v.lists) (sym c.self.view_is) c.requires in
     let list : version_list c.args.self.now c.args.version ≡ list_of ns c.get.result =
     ap (λ (v : Versions). version_list v c.args.version) (sym c.self.view_is)
-    ∙ list_at ns roots c.args.version (omega (arith, many, length-map roots (rooted ns))) ∙ ap (rooted ns) (sym root_is) ∙ ap (list_of ns) (sym c.get.ensures) in
+    ∙ list_at ns roots c.args.version (omega (arith, many, length-map roots (rooted ns))) ∙ ap (rooted ns) (sym root_is)
+    ∙ ap (list_of ns) (sym c.get.ensures) in
     omega (arith, c.find_in.ensures.cost, ap (λ xs. digits (length xs)) list)
 
 pub returns-clause-found : goal.returns-clause-found
@@ -47,7 +49,8 @@ returns-clause-found c =
     subst (λ (v : Versions). c.args.version < length v.lists) (sym c.self.view_is) c.requires in
     let list : version_list c.args.self.now c.args.version ≡ list_of ns c.get.result =
     ap (λ (v : Versions). version_list v c.args.version) (sym c.self.view_is)
-    ∙ list_at ns roots c.args.version (omega (arith, many, length-map roots (rooted ns))) ∙ ap (rooted ns) (sym root_is) ∙ ap (list_of ns) (sym c.get.ensures) in
+    ∙ list_at ns roots c.args.version (omega (arith, many, length-map roots (rooted ns))) ∙ ap (rooted ns) (sym root_is)
+    ∙ ap (list_of ns) (sym c.get.ensures) in
     sym (ap (λ xs. slice_get (visible xs) c.args.k) list ∙ find-visible (list_of ns c.get.result) c.args.k
     ∙ ap (option_map (λ (p : ℕ × ℕ). p.0)) (sym c.in_ok-elem.ensures.found))
 
@@ -61,5 +64,6 @@ returns-clause-cost c =
     subst (λ (v : Versions). c.args.version < length v.lists) (sym c.self.view_is) c.requires in
     let list : version_list c.args.self.now c.args.version ≡ list_of ns c.get.result =
     ap (λ (v : Versions). version_list v c.args.version) (sym c.self.view_is)
-    ∙ list_at ns roots c.args.version (omega (arith, many, length-map roots (rooted ns))) ∙ ap (rooted ns) (sym root_is) ∙ ap (list_of ns) (sym c.get.ensures) in
+    ∙ list_at ns roots c.args.version (omega (arith, many, length-map roots (rooted ns))) ∙ ap (rooted ns) (sym root_is)
+    ∙ ap (list_of ns) (sym c.get.ensures) in
     omega (arith, c.find_in.ensures.cost, ap (λ xs. digits (length xs)) list)

@@ -12,5 +12,6 @@ returns-clause-rank c =
     let roots = c.self.inside.roots.items in
     let root_is : c.last_root-root.result ≡ newest_root roots = c.last_root-root.ensures ∙ ap newest_root c.as_slice.ensures.value in
     let newest : newest_list c.args.self.now ≡ list_of ns c.get.result =
-    ap (λ (v : Versions). newest_list v) (sym c.self.view_is) ∙ last_list ns roots ∙ ap (rooted ns) (sym root_is) ∙ ap (list_of ns) (sym c.get.ensures) in
+    ap (λ (v : Versions). newest_list v) (sym c.self.view_is) ∙ last_list ns roots ∙ ap (rooted ns) (sym root_is)
+    ∙ ap (list_of ns) (sym c.get.ensures) in
     c.rank_in.ensures.rank ∙ ap (λ xs. length (units (before c.args.elem xs))) (sym newest)
