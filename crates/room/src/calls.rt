@@ -208,7 +208,8 @@ fn pull(
 {
     let version = replica.version();
     let units = counts_units(outbox, s);
-    let mut es = Vec::with_capacity(alloc, max.min(MAX_COUNT) as usize)?;
+    let most = max.min(MAX_COUNT).min(version.saturating_sub(have));
+    let mut es = Vec::with_capacity(alloc, most as usize)?;
     match outbox.pull(s, have, max, version) {
         Ok((from, to)) => {
             add_edits(replica.doc(), units, from, to, &mut es);
