@@ -1,6 +1,7 @@
 -- The tokens of an object with whole numbers and texts are read as that object, in which its keys are looked up.
-use Rattle.std.proofs.Common.{◌≡◌, ℕ, zero, suc, ◌+◌, ◌*◌, ◌<◌, ◌≤◌, ◌^◌, ◌==◌, ◌&&◌, List, [], ◌∷◌, ◌++◌, length, take, get_or, slice_index}
-use Rattle.std.proofs.Common.{Option, Some, None, option_and_then, option_map, Ok, Err, IsUtf8, Bool, true, false, cond, if◌then◌else◌, bytes_eq}
+use Rattle.std.proofs.Common.{◌≡◌, ℕ, zero, suc, ◌+◌, ◌*◌, ◌<◌, ◌≤◌, ◌^◌, ◌==◌, ◌&&◌, List, [], ◌∷◌, ◌++◌, length, take}
+use Rattle.std.proofs.Common.{get_or, slice_index, Option, Some, None, option_and_then, option_map, Ok, Err, IsUtf8, Bool, true, false}
+use Rattle.std.proofs.Common.{cond, if◌then◌else◌, bytes_eq}
 use Rattle.std.proofs.Common.{Ordering, Less, Equal, Greater, nat_cmp, is_eq, true≢false, refl, sym, ap, ◌∙◌, subst, add-one, lt-ltb, arith}
 use Rattle.std.proofs.Math.Seq.{take-suc}
 use Rattle.std.proofs.Math.Bool.{and-true}
@@ -29,12 +30,12 @@ use Rattle.wire_json.specs.Members.{or_refuse, are_among, only_keys}
 use Rattle.wire_json.specs.Operations.{items_in, list_at}
 use Rattle.wire_json.specs.Request.{json_of}
 use Rattle.wire_json.proofs.Steps.{json_read}
-use Rattle.wire_json.specs.Flat.{value_of_tokens, plain_data, put_all, flat_data, are_of, IsPlain, IsNext, TellsMembers}
+use Rattle.wire_json.specs.Flat.{whole, value_of_tokens, plain_data, put_all, flat_data, are_of, IsPlain, IsNext, TellsMembers}
 
 -- ---- members one after another
 
-with_one_more : (old : List Token) (ms : List Member) (m : Member) (t : Token) (new : List Token) → TellsMembers old ms (key m.key.now ∷ t ∷ new)
-    → IsPlain t m.value → TellsMembers old (ms ++ m ∷ []) new
+with_one_more : (old : List Token) (ms : List Member) (m : Member) (t : Token) (new : List Token)
+    → TellsMembers old ms (key m.key.now ∷ t ∷ new) → IsPlain t m.value → TellsMembers old (ms ++ m ∷ []) new
 with_one_more old [] m t new told plain = (t, new, told, plain, refl)
 with_one_more old (x ∷ ms) m t new told plain = (told.0, told.1, told.2, told.3, with_one_more told.1 ms m t new told.4 plain)
 
@@ -75,7 +76,8 @@ more_read : (depth n : ℕ) (k : List ℕ) (t : Token) (rest : List Token) (old 
 unfolding members
 more_read depth n k t rest old found d leaf read =
     (json.member k leaf.0 read.0,
-     ap (λ o. option_and_then (λ p. parse_map (json.member k p.0) (members (value (suc depth)) n p.1)) o) (leaf.1 rest) ∙ ap (parse_map (json.member k leaf.0)) read.1,
+     ap (option_and_then (λ p. parse_map (json.member k p.0) (members (value (suc depth)) n p.1))) (leaf.1 rest)
+     ∙ ap (parse_map (json.member k leaf.0)) read.1,
      ap (option_and_then (λ e. of_members read.0 (put k e old))) leaf.2 ∙ read.2)
 
 all_read : (depth n : ℕ) (ms : List Member) (ts : List Token) (old : Members) → length ms < n → TellsMembers ts ms (end_object ∷ [])
@@ -88,21 +90,22 @@ all_read depth (suc n) (m ∷ ms) ts old enough told =
     (more_read depth n m.key.now told.0 told.1 old _ (plain_data m.value) (leaf depth told.0 m.value told.3)
     (all_read depth n ms told.1 (put m.key.now (plain_data m.value) old) (omega arith) told.4))
 
-object_read : (ts : List Token) (ms : List Member) → TellsMembers ts ms (end_object ∷ []) → value_of_tokens (begin_object ∷ ts) ≡ Some (flat_data ms)
+object_read : (ts : List Token) (ms : List Member) → TellsMembers ts ms (end_object ∷ [])
+    → value_of_tokens (begin_object ∷ ts) ≡ Some (flat_data ms)
 unfolding value
 object_read ts ms told =
     let size = count ts ms (end_object ∷ []) told in
     let read = all_read 125 (length ts) ms ts no_members (omega (arith, size)) told in
-    ap (λ o. option_and_then of_json (option_and_then (λ p. json.if_last p.0 p.1) (parse_map json.object o))) read.1 ∙ ap (option_map object) read.2
+    ap (λ o. whole (parse_map json.object o)) read.1 ∙ ap (option_map object) read.2
 
 -- ---- the reader's steps
 
-pub one_more : (old : List Token) (ms : List Member) (m : Member) (now new : List Token) → TellsMembers old ms now → IsNext now (nexts.Member m) new
-    → TellsMembers old (ms ++ m ∷ []) new
+pub one_more : (old : List Token) (ms : List Member) (m : Member) (now new : List Token)
+    → TellsMembers old ms now → IsNext now (nexts.Member m) new → TellsMembers old (ms ++ m ∷ []) new
 one_more old ms m now new told next = with_one_more old ms m next.0 new (subst (TellsMembers old ms) next.1 told) next.2
 
-pub whole_object : (all ts : List Token) (ms : List Member) (now : List Token) → all ≡ begin_object ∷ ts → TellsMembers ts ms now → now ≡ end_object ∷ []
-    → value_of_tokens all ≡ Some (flat_data ms)
+pub whole_object : (all ts : List Token) (ms : List Member) (now : List Token)
+    → all ≡ begin_object ∷ ts → TellsMembers ts ms now → now ≡ end_object ∷ [] → value_of_tokens all ≡ Some (flat_data ms)
 whole_object all ts ms now begun told ended = ap value_of_tokens begun ∙ object_read ts ms (subst (TellsMembers ts ms) ended told)
 
 -- ---- a number of digits alone
@@ -117,16 +120,19 @@ whole_number s (Some n) plain h =
 -- ---- looking a key up
 
 -- what was put in last is found at its key, and the others as before
-get_put : (q k : List ℕ) (d : Data) (ms : Members) (b : Bool) → bytes_eq k q ≡ b → get_member q (put k d ms) ≡ cond b (Some d) (get_member q ms)
+get_put : (q k : List ℕ) (d : Data) (ms : Members) (b : Bool) → bytes_eq k q ≡ b
+    → get_member q (put k d ms) ≡ cond b (Some d) (get_member q ms)
 get_put q k d ms true e = subst (λ l. get_member l (put k d ms) ≡ Some d) ((bytes_eq-Decides k q).0 e) (get_member-put k d ms)
 get_put q k d ms false e = get_member-put_other q k d ms (λ same. true≢false (sym ((bytes_eq-Decides k q).1 (sym same)) ∙ e))
 
-put_last : (ms : List Member) (m : Member) (old : Members) → put_all (ms ++ m ∷ []) old ≡ put m.key.now (plain_data m.value) (put_all ms old)
+put_last : (ms : List Member) (m : Member) (old : Members)
+    → put_all (ms ++ m ∷ []) old ≡ put m.key.now (plain_data m.value) (put_all ms old)
 put_last [] m old = refl
 put_last (x ∷ ms) m old = put_last ms m (put x.key.now (plain_data x.value) old)
 
 -- a key is looked up in the members so far, and in one more
-pub looked_up : (q : List ℕ) (ms : List Member) (i : ℕ) (none : Member) (b : Bool) → i < length ms → bytes_eq (get_or ms i none).key.now q ≡ b
+pub looked_up : (q : List ℕ) (ms : List Member) (i : ℕ) (none : Member) (b : Bool)
+    → i < length ms → bytes_eq (get_or ms i none).key.now q ≡ b
     → get_member q (put_all (take (i + 1) ms) no_members)
     ≡ cond b (Some (plain_data (get_or ms i none).value)) (get_member q (put_all (take i ms) no_members))
 looked_up q ms i none b within same =
@@ -181,7 +187,8 @@ among_put_at : (o : Ordering) (row : List (List ℕ)) (k l : List ℕ) (d e : Da
 among_put_at Less row k l d e ms is more = refl
 among_put_at Equal row k l d e ms is more =
     let same : k ≡ l = (bytes_eq-Decides k l).0 (sym (is_eq-slice_cmp k l) ∙ ap is_eq is) in
-    subst (λ x. known row l && are_among row ms ≡ known row x && (known row l && are_among row ms)) (sym same) (twice (known row l) (are_among row ms))
+    subst (λ x. known row l && are_among row ms ≡ known row x && (known row l && are_among row ms)) (sym same)
+    (twice (known row l) (are_among row ms))
 among_put_at Greater row k l d e ms is more = ap (λ b. known row l && b) more ∙ swapped (known row l) (known row k) (are_among row ms)
 
 among_put : (row : List (List ℕ)) (k : List ℕ) (d : Data) (ms : Members) → are_among row (put k d ms) ≡ known row k && are_among row ms
@@ -207,6 +214,7 @@ only_of row ms =
 -- ---- from the bytes on
 
 pub told_by_bytes : {A : Type 0} (items : A → List Member) (bytes : List ℕ) → IsUtf8 bytes → (r : Option A)
-    → IfSome r (λ ms. value_of_tokens (tokens bytes) ≡ Some (flat_data (items ms))) → IfSome r (λ ms. json_of bytes ≡ Ok (flat_data (items ms)))
+    → IfSome r (λ ms. value_of_tokens (tokens bytes) ≡ Some (flat_data (items ms)))
+    → IfSome r (λ ms. json_of bytes ≡ Ok (flat_data (items ms)))
 told_by_bytes items bytes u None h = tt
 told_by_bytes items bytes u (Some ms) h = json_read bytes (flat_data (items ms)) u h

@@ -20,9 +20,13 @@ use Rattle.wire_json.specs.declared.fields.Fields.TheVariants.{Flat, Tree}
 use Rattle.wire_json.specs.declared.flat.Next as next
 use Rattle.wire_json.specs.declared.flat.Next.TheVariants as nexts
 
--- the value that these tokens are, if no token follows it
+-- the value of a tree that no token follows
+abbrev pub whole : Option (json.Json × List Token) → Option Data
+whole o = option_and_then of_json (option_and_then (λ p. json.if_last p.0 p.1) o)
+
+-- the value that these tokens are
 abbrev pub value_of_tokens : List Token → Option Data
-value_of_tokens ts = option_and_then of_json (option_and_then (λ p. json.if_last p.0 p.1) (json.value max_depth ts))
+value_of_tokens ts = whole (json.value max_depth ts)
 
 -- the JSON value of a member's value
 abbrev pub plain_data : Plain → Data
@@ -63,7 +67,8 @@ IsMember k old nexts.Other new = Unit {0}
 -- of the tokens `old`, these members come first and `new` are the rest
 abbrev pub TellsMembers : List Token → List Member → List Token → Type 0
 TellsMembers old [] new = old ≡ new
-TellsMembers old (m ∷ ms) new = (t : Token) × (rest : List Token) × (old ≡ key m.key.now ∷ t ∷ rest) × IsPlain t m.value × TellsMembers rest ms new
+TellsMembers old (m ∷ ms) new =
+    (t : Token) × (rest : List Token) × (old ≡ key m.key.now ∷ t ∷ rest) × IsPlain t m.value × TellsMembers rest ms new
 
 -- the value that a request is
 abbrev pub fields_data : Fields → Data

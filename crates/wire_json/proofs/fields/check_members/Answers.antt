@@ -5,8 +5,10 @@ use Rattle.wire_json.proofs.fields.check_members.Goals as goal
 
 pub returns-then-are_of : goal.returns-then-are_of
 returns-then-are_of c =
-    sym (only_of (map (λ name. name.now) c.args.row.now) c.args.members.now ∙ ap (λ b. if b then Ok tt else Err BadField) (sym c.if-are_of.ensures))
+    sym (only_of (map (λ name. name.now) c.args.row.now) c.args.members.now
+    ∙ ap (λ b. if b then Ok tt else Err BadField) (sym c.if-are_of.ensures))
 
 pub returns-else-are_of : goal.returns-else-are_of
 returns-else-are_of c =
-    sym (only_of (map (λ name. name.now) c.args.row.now) c.args.members.now ∙ ap (λ b. if b then Ok tt else Err BadField) (sym c.if-are_of.ensures))
+    sym (only_of (map (λ name. name.now) c.args.row.now) c.args.members.now
+    ∙ ap (λ b. if b then Ok tt else Err BadField) (sym c.if-are_of.ensures))

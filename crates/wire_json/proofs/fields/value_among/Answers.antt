@@ -8,8 +8,10 @@ pub loop-member-preserved : goal.loop-member-preserved
 loop-member-preserved c = elim c.if-eq.branch [
   | then-eq w ↦
     ap (option_map plain_data) w.found-is
-    ∙ sym (looked_up c.args.key.now c.args.members.now c.loop-member.member-index _ true c.loop-member-test.true (sym c.eq.ensures ∙ w.if-eq.true))
+    ∙ sym (looked_up c.args.key.now c.args.members.now c.loop-member.member-index _ true
+    c.loop-member-test.true (sym c.eq.ensures ∙ w.if-eq.true))
   | else-eq w ↦
     ap (option_map plain_data) w.found-is ∙ c.loop-member.invariant
-    ∙ sym (looked_up c.args.key.now c.args.members.now c.loop-member.member-index _ false c.loop-member-test.true (sym c.eq.ensures ∙ w.if-eq.false))
+    ∙ sym (looked_up c.args.key.now c.args.members.now c.loop-member.member-index _ false
+    c.loop-member-test.true (sym c.eq.ensures ∙ w.if-eq.false))
 ]

@@ -13,4 +13,5 @@ returns-in-End c =
 pub loop-preserved : goal.loop-preserved
 loop-preserved c =
     subst (λ items. TellsMembers c.next.new.self items c.read_member.new.reader) (sym c.push.ensures.items)
-    (one_more c.next.new.self c.loop.members.items c.in-Member.member c.loop.reader c.read_member.new.reader c.loop.invariant c.in-Member.ensures)
+    (one_more c.next.new.self c.loop.members.items c.in-Member.member c.loop.reader c.read_member.new.reader
+    c.loop.invariant c.in-Member.ensures)

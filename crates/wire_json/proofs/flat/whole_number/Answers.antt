@@ -6,6 +6,7 @@ use Rattle.wire_json.proofs.flat.whole_number.Goals as goal
 
 pub returns : goal.returns
 returns c =
-    whole_number c.args.text.now c.to_u64.result (ap (λ s. slice_index s 0 == 45) (sym c.as_bytes-bytes.ensures.value) ∙ sym c.if-has_minus.ensures)
+    whole_number c.args.text.now c.to_u64.result
+    (ap (λ s. slice_index s 0 == 45) (sym c.as_bytes-bytes.ensures.value) ∙ sym c.if-has_minus.ensures)
     (subst (λ (p : Parts). SomeIff c.to_u64.result (IsInteger p × (digits_of p < 2 ^ 64)) (digits_of p))
     (c.scan.ensures.parts ∙ ap scan c.as_bytes-bytes.ensures.value) c.to_u64.ensures)
