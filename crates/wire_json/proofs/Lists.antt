@@ -1,7 +1,7 @@
 -- Writing the items of a list one after another, as a loop does.
-use Rattle.std.proofs.Common.{◌≡◌, ℕ, zero, suc, ◌+◌, ◌-◌, ◌<◌, ◌≤◌, List, [], ◌∷◌, ◌++◌, length, take, drop, get_or, refl, sym, ap}
+use Rattle.std.proofs.Common.{◌≡◌, ℕ, zero, suc, ◌+◌, ◌<◌, ◌≤◌, List, [], ◌∷◌, ◌++◌, length, take, get_or, refl, ap}
 use Rattle.std.proofs.Common.{subst, ◌∙◌, add-one, append_assoc, arith}
-use Rattle.std.proofs.lemmas.List.{take_all, take_more, flat_map_more}
+use Rattle.std.proofs.lemmas.List.{take_all}
 use Rattle.std.specs.List.{AllByRecursion, flat_map}
 use Rattle.json.specs.Token.{Token, begin_array, end_array}
 use Rattle.json.specs.Tree.{items_tokens}
@@ -18,14 +18,6 @@ items_tokens-each_data : {A : Type 0} (f : A → Data) (xs : List A)
 items_tokens-each_data f [] = refl
 items_tokens-each_data f (x ∷ xs) =
     append_assoc (tokens_of (f x)) (each_tokens f xs) (end_array ∷ []) ∙ ap (λ ts. tokens_of (f x) ++ ts) (items_tokens-each_data f xs)
-
--- the tokens of one more item go behind those before them
-pub appended : {A : Type 0} (f : A → Data) (xs : List A) (i : ℕ) (x : A) (opened old new : List Token) → i < length xs
-    → x ≡ get_or xs i x → old ≡ opened ++ each_tokens f (take i xs) → new ≡ old ++ tokens_of (f x)
-    → new ≡ opened ++ each_tokens f (take (i + 1) xs)
-appended f xs i x opened old new h at so_far here =
-    here ∙ ap (λ ts. ts ++ tokens_of (f x)) so_far ∙ flat_map_more (λ y. tokens_of (f y)) opened (take i xs) x
-    ∙ ap (λ ys. opened ++ each_tokens f ys) (ap (λ y. take i xs ++ y ∷ []) at ∙ sym (take_more xs i x h))
 
 -- the items' tokens between brackets are the list's
 pub bracketed : {A : Type 0} (f : A → Data) (xs : List A) (old opened here new : List Token) → opened ≡ old ++ begin_array ∷ []
@@ -50,11 +42,3 @@ all_more P [] i x h a k = absurd (omega arith)
 all_more P (y ∷ xs) zero x h a k = (k, tt)
 all_more P (y ∷ xs) (suc i) x h a k =
     rw add-one (a.0, subst (λ n. AllByRecursion P (take n xs)) (add-one i) (all_more P xs i x (omega arith) a.1 k))
-
--- what holds of the first and of the rest holds of all
-pub all_behind : {A : Type 0} (P : A → Type 0) (xs : List A) (x : A) → x ≡ get_or xs 0 x → P x
-    → AllByRecursion P (take (length xs - 1) (drop 1 xs)) → AllByRecursion P xs
-all_behind P [] x e p a = tt
-all_behind P (y ∷ xs) x e p a =
-    let size : length (y ∷ xs) - 1 ≡ length xs = omega arith in
-    (subst P e p, subst (AllByRecursion P) (ap (λ n. take n xs) size ∙ take_all (length xs) xs (omega arith)) a)

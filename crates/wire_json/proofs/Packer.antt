@@ -2,15 +2,14 @@
 use Rattle.std.proofs.Common.{◌≡◌, ◌+◌, ◌<◌, ◌≤◌, ℕ, true, false, List, [], ◌∷◌, ◌++◌, length, take, drop, get_or, sum}
 use Rattle.std.proofs.Common.{refl, sym, ap, ◌∙◌, append_assoc, arith}
 use Rattle.std.specs.Prelude.{nat_lt, encode_utf8, encode_utf8_all}
-use Rattle.std.proofs.lemmas.Bool.{false_from_ne_true, and_parts, cond-true, cond-false}
+use Rattle.std.proofs.lemmas.Bool.{false_from_ne_true, and_parts}
 use Rattle.std.proofs.lemmas.List.{append-nil, drop_all, take_more}
 use Rattle.json.specs.Token.{Token, begin_array, end_array}
 use Rattle.serde_json.specs.Data.{array}
 use Rattle.opid.specs.Operations.{Operation}
 use Rattle.opid.proofs.Counts.{sum-raised}
-use Rattle.opid.proofs.Gathered.{rest_at}
 use Rattle.causal_clock.specs.Kinds.{IsOperation}
-use Rattle.wire_json.specs.Packing.{Item, next, last_of, is_next, joins, alone, with_one_more, char_of, packed_behind}
+use Rattle.wire_json.specs.Packing.{Item, next, last_of, is_next, joins, char_of, packed_behind}
 use Rattle.wire_json.specs.Written.{tokens_of, each_data, item_data}
 use Rattle.wire_json.proofs.Lists.{each_tokens, bracketed}
 use Rattle.wire_json.proofs.Packed.{is_next-next}
@@ -41,22 +40,6 @@ pushed i y ch more e same is =
 -- what is written, and what the item becomes with the rest
 abbrev pub written : List Token → Item → List Operation → List Token
 written ts i ys = ts ++ each_tokens item_data (packed_behind i ys)
-
-pub joined_on : (ts : List Token) (i : Item) (ops : List Operation) (k : ℕ) (y : Operation) (total : List Token) → k < length ops
-    → y ≡ get_or ops k y → joins i y ≡ true
-    → written ts i (drop k ops) ≡ total → written ts (with_one_more i y) (drop (k + 1) ops) ≡ total
-joined_on ts i ops k y total h at e so_far =
-    sym (ap (written ts i) (rest_at ops k y h at) ∙ ap (λ (items : List Item). ts ++ each_tokens item_data items) (cond-true _ _ _ e))
-    ∙ so_far
-
-pub ended_on : (old new : List Token) (i : Item) (ops : List Operation) (k : ℕ) (y : Operation) (total : List Token)
-    → k < length ops → y ≡ get_or ops k y → joins i y ≡ false → new ≡ old ++ tokens_of (item_data i)
-    → written old i (drop k ops) ≡ total → written new (alone y) (drop (k + 1) ops) ≡ total
-ended_on old new i ops k y total h at e is so_far =
-    let later = each_tokens item_data (packed_behind (alone y) (drop (k + 1) ops)) in
-    ap (λ ts. ts ++ later) is ∙ append_assoc old (tokens_of (item_data i)) later
-    ∙ sym (ap (written old i) (rest_at ops k y h at) ∙ ap (λ (items : List Item). old ++ each_tokens item_data items) (cond-false _ _ _ e))
-    ∙ so_far
 
 -- the last item between brackets with those before it
 pub all_written : (i : Item) (ops : List Operation) (k : ℕ) (items : List Item) (old opened here last new : List Token)
