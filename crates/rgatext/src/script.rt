@@ -33,11 +33,7 @@ pub enum Form<'a> {
 /// Refused with `TooLong` above 65,600 bytes, with `BadField` where the line has none of the forms, with `BadSite` where
 /// it names a site above 31, which is seen before the request is read, as a `RequestReader` refuses the request, and with
 /// `Memory`. Takes time and memory in proportion to the line.
-pub fn read_event(
-    alloc: Global,
-    reader: &mut RequestReader,
-    line: &[u8],
-) -> Result<Event, Refusal>
+pub fn read_event(alloc: Global, reader: &mut RequestReader, line: &[u8]) -> Result<Event, Refusal>
     ensures asked { (asked : Result Event Refusal) × Asks line.now asked × Gives same result asked }
     ensures too_long { 65600 < length line.now → result ≡ Err TooLong }
 {
@@ -50,11 +46,7 @@ pub fn read_event(
     }
 }
 
-fn event_of(
-    alloc: Global,
-    reader: &mut RequestReader,
-    form: Form<'_>,
-) -> Result<Event, Refusal>
+fn event_of(alloc: Global, reader: &mut RequestReader, form: Form<'_>) -> Result<Event, Refusal>
     ensures { Gives same result (event_of form.entry) }
 {
     match form {

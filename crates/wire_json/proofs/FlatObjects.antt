@@ -74,11 +74,12 @@ AreRead depth n ts old found = (js : json.Members) × (members (value (suc depth
 more_read : (depth n : ℕ) (k : List ℕ) (t : Token) (rest : List Token) (old found : Members) (d : Data) → Leaf (suc depth) t d
     → AreRead depth n rest (put k d old) found → AreRead depth (suc n) (key k ∷ t ∷ rest) old found
 unfolding members
-more_read depth n k t rest old found d leaf read =
-    (json.member k leaf.0 read.0,
-     ap (option_and_then (λ p. parse_map (json.member k p.0) (members (value (suc depth)) n p.1))) (leaf.1 rest)
-     ∙ ap (parse_map (json.member k leaf.0)) read.1,
-     ap (option_and_then (λ e. of_members read.0 (put k e old))) leaf.2 ∙ read.2)
+more_read depth n k t rest old found d leaf read = (
+  json.member k leaf.0 read.0,
+  ap (option_and_then (λ p. parse_map (json.member k p.0) (members (value (suc depth)) n p.1))) (leaf.1 rest)
+      ∙ ap (parse_map (json.member k leaf.0)) read.1,
+  ap (option_and_then (λ e. of_members read.0 (put k e old))) leaf.2 ∙ read.2,
+)
 
 all_read : (depth n : ℕ) (ms : List Member) (ts : List Token) (old : Members) → length ms < n → TellsMembers ts ms (end_object ∷ [])
     → AreRead depth n ts old (put_all ms old)

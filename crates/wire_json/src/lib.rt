@@ -9,7 +9,7 @@ mod offer;
 mod opening;
 #[cfg(test)]
 mod operation_tests;
-mod operation_values;
+mod operation_writing;
 mod operations;
 mod packing;
 mod reading;
@@ -26,8 +26,10 @@ pub use laws::{
     packed_operations_read_back, packing_unfolds,
 };
 pub use opening::read_open;
-pub use operation_values::{check_op, write_op};
+pub use operation_writing::{check_op, write_op};
 pub use operations::{read_list, read_op};
 pub use packing::{Item, write_item};
-pub use reading::{MAX_REQUEST_BYTES, RequestReader, check_keys, read_number, read_request, read_value};
+pub use reading::{
+    MAX_REQUEST_BYTES, RequestReader, check_keys, read_number, read_request, read_value,
+};
 pub use writing::write_reply;

@@ -8,7 +8,7 @@ ghost use Rattle.wire_json.specs.Text.{IsOperationInRange, item_text};
 ghost use Rattle.wire_json.specs.Written.{tokens_of, each_data, item_data};
 
 use crate::items::next_op;
-use crate::operation_values::{LIKELY_LEN, append_op, append_typed, check_op};
+use crate::operation_writing::{LIKELY_LEN, append_op, append_typed, check_op};
 use crate::tokens::{text_of, writer};
 use causal_clock::{MAX_SUM, Op};
 use json::Writer;

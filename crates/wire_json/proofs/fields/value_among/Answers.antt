@@ -7,11 +7,11 @@ use Rattle.wire_json.proofs.fields.value_among.Goals as goal
 pub loop-member-preserved : goal.loop-member-preserved
 loop-member-preserved c = elim c.if-eq.branch [
   | then-eq w ↦
-    ap (option_map plain_data) w.found-is
-    ∙ sym (looked_up c.args.key.now c.args.members.now c.loop-member.member-index _ true
-    c.loop-member-test.true (sym c.eq.ensures ∙ w.if-eq.true))
+      ap (option_map plain_data) w.found-is
+      ∙ sym (looked_up c.args.key.now c.args.members.now c.loop-member.member-index _ true
+      c.loop-member-test.true (sym c.eq.ensures ∙ w.if-eq.true))
   | else-eq w ↦
-    ap (option_map plain_data) w.found-is ∙ c.loop-member.invariant
-    ∙ sym (looked_up c.args.key.now c.args.members.now c.loop-member.member-index _ false
-    c.loop-member-test.true (sym c.eq.ensures ∙ w.if-eq.false))
+      ap (option_map plain_data) w.found-is ∙ c.loop-member.invariant
+      ∙ sym (looked_up c.args.key.now c.args.members.now c.loop-member.member-index _ false
+      c.loop-member-test.true (sym c.eq.ensures ∙ w.if-eq.false))
 ]

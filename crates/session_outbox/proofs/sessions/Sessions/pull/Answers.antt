@@ -7,7 +7,8 @@ use Rattle.session_outbox.proofs.Numbered.{numbered-changed}
 use Rattle.session_outbox.proofs.sessions.Sessions.pull.Goals as goal
 
 -- the numbers stay, whatever the pull was answered
-stays : (s next : ℕ) (old new : List Session) (result : Result (ℕ × ℕ) Refusal) → IfOk result (λ r. new ≡ change_session s (sent_to r.1) old)
+stays : (s next : ℕ) (old new : List Session) (result : Result (ℕ × ℕ) Refusal)
+    → IfOk result (λ r. new ≡ change_session s (sent_to r.1) old)
     → OnErr result (new ≡ old) → AreNumbered 0 next old → AreNumbered 0 next new
 stays s next old new (Ok r) sent err h =
     subst (AreNumbered 0 next) (sym sent) (numbered-changed s 0 next (sent_to r.1) old (λ w. refl) h)

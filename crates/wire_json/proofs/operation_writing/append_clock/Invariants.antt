@@ -2,7 +2,7 @@ use Rattle.std.proofs.Common.{◌≡◌, ◌++◌}
 use Rattle.wire_json.specs.Written.{pair_data}
 use Rattle.wire_json.proofs.Clocks.{pairs_from}
 use Rattle.wire_json.proofs.Lists.{each_tokens}
-use Rattle.wire_json.proofs.operation_values.append_clock.Given as goal
+use Rattle.wire_json.proofs.operation_writing.append_clock.Given as goal
 
 -- the entries so far that aren't 0 are written
 abbrev pub invariant-loop-number : goal.invariant-loop-number

@@ -3,7 +3,7 @@ use Rattle.std.proofs.Common.{◌∙◌}
 use Rattle.wire_json.specs.Written.{op_data}
 use Rattle.wire_json.proofs.OperationTexts.{op_compact}
 use Rattle.wire_json.proofs.Printed.{print-tokens_of}
-use Rattle.wire_json.proofs.operation_values.write_op.Goals as goal
+use Rattle.wire_json.proofs.operation_writing.write_op.Goals as goal
 
 pub returns-clause-text : goal.returns-clause-text
 returns-clause-text c =

@@ -4,8 +4,8 @@ use Rattle.std.proofs.lemmas.Result.{on_ok_weaker}
 use Rattle.json.specs.Written.{Written}
 use Rattle.wire_json.specs.Written.{tokens_of, pair_data}
 use Rattle.wire_json.proofs.Clocks.{pair_appended, pair_skipped, pairs_closed}
-use Rattle.wire_json.proofs.operation_values.append_clock.Goals as goal
-use Rattle.wire_json.proofs.operation_values.append_clock.Goals.{then-count-gt0+in_ok-append_two, else-count-gt0}
+use Rattle.wire_json.proofs.operation_writing.append_clock.Goals as goal
+use Rattle.wire_json.proofs.operation_writing.append_clock.Goals.{then-count-gt0+in_ok-append_two, else-count-gt0}
 
 pub loop-number-preserved : goal.loop-number-preserved
 loop-number-preserved c =
