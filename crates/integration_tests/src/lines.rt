@@ -209,6 +209,41 @@ fn tells_a_read_fault(rt: HostRuntime) -> std::result::Result<(), Fail> {
     Ok(())
 }
 
+// The bytes of one of the three requests, with its LF.
+const REQUEST: usize = 13;
+
+// Whether the requests that were read whole are answered, and no other, where each read gives a byte and this one fails.
+fn ends_at_read(alloc: Global, number: usize) -> std::result::Result<bool, Fail> {
+    let reader = Slow {
+        bytes: JOINS,
+        step: 1,
+        reads: 0,
+        fails_at: number,
+    };
+    let told = run(alloc, reader, short_writer(alloc, 1000))?;
+    let text = told.writer.taken.as_slice();
+    let whole = number.saturating_sub(1) / REQUEST;
+    Ok(
+        told.end == Err(ServeFault::Read)
+            && JOINED.starts_with(text)
+            && text.len() == whole.saturating_mul(ONE)
+            && told.failed == (1, 0)
+            && told.reader.reads == number,
+    )
+}
+
+// The 40th read is the one that finds the end.
+#[test]
+fn tells_a_fault_of_each_read(rt: HostRuntime) -> std::result::Result<(), Fail> {
+    let mut all = true;
+    for number in 1..41 {
+        all &= ends_at_read(rt.alloc(), number)?;
+    }
+    all &= is_answered(rt.alloc(), JOINS, 1, JOINED, 3)?;
+    assert!(rt; all);
+    Ok(())
+}
+
 #[test]
 fn writes_short_writes_to_their_end(rt: HostRuntime) -> std::result::Result<(), Fail> {
     let told = run(
