@@ -1,4 +1,5 @@
-//! A connection over a stream each of whose calls fails in turn.
+//! A connection over a stream each of whose calls fails in turn, or that ends behind any of its parts.
+ghost use Rattle.std.specs.Prelude.{◌≤◌};
 ghost use Rattle.ws_server.specs.Halls.{IsHallPassOf, IsConnOf};
 
 use crate::halls::{Free, hall_of};
@@ -137,19 +138,22 @@ fn reading_after(given: usize) -> &'static str {
     }
 }
 
+// Serves so many of the parts, behind which the stream ends.
 fn serve_script<R: Wait>(
     rt: &R,
     alloc: Global,
     hall: &Hall,
     pass: &mut HallPass,
+    count: usize,
     record: &Record,
 ) -> Result<(), ServeFault>
-    requires { IsHallPassOf hall.now pass.old }
+    requires pass { IsHallPassOf hall.now pass.old }
+    requires count { count ≤ 6 }
     ensures { IsHallPassOf hall.now pass.new }
 {
     let parts = [HEAD, OPEN, JOIN, TYPE_A, TYPE_B, CLOSE];
     let stream = Script {
-        parts: &parts,
+        parts: &parts[..count],
         record,
     };
     serve_socket(rt, alloc, hall, pass, stream, &mut Free)
@@ -166,7 +170,7 @@ fn ends_as_told<R: Wait>(
     requires { IsHallPassOf hall.now pass.old }
 {
     let record = Record::new(fails_at);
-    let end = serve_script(rt, alloc, hall, pass, &record);
+    let end = serve_script(rt, alloc, hall, pass, 6, &record);
     let is_told = end.err() == record.fault.get();
     let is_there = reads(rt, alloc, hall, pass, reading_after(record.given.get()));
     if is_told && is_there {
@@ -198,5 +202,40 @@ fn each_call_of_a_stream_fails(rt: HostRuntime) -> Result<(), Fail> {
         }
     }
     assert!(rt; all && failed > 11 && failed < 99);
+    Ok(())
+}
+
+// Whether it ends with `Read`, and the room is where the calls leave it, if the stream ends behind so many parts with no close.
+fn ends_unclosed<R: Wait>(
+    rt: &R,
+    alloc: Global,
+    hall: &Hall,
+    pass: &mut HallPass,
+    count: usize,
+) -> bool
+    requires pass { IsHallPassOf hall.now pass.old }
+    requires count { count ≤ 6 }
+{
+    let record = Record::new(0);
+    let end = serve_script(rt, alloc, hall, pass, count, &record);
+    end == Err(ServeFault::Read) && reads(rt, alloc, hall, pass, reading_after(count))
+}
+
+// The same in a hall of its own.
+fn ends_unclosed_anew<R: Wait>(rt: &R, alloc: Global, count: usize) -> Result<bool, Fail>
+    requires { count ≤ 6 }
+{
+    let (hall, mut pass) = hall_of(alloc, &["notes"])?;
+    Ok(ends_unclosed(rt, alloc, &hall, &mut pass, count))
+}
+
+// A client that goes without a close, and read no answer, leaves its room to others as its calls made it.
+#[test]
+fn a_stream_ends_without_a_close(rt: HostRuntime) -> Result<(), Fail> {
+    let mut all = true;
+    for count in 0..6 {
+        all &= ends_unclosed_anew(&rt, rt.alloc(), count)?;
+    }
+    assert!(rt; all);
     Ok(())
 }
