@@ -15,7 +15,7 @@ const MOST: usize = 256;
 
 // What became of a line.
 #[derive(Clone, Copy, Debug, PartialEq, Eq)]
-enum Served {
+enum Fate {
     AsWithAmpleMemory,
     // Refused for want of memory, or the engine ended before it read: nothing was done.
     NotDone,
@@ -24,7 +24,7 @@ enum Served {
     Otherwise,
 }
 
-fn serve(alloc: Global, desk: &mut RoomDesk, line: &[u8], want: &[u8]) -> Served {
+fn serve(alloc: Global, desk: &mut RoomDesk, line: &[u8], want: &[u8]) -> Fate {
     let mut written = [0; MOST];
     let mut input = Counted::new(line);
     let mut output = Counted::new(&mut written[..]);
@@ -33,11 +33,11 @@ fn serve(alloc: Global, desk: &mut RoomDesk, line: &[u8], want: &[u8]) -> Served
     let left = output.into_inner().len();
     let told = &written[..MOST.saturating_sub(left)];
     match end {
-        Ok(()) if told == want => Served::AsWithAmpleMemory,
-        Ok(()) if told == b"{\"n\":26,\"r\":\"no\"}\n".as_slice() => Served::NotDone,
-        Err(ServeFault::Memory) if told.is_empty() && unread == line.len() => Served::NotDone,
-        Err(ServeFault::Memory) if told.is_empty() => Served::NotTold,
-        _ => Served::Otherwise,
+        Ok(()) if told == want => Fate::AsWithAmpleMemory,
+        Ok(()) if told == b"{\"n\":26,\"r\":\"no\"}\n".as_slice() => Fate::NotDone,
+        Err(ServeFault::Memory) if told.is_empty() && unread == line.len() => Fate::NotDone,
+        Err(ServeFault::Memory) if told.is_empty() => Fate::NotTold,
+        _ => Fate::Otherwise,
     }
 }
 
@@ -57,7 +57,7 @@ fn with_more_text(alloc: Global, line: &[u8]) -> std::result::Result<Vec<u8>, Al
 // Whether a submission that was done and not told gets the kept reply, whatever text it is sent with again.
 fn is_kept(alloc: Global, desk: &mut RoomDesk, line: &[u8], want: &[u8]) -> bool {
     match with_more_text(alloc, line) {
-        Ok(other) => serve(alloc, desk, &other, want) == Served::AsWithAmpleMemory,
+        Ok(other) => serve(alloc, desk, &other, want) == Fate::AsWithAmpleMemory,
         Err(_) => false,
     }
 }
@@ -66,16 +66,16 @@ fn is_kept(alloc: Global, desk: &mut RoomDesk, line: &[u8], want: &[u8]) -> bool
 // ends the run; a submission is first sent again with another text, and gets the kept reply.
 fn bears_want(alloc: Global, desk: &mut RoomDesk, lines: &[(&[u8], &[u8])]) -> bool {
     for (line, want) in lines {
-        let mut served = serve(alloc, desk, line, want);
-        if served == Served::NotDone {
-            served = serve(alloc, desk, line, want);
+        let mut fate = serve(alloc, desk, line, want);
+        if fate == Fate::NotDone {
+            fate = serve(alloc, desk, line, want);
         }
-        if served == Served::NotTold {
+        if fate == Fate::NotTold {
             let is_submission = line.starts_with(b"{\"t\":\"ins\"")
                 || line.starts_with(b"{\"t\":\"del\"");
             return !is_submission || is_kept(alloc, desk, line, want);
         }
-        if served != Served::AsWithAmpleMemory {
+        if fate != Fate::AsWithAmpleMemory {
             return false;
         }
     }
@@ -85,7 +85,7 @@ fn bears_want(alloc: Global, desk: &mut RoomDesk, lines: &[(&[u8], &[u8])]) -> b
 // Whether each line is answered at once as with ample memory.
 fn wants_nothing(alloc: Global, desk: &mut RoomDesk, lines: &[(&[u8], &[u8])]) -> bool {
     for (line, want) in lines {
-        if serve(alloc, desk, line, want) != Served::AsWithAmpleMemory {
+        if serve(alloc, desk, line, want) != Fate::AsWithAmpleMemory {
             return false;
         }
     }
