@@ -1,4 +1,4 @@
--- Which operations one value of a snapshot's list tells by itself. Private clauses alone cite it.
+-- Which operations one value of a snapshot's list tells by itself. No public clause cites this: it is the code's alone.
 use Rattle.std.specs.Prelude.{Bool, if◌then◌else◌, Result, Ok, List, [], ◌∷◌}
 use Rattle.serde_json.specs.Data.{Data}
 use Rattle.opid.specs.declared.refusal.Refusal.{Refusal}

@@ -22,20 +22,21 @@ use Rattle.serde_json.specs.Find.{get_member, as_array}
 use Rattle.serde_json.specs.Read.{of_json, of_members, number_of}
 use Rattle.serde_json.proofs.Views.{get_member-put, get_member-put_other}
 use Rattle.opid.specs.declared.refusal.Refusal.TheVariants.{BadField}
-use Rattle.wire_json.specs.declared.flat.Plain.{Plain}
-use Rattle.wire_json.specs.declared.flat.Plain.TheVariants.{Number, Text}
+use Rattle.wire_json.specs.declared.flat.Primitive.{Primitive}
+use Rattle.wire_json.specs.declared.flat.Primitive.TheVariants.{Number, Text}
 use Rattle.wire_json.specs.declared.flat.Member.{Member}
 use Rattle.wire_json.specs.declared.flat.Next.TheVariants as nexts
 use Rattle.wire_json.specs.Members.{or_refuse, are_among, only_keys}
 use Rattle.wire_json.specs.Operations.{items_in, list_at}
 use Rattle.wire_json.specs.Request.{json_of}
 use Rattle.wire_json.proofs.Steps.{json_read}
-use Rattle.wire_json.specs.Flat.{whole, value_of_tokens, plain_data, put_all, flat_data, are_of, IsPlain, IsNext, TellsMembers}
+use Rattle.wire_json.specs.Flat.{lone_value, value_of_tokens, primitive_data, put_all, flat_data, are_of}
+use Rattle.wire_json.specs.Flat.{IsPrimitive, ReadsNext, TellsMembers}
 
 -- ---- members one after another
 
 with_one_more : (old : List Token) (ms : List Member) (m : Member) (t : Token) (new : List Token)
-    → TellsMembers old ms (key m.key.now ∷ t ∷ new) → IsPlain t m.value → TellsMembers old (ms ++ m ∷ []) new
+    → TellsMembers old ms (key m.key.now ∷ t ∷ new) → IsPrimitive t m.value → TellsMembers old (ms ++ m ∷ []) new
 with_one_more old [] m t new told plain = (t, new, told, plain, refl)
 with_one_more old (x ∷ ms) m t new told plain = (told.0, told.1, told.2, told.3, with_one_more told.1 ms m t new told.4 plain)
 
@@ -50,7 +51,7 @@ count old (m ∷ ms) new told = ap length told.2 ∙ (let rest = count told.1 ms
 abbrev Leaf : ℕ → Token → Data → Type 0
 Leaf depth t d = (j : json.Json) × ((ts : List Token) → value depth (t ∷ ts) ≡ Some (j, ts)) × (of_json j ≡ Some d)
 
-leaf : (depth : ℕ) (t : Token) (v : Plain) → IsPlain t v → Leaf (suc depth) t (plain_data v)
+leaf : (depth : ℕ) (t : Token) (v : Primitive) → IsPrimitive t v → Leaf (suc depth) t (primitive_data v)
 unfolding value
 leaf depth (string s) (Text x) plain = (json.string s, (λ ts. refl), ap (λ y. Some (tree.string y)) plain)
 leaf depth (number s) (Number n) plain = (json.number s, (λ ts. refl), ap (option_map tree.number) plain)
@@ -87,9 +88,9 @@ unfolding members
 all_read depth zero ms ts old enough told = absurd (omega arith)
 all_read depth (suc n) [] ts old enough told = (json.no_members, ap (members (value (suc depth)) (suc n)) told, refl)
 all_read depth (suc n) (m ∷ ms) ts old enough told =
-    subst (λ l. AreRead depth (suc n) l old (put_all ms (put m.key.now (plain_data m.value) old))) (sym told.2)
-    (more_read depth n m.key.now told.0 told.1 old _ (plain_data m.value) (leaf depth told.0 m.value told.3)
-    (all_read depth n ms told.1 (put m.key.now (plain_data m.value) old) (omega arith) told.4))
+    subst (λ l. AreRead depth (suc n) l old (put_all ms (put m.key.now (primitive_data m.value) old))) (sym told.2)
+    (more_read depth n m.key.now told.0 told.1 old _ (primitive_data m.value) (leaf depth told.0 m.value told.3)
+    (all_read depth n ms told.1 (put m.key.now (primitive_data m.value) old) (omega arith) told.4))
 
 object_read : (ts : List Token) (ms : List Member) → TellsMembers ts ms (end_object ∷ [])
     → value_of_tokens (begin_object ∷ ts) ≡ Some (flat_data ms)
@@ -97,12 +98,12 @@ unfolding value
 object_read ts ms told =
     let size = count ts ms (end_object ∷ []) told in
     let read = all_read 125 (length ts) ms ts no_members (omega (arith, size)) told in
-    ap (λ o. whole (parse_map json.object o)) read.1 ∙ ap (option_map object) read.2
+    ap (λ o. lone_value (parse_map json.object o)) read.1 ∙ ap (option_map object) read.2
 
 -- ---- the reader's steps
 
 pub one_more : (old : List Token) (ms : List Member) (m : Member) (now new : List Token)
-    → TellsMembers old ms now → IsNext now (nexts.Member m) new → TellsMembers old (ms ++ m ∷ []) new
+    → TellsMembers old ms now → ReadsNext now (nexts.Member m) new → TellsMembers old (ms ++ m ∷ []) new
 one_more old ms m now new told next = with_one_more old ms m next.0 new (subst (TellsMembers old ms) next.1 told) next.2
 
 pub whole_object : (all ts : List Token) (ms : List Member) (now : List Token)
@@ -127,26 +128,26 @@ get_put q k d ms true e = subst (λ l. get_member l (put k d ms) ≡ Some d) ((b
 get_put q k d ms false e = get_member-put_other q k d ms (λ same. true≢false (sym ((bytes_eq-Decides k q).1 (sym same)) ∙ e))
 
 put_last : (ms : List Member) (m : Member) (old : Members)
-    → put_all (ms ++ m ∷ []) old ≡ put m.key.now (plain_data m.value) (put_all ms old)
+    → put_all (ms ++ m ∷ []) old ≡ put m.key.now (primitive_data m.value) (put_all ms old)
 put_last [] m old = refl
-put_last (x ∷ ms) m old = put_last ms m (put x.key.now (plain_data x.value) old)
+put_last (x ∷ ms) m old = put_last ms m (put x.key.now (primitive_data x.value) old)
 
 -- a key is looked up in the members so far, and in one more
 pub looked_up : (q : List ℕ) (ms : List Member) (i : ℕ) (none : Member) (b : Bool)
     → i < length ms → bytes_eq (get_or ms i none).key.now q ≡ b
     → get_member q (put_all (take (i + 1) ms) no_members)
-    ≡ cond b (Some (plain_data (get_or ms i none).value)) (get_member q (put_all (take i ms) no_members))
+    ≡ cond b (Some (primitive_data (get_or ms i none).value)) (get_member q (put_all (take i ms) no_members))
 looked_up q ms i none b within same =
     ap (λ l. get_member q (put_all l no_members)) (ap (λ n. take n ms) (add-one i) ∙ take-suc ms i none within)
     ∙ ap (get_member q) (put_last (take i ms) (get_or ms i none) no_members)
-    ∙ get_put q (get_or ms i none).key.now (plain_data (get_or ms i none).value) (put_all (take i ms) no_members) b same
+    ∙ get_put q (get_or ms i none).key.now (primitive_data (get_or ms i none).value) (put_all (take i ms) no_members) b same
 
 -- no member is a list
-no_list_put : (q k : List ℕ) (v : Plain) (old : Members) → option_and_then as_array (get_member q old) ≡ None
-    → option_and_then as_array (get_member q (put k (plain_data v) old)) ≡ None
-no_list_put q k v old none = ap (option_and_then as_array) (get_put q k (plain_data v) old _ refl) ∙ go (bytes_eq k q) v
+no_list_put : (q k : List ℕ) (v : Primitive) (old : Members) → option_and_then as_array (get_member q old) ≡ None
+    → option_and_then as_array (get_member q (put k (primitive_data v) old)) ≡ None
+no_list_put q k v old none = ap (option_and_then as_array) (get_put q k (primitive_data v) old _ refl) ∙ go (bytes_eq k q) v
   where
-    go : (b : Bool) (v : Plain) → option_and_then as_array (cond b (Some (plain_data v)) (get_member q old)) ≡ None
+    go : (b : Bool) (v : Primitive) → option_and_then as_array (cond b (Some (primitive_data v)) (get_member q old)) ≡ None
     go true (Number n) = refl
     go true (Text s) = refl
     go false v = none
@@ -154,7 +155,7 @@ no_list_put q k v old none = ap (option_and_then as_array) (get_put q k (plain_d
 no_lists : (q : List ℕ) (ms : List Member) (old : Members) → option_and_then as_array (get_member q old) ≡ None
     → option_and_then as_array (get_member q (put_all ms old)) ≡ None
 no_lists q [] old none = none
-no_lists q (m ∷ ms) old none = no_lists q ms (put m.key.now (plain_data m.value) old) (no_list_put q m.key.now m.value old none)
+no_lists q (m ∷ ms) old none = no_lists q ms (put m.key.now (primitive_data m.value) old) (no_list_put q m.key.now m.value old none)
 
 pub no_list : (q : List ℕ) (ms : List Member) → list_at q (flat_data ms) ≡ Err BadField
 no_list q ms = ap (λ o. or_refuse BadField (option_map items_in o)) (no_lists q ms no_members refl)
@@ -199,8 +200,8 @@ among_put row k d (member l e ms) = among_put_at _ row k l d e ms refl (among_pu
 keys_among : (row : List (List ℕ)) (ms : List Member) (old : Members) → are_among row (put_all ms old) ≡ are_of row ms && are_among row old
 keys_among row [] old = refl
 keys_among row (m ∷ ms) old =
-    keys_among row ms (put m.key.now (plain_data m.value) old)
-    ∙ ap (λ b. are_of row ms && b) (among_put row m.key.now (plain_data m.value) old)
+    keys_among row ms (put m.key.now (primitive_data m.value) old)
+    ∙ ap (λ b. are_of row ms && b) (among_put row m.key.now (primitive_data m.value) old)
     ∙ moved (are_of row ms) (known row m.key.now) (are_among row old)
 
 kept_or_refused : (b : Bool) → or_refuse {A = Unit {0}} BadField (if b then Some tt else None) ≡ (if b then Ok tt else Err BadField)

@@ -1,4 +1,4 @@
--- JSON objects whose members are whole numbers and texts. Private clauses alone cite it.
+-- JSON objects whose members are whole numbers and texts (RFC 8259). No public clause cites this: it is the code's alone.
 use Rattle.std.specs.Prelude.{◌≡◌, ℕ, List, [], ◌∷◌, Bool, Option, Some, None, option_and_then, bytes_eq, Result}
 use Rattle.std.specs.List.{list_any, list_all}
 use Rattle.json.specs.Token.{Token, begin_object, end_object, begin_array, end_array, key, string, number, boolean, null, bad}
@@ -6,8 +6,8 @@ use Rattle.json.specs.Json as json
 use Rattle.serde_json.specs.Data as tree
 use Rattle.serde_json.specs.Data.{Data, Members, no_members, put, object, unsigned}
 use Rattle.serde_json.specs.Read.{of_json, number_of, max_depth}
-use Rattle.wire_json.specs.declared.flat.Plain.{Plain}
-use Rattle.wire_json.specs.declared.flat.Plain.TheVariants.{Number, Text}
+use Rattle.wire_json.specs.declared.flat.Primitive.{Primitive}
+use Rattle.wire_json.specs.declared.flat.Primitive.TheVariants.{Number, Text}
 use Rattle.wire_json.specs.declared.flat.Member.{Member}
 use Rattle.serde_json.specs.View.{view}
 use Rattle.opid.specs.declared.refusal.Refusal.{Refusal}
@@ -21,22 +21,22 @@ use Rattle.wire_json.specs.declared.flat.Next as next
 use Rattle.wire_json.specs.declared.flat.Next.TheVariants as nexts
 
 -- the value of a tree that no token follows
-abbrev pub whole : Option (json.Json × List Token) → Option Data
-whole o = option_and_then of_json (option_and_then (λ p. json.if_last p.0 p.1) o)
+abbrev pub lone_value : Option (json.Json × List Token) → Option Data
+lone_value o = option_and_then of_json (option_and_then (λ p. json.if_last p.0 p.1) o)
 
 -- the value that these tokens are
 abbrev pub value_of_tokens : List Token → Option Data
-value_of_tokens ts = whole (json.value max_depth ts)
+value_of_tokens ts = lone_value (json.value max_depth ts)
 
 -- the JSON value of a member's value
-abbrev pub plain_data : Plain → Data
-plain_data (Number n) = tree.number (unsigned n)
-plain_data (Text s) = tree.string s.now
+abbrev pub primitive_data : Primitive → Data
+primitive_data (Number n) = tree.number (unsigned n)
+primitive_data (Text s) = tree.string s.now
 
 -- the members, put in one after another: the last of a repeated key stays
 abbrev pub put_all : List Member → Members → Members
 put_all [] found = found
-put_all (m ∷ ms) found = put_all ms (put m.key.now (plain_data m.value) found)
+put_all (m ∷ ms) found = put_all ms (put m.key.now (primitive_data m.value) found)
 
 -- the object that has these members
 abbrev pub flat_data : List Member → Data
@@ -47,28 +47,28 @@ abbrev pub are_of : List (List ℕ) → List Member → Bool
 are_of row ms = list_all (λ m. list_any (λ name. bytes_eq name m.key.now) row) ms
 
 -- the token is by itself this value
-abbrev pub IsPlain : Token → Plain → Type 0
-IsPlain (string s) (Text x) = s ≡ x.now
-IsPlain (number s) (Number n) = number_of s ≡ Some (unsigned n)
-IsPlain _ _ = ⊥
+abbrev pub IsPrimitive : Token → Primitive → Type 0
+IsPrimitive (string s) (Text x) = s ≡ x.now
+IsPrimitive (number s) (Number n) = number_of s ≡ Some (unsigned n)
+IsPrimitive _ _ = ⊥
 
 -- of the tokens `old`, a member comes first and `new` are the rest; or a closing bracket is all there is
-abbrev pub IsNext : List Token → next.Next → List Token → Type 0
-IsNext old (nexts.Member m) new = (t : Token) × (old ≡ key m.key.now ∷ t ∷ new) × IsPlain t m.value
-IsNext old nexts.End new = old ≡ end_object ∷ []
-IsNext old nexts.Other new = Unit {0}
+abbrev pub ReadsNext : List Token → next.Next → List Token → Type 0
+ReadsNext old (nexts.Member m) new = (t : Token) × (old ≡ key m.key.now ∷ t ∷ new) × IsPrimitive t m.value
+ReadsNext old nexts.End new = old ≡ end_object ∷ []
+ReadsNext old nexts.Other new = Unit {0}
 
 -- the tokens `old` are a value and then `new`, and it is the value of the member, whose key was taken before
-abbrev pub IsMember : List ℕ → List Token → next.Next → List Token → Type 0
-IsMember k old (nexts.Member m) new = (t : Token) × (old ≡ t ∷ new) × IsPlain t m.value × (m.key.now ≡ k)
-IsMember k old nexts.End new = ⊥
-IsMember k old nexts.Other new = Unit {0}
+abbrev pub ReadsMember : List ℕ → List Token → next.Next → List Token → Type 0
+ReadsMember k old (nexts.Member m) new = (t : Token) × (old ≡ t ∷ new) × IsPrimitive t m.value × (m.key.now ≡ k)
+ReadsMember k old nexts.End new = ⊥
+ReadsMember k old nexts.Other new = Unit {0}
 
 -- of the tokens `old`, these members come first and `new` are the rest
 abbrev pub TellsMembers : List Token → List Member → List Token → Type 0
 TellsMembers old [] new = old ≡ new
 TellsMembers old (m ∷ ms) new =
-    (t : Token) × (rest : List Token) × (old ≡ key m.key.now ∷ t ∷ rest) × IsPlain t m.value × TellsMembers rest ms new
+    (t : Token) × (rest : List Token) × (old ≡ key m.key.now ∷ t ∷ rest) × IsPrimitive t m.value × TellsMembers rest ms new
 
 -- the value that a request is
 abbrev pub fields_data : Fields → Data

@@ -1,4 +1,4 @@
--- What an operation that is offered tells. Private clauses alone cite it.
+-- What an operation that is offered tells. No public clause cites this: it is the code's alone.
 use Rattle.std.specs.Prelude.{ℕ, option_map, List, map}
 use Rattle.std.specs.Result.{result_unwrap_or}
 use Rattle.serde_json.specs.declared.value.Value.{Value}

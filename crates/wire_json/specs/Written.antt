@@ -1,4 +1,4 @@
--- The JSON value of a reply, and of an operation. Private clauses alone cite it.
+-- The JSON value of a reply, and of an operation. No public clause cites this: it is the code's alone.
 use Rattle.std.specs.Prelude.{ℕ, Option, Some, None, List, [], ◌∷◌, codes, encode_utf8_all}
 use Rattle.serde_json.specs.Data.{Data, null, Items, no_items, item, string, number, unsigned, array, object, member, no_members}
 use Rattle.serde_json.specs.Written.{outline}

@@ -1,11 +1,11 @@
 //! What a request tells by its keys: of an object that was read with no tree, or of any JSON value.
 ghost use Rattle.std.specs.Prelude.{◌≡◌, map, is_some, option_map};
 ghost use Rattle.serde_json.specs.Find.{get};
-ghost use Rattle.wire_json.specs.Flat.{plain_data, flat_data, are_of, fields_data, operations_at};
+ghost use Rattle.wire_json.specs.Flat.{primitive_data, flat_data, are_of, fields_data, operations_at};
 ghost use Rattle.wire_json.specs.Members.{only_keys, number_at, text_at};
 ghost use Rattle.wire_json.specs.Given.{Tells, Gives};
 
-use crate::flat::{Member, Plain};
+use crate::flat::{Member, Primitive};
 use crate::items::read_items;
 use crate::operations::read_list;
 use crate::reading::{check_keys, is_among, read_number, read_text};
@@ -76,8 +76,8 @@ impl<'v> Fields<'v> {
 }
 
 // The last value of a key.
-fn value_among<'v>(members: &[Member<'v>], key: &str) -> Option<Plain<'v>>
-    ensures { option_map plain_data result ≡ get key.now (flat_data members.now) }
+fn value_among<'v>(members: &[Member<'v>], key: &str) -> Option<Primitive<'v>>
+    ensures { option_map primitive_data result ≡ get key.now (flat_data members.now) }
 {
     let mut found = None;
     for member in members {
@@ -92,7 +92,7 @@ fn number_among(members: &[Member<'_>], key: &str) -> Result<u32, Refusal>
     ensures { result ≡ number_at key.now (flat_data members.now) }
 {
     match value_among(members, key) {
-        Some(Plain::Number(n)) if n <= u32::MAX as u64 => Ok(n as u32),
+        Some(Primitive::Number(n)) if n <= u32::MAX as u64 => Ok(n as u32),
         _ => Err(Refusal::BadField),
     }
 }
@@ -101,7 +101,7 @@ fn text_among<'v>(members: &[Member<'v>], key: &str) -> Result<&'v str, Refusal>
     ensures { Tells (λ s. s.now) result (text_at key.now (flat_data members.now)) }
 {
     match value_among(members, key) {
-        Some(Plain::Text(text)) => Ok(text),
+        Some(Primitive::Text(text)) => Ok(text),
         _ => Err(Refusal::BadField),
     }
 }

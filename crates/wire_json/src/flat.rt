@@ -4,29 +4,29 @@ ghost use Rattle.serde_json.specs.Data.{unsigned};
 ghost use Rattle.serde_json.specs.Read.{number_of};
 ghost use Rattle.json.specs.Token.{begin_object};
 ghost use Rattle.wire_json.specs.Request.{json_of};
-ghost use Rattle.wire_json.specs.Flat.{value_of_tokens, flat_data, IsPlain, IsNext, IsMember};
+ghost use Rattle.wire_json.specs.Flat.{value_of_tokens, flat_data, IsPrimitive, ReadsNext, ReadsMember};
 ghost use Rattle.json.specs.Reads.{token_of};
 
 use arrayvec::ArrayVec;
 use fast_float::Numeral;
 use json::{Reader, Scratch, Token};
 
-/// The most members of such an object.
-pub(crate) const MOST: usize = 8;
+// The most members of such an object.
+const MAX_MEMBERS: usize = 8;
 
 /// A member's value.
 #[derive(Clone, Copy, Drop)]
-pub(crate) enum Plain<'a> {
+pub(crate) enum Primitive<'a> {
     /// A whole number, written with no sign, fraction or exponent.
     Number(u64),
     Text(&'a str),
 }
 
-impl<'a> Default for Plain<'a> {
+impl<'a> Default for Primitive<'a> {
     ghost is_default = { λ value. Unit {0} };
 
-    fn default() -> Plain<'a> {
-        Plain::Number(0)
+    fn default() -> Primitive<'a> {
+        Primitive::Number(0)
     }
 }
 
@@ -34,7 +34,7 @@ impl<'a> Default for Plain<'a> {
 #[derive(Clone, Copy, Default, Drop)]
 pub(crate) struct Member<'a> {
     pub key: &'a str,
-    pub value: Plain<'a>,
+    pub value: Primitive<'a>,
 }
 
 // The next member, or why there is none.
@@ -50,7 +50,7 @@ enum Next<'a> {
 pub(crate) fn read_flat<'a>(
     scratch: &'a mut Scratch,
     bytes: &'a [u8],
-) -> Option<ArrayVec<Member<'a>, MOST>>
+) -> Option<ArrayVec<Member<'a>, MAX_MEMBERS>>
     ensures { IfSome result (λ ms. json_of bytes.now ≡ Ok (flat_data ms.items)) }
 {
     let Ok(text) = str::from_utf8(bytes) else {
@@ -63,14 +63,14 @@ pub(crate) fn read_flat<'a>(
 }
 
 // The members of the one object that the reader has, if each is a whole number or a text and there are at most eight.
-fn read_members<'a>(reader: &mut Reader<'a>) -> Option<ArrayVec<Member<'a>, MOST>>
+fn read_members<'a>(reader: &mut Reader<'a>) -> Option<ArrayVec<Member<'a>, MAX_MEMBERS>>
     ensures { IfSome result (λ ms. value_of_tokens reader.old ≡ Some (flat_data ms.items)) }
 {
     let Some(Token::BeginObject) = reader.next() else {
         return None;
     };
     let mut members = ArrayVec::new();
-    for _ in 0..=MOST {
+    for _ in 0..=MAX_MEMBERS {
         match read_member(reader) {
             Next::Member(member) => {
                 if members.is_full() {
@@ -86,10 +86,10 @@ fn read_members<'a>(reader: &mut Reader<'a>) -> Option<ArrayVec<Member<'a>, MOST
 }
 
 fn read_member<'a>(reader: &mut Reader<'a>) -> Next<'a>
-    ensures { IsNext reader.old result reader.new }
+    ensures { ReadsNext reader.old result reader.new }
 {
     match reader.next() {
-        Some(Token::Key(key)) => read_value(reader, key),
+        Some(Token::Key(key)) => read_primitive(reader, key),
         Some(Token::EndObject) => match reader.next() {
             None => Next::End,
             Some(_) => Next::Other,
@@ -99,26 +99,26 @@ fn read_member<'a>(reader: &mut Reader<'a>) -> Next<'a>
 }
 
 // The member with this key, whose value comes next.
-fn read_value<'a>(reader: &mut Reader<'a>, key: &'a str) -> Next<'a>
-    ensures { IsMember key.now reader.old result reader.new }
+fn read_primitive<'a>(reader: &mut Reader<'a>, key: &'a str) -> Next<'a>
+    ensures { ReadsMember key.now reader.old result reader.new }
 {
     let Some(token) = reader.next() else {
         return Next::Other;
     };
-    match plain_value(token) {
+    match primitive_of(token) {
         Some(value) => Next::Member(Member { key, value }),
         None => Next::Other,
     }
 }
 
 // The value that a token is by itself, if it is a whole number or a text.
-fn plain_value<'a>(token: Token<'a>) -> Option<Plain<'a>>
-    ensures { IfSome result (λ value. IsPlain (token_of token.entry) value) }
+fn primitive_of<'a>(token: Token<'a>) -> Option<Primitive<'a>>
+    ensures { IfSome result (λ value. IsPrimitive (token_of token.entry) value) }
 {
     match token {
-        Token::String(text) => Some(Plain::Text(text)),
+        Token::String(text) => Some(Primitive::Text(text)),
         Token::Number(text) => match whole_number(text) {
-            Some(n) => Some(Plain::Number(n)),
+            Some(n) => Some(Primitive::Number(n)),
             None => None,
         },
         _ => None,

@@ -21,6 +21,7 @@ pub(crate) fn text_of(out: Writer) -> String
     ensures { string_bytes result ≡ print out.tokens }
 {
     let bytes = out.into_inner();
+    // What a writer has printed is UTF-8, by its `into_inner`.
     unsafe { String::from_utf8_unchecked(bytes) }
 }
 

@@ -16,7 +16,7 @@ pub trait Protocol {
     /// Who answers.
     type State;
 
-    /// What is kept from line to line so that each takes less work. No answer depends on it.
+    /// What is kept from line to line so that each takes less work. `answers` doesn't see it.
     type Scratch: Drop;
 
     // The most bytes that a line has, without its LF.
