@@ -1,5 +1,5 @@
 -- The tokens of an object with whole numbers and texts are read as that object, in which its keys are looked up.
-use Rattle.std.proofs.Common.{◌≡◌, ℕ, zero, suc, ◌+◌, ◌*◌, ◌<◌, ◌≤◌, ◌^◌, ◌==◌, ◌&&◌, List, [], ◌∷◌, ◌++◌, length, take}
+use Rattle.std.proofs.Common.{◌≡◌, ℕ, zero, suc, ◌+◌, ◌*◌, ◌<◌, ◌^◌, ◌==◌, ◌&&◌, List, [], ◌∷◌, ◌++◌, length, take}
 use Rattle.std.proofs.Common.{get_or, slice_index, Option, Some, None, option_and_then, option_map, Ok, Err, IsUtf8, Bool, true, false}
 use Rattle.std.proofs.Common.{cond, if◌then◌else◌, bytes_eq}
 use Rattle.std.proofs.Common.{Ordering, Less, Equal, Greater, nat_cmp, is_eq, true≢false, refl, sym, ap, ◌∙◌, subst, add-one, lt-ltb, arith}

@@ -1,7 +1,7 @@
 -- JSON objects whose members are whole numbers and texts (RFC 8259). No public clause cites this: it is the code's alone.
-use Rattle.std.specs.Prelude.{◌≡◌, ℕ, List, [], ◌∷◌, Bool, Option, Some, None, option_and_then, bytes_eq, Result}
+use Rattle.std.specs.Prelude.{◌≡◌, ℕ, List, [], ◌∷◌, Bool, Option, Some, option_and_then, bytes_eq, Result}
 use Rattle.std.specs.List.{list_any, list_all}
-use Rattle.json.specs.Token.{Token, begin_object, end_object, begin_array, end_array, key, string, number, boolean, null, bad}
+use Rattle.json.specs.Token.{Token, end_object, key, string, number}
 use Rattle.json.specs.Json as json
 use Rattle.serde_json.specs.Data as tree
 use Rattle.serde_json.specs.Data.{Data, Members, no_members, put, object, unsigned}

@@ -1,4 +1,4 @@
-use Rattle.std.proofs.Common.{◌∷◌, ◌++◌, [], ap, sym, subst, ◌∙◌}
+use Rattle.std.proofs.Common.{◌∷◌, ap, sym, subst, ◌∙◌}
 use Rattle.json.specs.Reads.{token_of}
 use Rattle.wire_json.specs.Flat.{TellsMembers}
 use Rattle.wire_json.proofs.FlatObjects.{one_more, whole_object}

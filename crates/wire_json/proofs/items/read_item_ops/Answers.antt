@@ -1,5 +1,5 @@
 -- An item has at most 64 operations, so all are kept.
-use Rattle.std.proofs.Common.{sym, ap, ◌∙◌, ◌≡◌, ◌++◌, Ok, take, rules}
+use Rattle.std.proofs.Common.{◌≡◌, Ok, take, rules}
 use Rattle.serde_json.specs.View.{view}
 use Rattle.wire_json.specs.Operations.{sited}
 use Rattle.wire_json.specs.PackedOperations.{item_operations}
