@@ -4,7 +4,5 @@
 
 mod held;
 pub mod laws;
-#[cfg(test)]
-mod tests;
 
 pub use held::{Arrival, Held, MAX_HELD};

@@ -12,8 +12,3 @@ mod table;
 
 pub use links::Elem;
 pub use rga::{LIMIT, Place, Rga};
-
-#[cfg(test)]
-mod plain;
-#[cfg(test)]
-mod tests;

@@ -4,8 +4,6 @@
 mod facts;
 mod sessions;
 mod submission;
-#[cfg(test)]
-mod tests;
 
 pub use sessions::Sessions;
 pub use submission::Submission;

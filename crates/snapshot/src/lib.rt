@@ -6,8 +6,6 @@
 pub mod laws;
 mod loading;
 mod saving;
-#[cfg(test)]
-mod tests;
 
 pub use loading::{load, load_doc};
 pub use saving::save;

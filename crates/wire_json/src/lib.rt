@@ -7,16 +7,10 @@ mod items;
 mod laws;
 mod offer;
 mod opening;
-#[cfg(test)]
-mod operation_tests;
 mod operation_writing;
 mod operations;
 mod packing;
 mod reading;
-#[cfg(test)]
-mod run_tests;
-#[cfg(test)]
-mod tests;
 mod tokens;
 mod writing;
 

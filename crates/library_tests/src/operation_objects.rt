@@ -1,13 +1,11 @@
 //! Operation objects as JSON shows them.
-use crate::items::read_items;
-use crate::packing::append_packed;
-use crate::tokens::{text_of, writer};
-use crate::{read_op, write_op};
 use causal_clock::Op;
 use opid::{OpKind, Refusal};
+use room::{Call, Operations, Reply};
 use serde_json::Value;
 use std::alloc::Global;
 use std::test::Fail;
+use wire_json::{read_op, read_request, write_op, write_reply};
 
 const H_AT_THE_HEAD: &str = "{\"c\":[[0,1]],\"k\":\"i\",\"p\":null,\"s\":0,\"x\":\"H\"}";
 
@@ -22,18 +20,27 @@ fn op_of(alloc: Global, text: &str) -> Result<Op, Refusal> {
     read_op(&value)
 }
 
-pub(crate) fn ops_of(alloc: Global, text: &str) -> Result<Vec<Op>, Refusal> {
-    match Value::from_str(alloc, text) {
-        Ok(Value::Array(values)) => read_items(alloc, values.as_slice()),
-        _ => Err(Refusal::BadJson),
+// The operations that a list tells, as a request hands them over.
+pub(crate) fn ops_of(alloc: Global, list: &str) -> Result<Vec<Op>, Refusal> {
+    let request = format!(in alloc; "{{\"ops\":{list},\"t\":\"put\"}}")?;
+    match read_request(alloc, request.as_bytes())? {
+        Call::Put(ops) => Ok(ops.into_vec()),
+        _ => Err(Refusal::UnknownKind),
     }
 }
 
-// The text of operations, packed.
+// The list of operations, packed, as a reply tells it.
 pub(crate) fn packed(alloc: Global, ops: &[Op]) -> Result<String, Refusal> {
-    let mut out = writer(alloc, 0)?;
-    append_packed(alloc, &mut out, ops)?;
-    Ok(text_of(out))
+    let ops = Operations::new(ops.to_vec(alloc)?);
+    let reply = write_reply(alloc, &Reply::Ops { from: 0, ops })?;
+    let list = reply
+        .as_str()
+        .strip_prefix("{\"from\":0,\"ops\":")
+        .and_then(|rest| rest.strip_suffix(",\"r\":\"ops\"}"));
+    match list {
+        Some(list) => Ok(String::from_str(alloc, list)?),
+        None => Err(Refusal::BadJson),
+    }
 }
 
 fn written(alloc: Global, text: &str) -> Result<String, Refusal> {

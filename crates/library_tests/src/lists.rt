@@ -2,9 +2,10 @@
 ghost use Rattle.std.specs.Prelude.{◌<◌, ◌≤◌, IfSome, IfOk, length};
 ghost use Rattle.rga_list.specs.Entries.{IsAboveItsSite};
 
+use crate::dice::Dice;
 use crate::plain::{Insertion, Plain};
-use crate::{Elem, Place, Rga};
-use opid::{Refusal, Site, Stamp};
+use opid::{OpKind, Refusal, Site, Stamp};
+use rga_list::{Elem, Place, Rga};
 use std::alloc::{AllocError, Global};
 use std::test::Fail;
 
@@ -73,9 +74,9 @@ fn is_same(rga: &Rga, plain: &Plain, order: &[Insertion]) -> bool {
             None => return false,
             Some(elem) => {
                 let (stamp, ch, shown) = rga.get(elem);
-                if elem != x.arrival
+                if elem as usize != x.arrival
                     || ch != x.ch
-                    || shown == plain.is_deleted(elem)
+                    || shown != plain.is_shown(x)
                     || stamp != x.stamp
                 {
                     return false;
@@ -196,23 +197,6 @@ fn a_reserve_is_enough(rt: HostRuntime) -> Result<(), Fail> {
     Ok(())
 }
 
-/// Numbers that look random, always the same.
-#[derive(Drop)]
-struct Dice(u64);
-
-impl Dice {
-    fn roll(&mut self, sides: usize) -> usize
-        requires { 0 < sides }
-        ensures { result < sides }
-    {
-        self.0 = self
-            .0
-            .wrapping_mul(6_364_136_223_846_793_005)
-            .wrapping_add(1_442_695_040_888_963_407);
-        ((self.0 >> 33) as usize) % sides
-    }
-}
-
 /// One deletion, or one insertion of one of five sites, in the list and in the plain program. Says whether
 /// both answered the same.
 fn step(alloc: Global, rga: &mut Rga, plain: &mut Plain, dice: &mut Dice) -> Result<bool, Refusal> {
@@ -222,37 +206,26 @@ fn step(alloc: Global, rga: &mut Rga, plain: &mut Plain, dice: &mut Dice) -> Res
     if kind < 4 {
         return match chosen {
             None => Ok(true),
-            Some(target) => {
-                let was = plain.delete(target.arrival);
-                Ok(rga.integrate_del(target.stamp)? == was)
+            Some(chosen) => {
+                let target = chosen.stamp;
+                let was = plain.is_shown(&chosen);
+                plain.add(alloc, target, OpKind::Del { target })?;
+                Ok(rga.integrate_del(target)? == was)
             }
         };
     }
-    let (least, behind, parent) = match chosen {
-        None => (1, None, None),
-        Some(x) => (
-            x.stamp.sum.saturating_add(1),
-            Some(x.stamp),
-            Some(x.arrival),
-        ),
-    };
-    let Ok(arrival) = u32::try_from(plain.len()) else {
-        return Ok(false);
+    let (least, parent) = match chosen {
+        None => (1, None),
+        Some(x) => (x.stamp.sum.saturating_add(1), Some(x.stamp)),
     };
     let more = dice.roll(3) as u32;
     match fresh(rga, least.saturating_add(more), site) {
         None => Ok(false),
         Some(stamp) => {
-            let insertion = Insertion {
-                stamp,
-                arrival,
-                parent,
-                ch: 'a',
-                deleted: false,
-            };
-            plain.insert(alloc, &insertion)?;
-            let place = rga.integrate_ins(insertion.stamp, behind, insertion.ch)?;
-            Ok(place.elem == insertion.arrival && rga.next(place.before) == Some(place.elem))
+            let arrival = plain.len();
+            plain.add(alloc, stamp, OpKind::Ins { parent, ch: 'a' })?;
+            let place = rga.integrate_ins(stamp, parent, 'a')?;
+            Ok(place.elem as usize == arrival && rga.next(place.before) == Some(place.elem))
         }
     }
 }
@@ -261,7 +234,7 @@ fn step(alloc: Global, rga: &mut Rga, plain: &mut Plain, dice: &mut Dice) -> Res
 fn a_long_run_is_as_defined(rt: HostRuntime) -> Result<(), Fail> {
     let mut rga = Rga::new(rt.alloc());
     let mut plain = Plain::new(rt.alloc())?;
-    let mut dice = Dice(1);
+    let mut dice = Dice::new(1);
     for n in 0..2_000u32 {
         let answered = step(rt.alloc(), &mut rga, &mut plain, &mut dice)?;
         assert!(rt; answered, "operation {n}");

@@ -1,8 +1,8 @@
 //! Snapshots saved and loaded again, texts that stand for no log, and what is held back.
-use crate::{load, load_doc, save};
 use causal_clock::{Clock, Op};
 use opid::{OpKind, Refusal, Site};
 use replica::Replica;
+use snapshot::{load, load_doc, save};
 use std::alloc::Global;
 use std::test::Fail;
 

@@ -1,9 +1,13 @@
 //! A worked tree, and a random one beside a scan of all elements.
-use crate::entry::KEYS;
-use crate::plain::Plain;
-use crate::{Steps, VersionTree};
+mod plain;
+
+use crate::trees::plain::Plain;
+use counted_tree::{Steps, VersionTree};
 use std::alloc::AllocError;
 use std::test::Fail;
+
+// Each key is below this: 2^23.
+const KEYS: u32 = 8_388_608;
 
 const OPERATIONS: usize = 120;
 

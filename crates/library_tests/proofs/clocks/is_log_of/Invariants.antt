@@ -1,4 +1,4 @@
-use Rattle.causal_clock.proofs.tests.is_log_of.Given as goal
+use Rattle.library_tests.proofs.clocks.is_log_of.Given as goal
 
 -- the ledger of the blank that is made for the call
 abbrev pub ghosts-get_at : goal.ghosts-get_at

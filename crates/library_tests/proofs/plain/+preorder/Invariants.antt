@@ -1,5 +1,5 @@
 -- Why the recursion of the plain program ends.
-use Rattle.rga_list.proofs.plain.+preorder.Given as goal
+use Rattle.library_tests.proofs.plain.+preorder.Given as goal
 
 -- the depth that is left
 abbrev pub decreases-preorder : goal.decreases-preorder

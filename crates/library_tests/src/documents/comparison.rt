@@ -1,40 +1,22 @@
 //! A log of 2,000 operations of five sites beside the plain program of the definitions, at each of its versions. (Who
 //! asks borrows the documents, since what a function owns costs its proof at each step.)
-ghost use Rattle.std.specs.Prelude.{◌<◌};
-
-use crate::checked::{
+use crate::dice::Dice;
+use crate::documents::checked::{
     edit_at, edit_units_at, element_at, integrate, len_at, next_op, op_at, unit_at, units_at,
 };
-use crate::lives::Lives;
+use crate::documents::lives::Lives;
 use crate::plain::{Insertion, Plain, edit_of, edit_units_of};
-use crate::{Characters, Doc};
 use causal_clock::Clock;
 use opid::{OpKind, Refusal, Site, Stamp};
 use std::alloc::{AllocError, Global};
 use std::test::Fail;
+use versions::{Characters, Doc};
 
 const MANY: u32 = 2_000;
 
-/// Numbers that look random, always the same.
-#[derive(Drop)]
-struct Dice(u64);
-
-impl Dice {
-    fn roll(&mut self, sides: usize) -> usize
-        requires { 0 < sides }
-        ensures { result < sides }
-    {
-        self.0 = self
-            .0
-            .wrapping_mul(6_364_136_223_846_793_005)
-            .wrapping_add(1_442_695_040_888_963_407);
-        ((self.0 >> 33) as usize) % sides
-    }
-}
-
 /// A deletion of any element, or an insertion behind any that is older, for the site's next stamp.
 fn choose(plain: &Plain, dice: &mut Dice, next: Stamp) -> OpKind {
-    let chosen = plain.stamp_of(dice.roll(plain.len().saturating_add(1)));
+    let chosen = plain.nth(dice.roll(plain.len().saturating_add(1)));
     let ch = match dice.roll(4) {
         0 => 'a',
         1 => '\u{E9}',
@@ -43,7 +25,8 @@ fn choose(plain: &Plain, dice: &mut Dice, next: Stamp) -> OpKind {
     };
     match chosen {
         None => OpKind::Ins { parent: None, ch },
-        Some(target) => {
+        Some(chosen) => {
+            let target = chosen.stamp;
             let parent = target;
             if dice.roll(10) < 4 {
                 OpKind::Del { target }
@@ -101,7 +84,7 @@ fn step(
 /// Fills the document, and the plain program beside it.
 fn fill(alloc: Global, doc: &mut Doc, plain: &mut Plain) -> Result<(), Refusal> {
     let mut clocks = [Clock::zero(); 5];
-    let mut dice = Dice(1);
+    let mut dice = Dice::new(1);
     for _ in 0..MANY {
         step(alloc, doc, plain, &mut clocks, &mut dice)?;
     }
@@ -197,7 +180,7 @@ fn is_next(
 
 /// Whether each version is what the plain program has, and the last of them is long.
 fn is_as_defined(alloc: Global, doc: &Doc, plain: &mut Plain) -> Result<bool, Fail> {
-    let mut dice = Dice(2);
+    let mut dice = Dice::new(2);
     let mut before = plain.visible(alloc)?;
     let mut all = true;
     for version in 0..MANY {

@@ -1,7 +1,7 @@
 //! The worked cases of clocks, operations and logs, and a random log beside a plain list.
 ghost use Rattle.std.specs.Prelude.{◌≡◌, ◌<◌, length};
 
-use crate::{Clock, Op, OpLog, Reads};
+use causal_clock::{Clock, Op, OpLog, Reads};
 use opid::{OpKind, Refusal, Site, Stamp};
 use std::alloc::Global;
 use std::marker::Brand;

@@ -1,7 +1,7 @@
 //! Runs as JSON shows them.
 ghost use Rattle.std.specs.Prelude.{◌<◌};
 
-use crate::operation_tests::{ops_of, packed};
+use crate::operation_objects::{ops_of, packed};
 use causal_clock::{Clock, MAX_SUM, Op};
 use opid::{OpKind, Refusal, Site, Stamp};
 use std::alloc::Global;

@@ -1,8 +1,8 @@
 //! The worked cases of sessions.
 ghost use Rattle.std.specs.Prelude.{◌≤◌, ◌+◌};
 
-use crate::{Sessions, Submission};
 use opid::Refusal;
+use session_outbox::{Sessions, Submission};
 use std::test::Fail;
 
 // Whether the next session, of a client that has the version `sent`, gets the number.

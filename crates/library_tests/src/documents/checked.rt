@@ -1,7 +1,7 @@
 //! A document's calls with their conditions looked at first, as tests make them.
-use crate::Doc;
 use causal_clock::{Clock, MAX_SUM, Op};
 use opid::{Edit, OpKind, Refusal, Site, Stamp};
+use versions::Doc;
 
 /// The site's operation after those that the clock counts.
 pub(crate) fn next_op(clock: &Clock, site: Site, kind: OpKind) -> Result<Op, Refusal> {

@@ -1,6 +1,6 @@
 //! The worked cases of what is held back.
-use crate::{Arrival, Held};
 use causal_clock::{Clock, Op};
+use holdback::{Arrival, Held};
 use opid::{OpKind, Refusal, Site};
 use std::test::Fail;
 

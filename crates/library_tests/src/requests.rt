@@ -1,9 +1,9 @@
 //! Requests and replies as lines show them.
-use crate::{read_request, write_reply};
 use opid::{Edit, Refusal};
 use room::{Call, Characters, Edits, Outcome, Outcomes, Reply};
 use std::alloc::{AllocError, Global};
 use std::test::Fail;
+use wire_json::{read_request, write_reply};
 
 fn refusal(alloc: Global, bytes: &[u8]) -> Option<Refusal> {
     read_request(alloc, bytes).err()

@@ -1,0 +1,30 @@
+//! Tests of the crates below a room, over their public calls. They stand apart from those crates, which would be proved once more for
+//! tests of their own.
+#![tactic(auto)]
+
+#[cfg(test)]
+mod clocks;
+#[cfg(test)]
+mod dice;
+#[cfg(test)]
+mod documents;
+#[cfg(test)]
+mod held_back;
+#[cfg(test)]
+mod lists;
+#[cfg(test)]
+mod operation_objects;
+#[cfg(test)]
+mod plain;
+#[cfg(test)]
+mod requests;
+#[cfg(test)]
+mod runs;
+#[cfg(test)]
+mod sessions;
+#[cfg(test)]
+mod snapshots;
+#[cfg(test)]
+mod splices;
+#[cfg(test)]
+mod trees;
