@@ -23,8 +23,8 @@ abbrev pub session_with : ℕ → List Session → Option Session
 session_with s sessions = find (λ w. s == w.number) sessions
 
 -- the session of this number is there, and its next submission has a number of 32 bits
-abbrev pub MayAccept : ℕ → Outbox → Type 0
-MayAccept s S = MatchOption (session_with s S.sessions) ⊥ (λ w. w.last < 4294967295)
+abbrev pub MayAccept : ℕ → List Session → Type 0
+MayAccept s sessions = MatchOption (session_with s sessions) ⊥ (λ w. w.last < 4294967295)
 
 -- the session of this number is changed
 abbrev pub change_session : ℕ → (Session → Session) → List Session → List Session

@@ -6,11 +6,12 @@ use Rattle.session_outbox.proofs.sessions.Sessions.accept.Goals as goal
 
 pub invariant_of-self : goal.invariant_of-self
 invariant_of-self c =
-    subst (λ (ws : List Session). AreNumbered 0 c.self.inside.next_number ws) (sym c.submit.ensures)
+    subst (λ (ws : List Session). AreNumbered 0 c.self.inside.next_number ws) (sym c.note_accepted.ensures)
     (numbered-changed c.args.s 0 c.self.inside.next_number (submitted c.args.from c.args.to) (sessions_of c.self.inside.facts.entries)
     (λ w. refl) c.self.invariant)
 
 pub returns : goal.returns
 returns c =
-    ap (λ (ws : List Session). let T : Outbox = record { sessions = ws; next_number = c.self.inside.next_number } in T) c.submit.ensures
+    ap (λ (ws : List Session). let T : Outbox = record { sessions = ws; next_number = c.self.inside.next_number } in T)
+    c.note_accepted.ensures
     ∙ ap (after_accept c.args.s c.args.from c.args.to) c.self.view_is

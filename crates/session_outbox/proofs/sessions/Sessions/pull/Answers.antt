@@ -16,5 +16,5 @@ stays s next old new (Err why) sent err h = subst (AreNumbered 0 next) (sym err)
 
 pub invariant_of-self : goal.invariant_of-self
 invariant_of-self c =
-    stays c.args.s c.self.inside.next_number (sessions_of c.self.inside.facts.entries) (sessions_of c.send.new.facts.entries) c.send.result
-    c.send.ensures.sent c.send.ensures.err c.self.invariant
+    stays c.args.s c.self.inside.next_number (sessions_of c.self.inside.facts.entries) (sessions_of c.note_sent.new.facts.entries)
+    c.note_sent.result c.note_sent.ensures.sent c.note_sent.ensures.err c.self.invariant

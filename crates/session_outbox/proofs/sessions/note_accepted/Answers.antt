@@ -3,7 +3,7 @@ use Rattle.std.specs.Prelude.{MatchOption}
 use Rattle.session_outbox.specs.declared.facts.Facts.{Facts}
 use Rattle.session_outbox.specs.Sessions.{submitted}
 use Rattle.session_outbox.proofs.Entries.{there, none_there, changed}
-use Rattle.session_outbox.proofs.sessions.submit.Goals as goal
+use Rattle.session_outbox.proofs.sessions.note_accepted.Goals as goal
 
 pub overflow_add-own : goal.overflow_add-own
 overflow_add-own c =
