@@ -4,8 +4,8 @@ ghost use Rattle.std.specs.Prelude.{OnOk, OnErr};
 ghost use Rattle.std.specs.Option.{option_map};
 ghost use Rattle.opid.specs.declared.refusal.Refusal.TheVariants.{NoSession};
 ghost use Rattle.session_outbox.specs.declared.submission.Submission.TheVariants.{New};
-ghost use Rattle.session_outbox.specs.Sessions.{session_with, change_session, without_session, MayAccept, AreNumbered, empty_outbox};
-ghost use Rattle.session_outbox.specs.Sessions.{submitted, sent_to, after_join, after_leave, after_accept, after_pull};
+ghost use Rattle.session_outbox.specs.Sessions.{session_with, change_session, without_session, MayAccept, HaveRisingNumbers, empty_outbox};
+ghost use Rattle.session_outbox.specs.Sessions.{with_accepted, sent_to, after_join, after_leave, after_accept, after_pull};
 ghost use Rattle.session_outbox.specs.Answers.{submission_of, pull_of, units_of_session, join_refusal};
 ghost use Rattle.session_outbox.specs.Kept.{sessions_of, session_of};
 
@@ -30,7 +30,7 @@ fn facts_with(facts: &IndexMap<u32, Facts>, s: u32) -> Option<Facts>
 /// version to a version.
 fn note_accepted(facts: &mut IndexMap<u32, Facts>, s: u32, from: u32, to: u32)
     requires { MayAccept s (sessions_of facts.old.entries) }
-    ensures { sessions_of facts.new.entries ≡ change_session s (submitted from to) (sessions_of facts.old.entries) }
+    ensures { sessions_of facts.new.entries ≡ change_session s (with_accepted from to) (sessions_of facts.old.entries) }
 {
     if let Some(own) = facts.get_mut(&s) {
         own.last += 1;
@@ -86,14 +86,14 @@ pub struct Sessions {
 }
 
 impl Model for Sessions {
-    ghost use Rattle.session_outbox.specs.Sessions.{Outbox, AreNumbered};
+    ghost use Rattle.session_outbox.specs.Sessions.{Outbox, HaveRisingNumbers};
     ghost use Rattle.session_outbox.specs.Kept.{sessions_of};
 
     ghost Value = { Outbox };
 
     ghost view = { λ m. record { sessions = sessions_of m.facts.entries; next_number = m.next_number } };
 
-    ghost invariant = { λ m. AreNumbered 0 m.next_number (sessions_of m.facts.entries) };
+    ghost invariant = { λ m. HaveRisingNumbers 0 m.next_number (sessions_of m.facts.entries) };
 }
 
 impl Sessions {
@@ -199,7 +199,7 @@ impl Sessions {
     /// How many sessions are there. Takes one step.
     pub fn len(&self) -> usize
         ensures value { result ≡ length self.now.sessions }
-        ensures numbered { AreNumbered 0 self.now.next_number self.now.sessions }
+        ensures numbered { HaveRisingNumbers 0 self.now.next_number self.now.sessions }
     {
         self.facts.len()
     }
