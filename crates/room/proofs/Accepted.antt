@@ -13,14 +13,14 @@ use Rattle.session_outbox.specs.declared.submission.Submission.TheVariants.{New,
 use Rattle.session_outbox.specs.Sessions.{session_with}
 use Rattle.session_outbox.specs.Answers.{submission_of}
 use Rattle.room.specs.declared.call.Call.{Call}
-use Rattle.room.specs.Machine.{State, Finding, counts_units, check, first_of, unless}
+use Rattle.room.specs.Machine.{State, Finding, counts_units, check, found_in_submission, unless}
 use Rattle.room.specs.History.{Account, IsConsistent, PlacesInsertion}
 
 unless_accepted : (r : Option Refusal) → unless r ≡ Ok New → r ≡ None
 unless_accepted None h = refl
 unless_accepted (Some e) h = cc
 
-pub first_accepted : (f : Finding) (r : Option Refusal) → first_of f r ≡ Ok New → r ≡ None
+pub first_accepted : (f : Finding) (r : Option Refusal) → found_in_submission f r ≡ Ok New → r ≡ None
 first_accepted (Err e) r h = cc
 first_accepted (Ok (Repeat a b)) r h = cc
 first_accepted (Ok New) r h = unless_accepted r h
@@ -39,7 +39,7 @@ not_bad false false false d h = refl
 pub accepted_is_placed : (S : State) → IsLawful S.log → S.site < 32 → (c : Call) → PlacesInsertion S c
 accepted_is_placed S l b c s n v k x e a =
     let u : Bool = counts_units s S.outbox in
-    let here : first_of (submission_of (session_with s S.outbox.sessions) n v) (insertion_refusal_in u S.log v k x) ≡ Ok New =
+    let here : found_in_submission (submission_of (session_with s S.outbox.sessions) n v) (insertion_refusal_in u S.log v k x) ≡ Ok New =
     subst (λ (d : Call). check S d ≡ Ok New) e a in
     let none : insertion_refusal_in u S.log v k x ≡ None =
     first_accepted (submission_of (session_with s S.outbox.sessions) n v) (insertion_refusal_in u S.log v k x) here in

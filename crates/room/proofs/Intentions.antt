@@ -27,7 +27,7 @@ use Rattle.room.specs.declared.reply.Reply.TheVariants as replies
 use Rattle.room.specs.Machine.{State, Finding, counts_units, check, found_answer, found_next, accepted_answer, accepted_next, counted}
 use Rattle.room.specs.Machine.{recorded_answer, recorded_next, may_record, next}
 use Rattle.room.specs.History.{Account, state_of, IsConsistent}
-use Rattle.room.specs.Intention.{names_units, asked_by, StandsAsked, IsAccepted, IsKept, state_before, KeepsIntentions, OnlyGrows}
+use Rattle.room.specs.Intention.{names_units, asked_by, StandsAsked, IsAccepted, IsIntentionKept, state_before, KeepsIntentions, OnlyGrows}
 use Rattle.room.proofs.Accepted.{first_accepted, at_most}
 use Rattle.room.proofs.Handing.{Extends}
 use Rattle.room.proofs.Histories.{next-site}
@@ -161,7 +161,7 @@ goes S c start end l b a = by (may_record S) refl a.answered
 
 -- what was asked for stands in any longer log between the versions that were answered
 kept : (S : State) (c : Call) (start end : ℕ) (log : List Operation) → Goes S c start end
-    → Extends (S.log ++ asked_by (names_units S c) S.site S.log c) log → IsKept (names_units S c) S.site log c start end
+    → Extends (S.log ++ asked_by (names_units S c) S.site S.log c) log → IsIntentionKept (names_units S c) S.site log c start end
 kept S c start end log g (more, e) =
     let u : Bool = names_units S c in
     let asked : List Operation = asked_by u S.site S.log c in
@@ -185,7 +185,7 @@ from_opening S h l b i e start end at a =
     let site : before.site ≡ (state_of S h).site = before-site S h i in
     let went : Goes before e.1 start end × ((next before e.1).log ≡ (accepted_next before e.1).log) =
     goes before e.1 start end (lawful_begins before.log (state_of S h).log (before-grows S h i) l) (omega (arith, b, site)) a in
-    subst (λ (n : ℕ). IsKept (names_units before e.1) n (state_of S h).log e.1 start end) site
+    subst (λ (n : ℕ). IsIntentionKept (names_units before e.1) n (state_of S h).log e.1 start end) site
     (kept before e.1 start end (state_of S h).log went.0 (subst (λ (l : List Operation). Extends l (state_of S h).log)
     (went.1 ∙ went.0.grown) (next-grows S h i e at)))
 

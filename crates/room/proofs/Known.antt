@@ -7,7 +7,7 @@ use Rattle.std.proofs.lemmas.List.{length-append}
 use Rattle.opid.specs.Operations.{Operation}
 use Rattle.position_translate.specs.Causes.{element_count}
 use Rattle.session_outbox.specs.declared.submission.Submission.TheVariants.{New, Repeat}
-use Rattle.session_outbox.specs.Sessions.{Session, session_with, submitted as after_submission, sent_to}
+use Rattle.session_outbox.specs.Sessions.{Session, session_with, with_accepted, sent_to}
 use Rattle.session_outbox.specs.Sessions.{joined}
 use Rattle.room.specs.declared.call.Call.{Call}
 use Rattle.room.specs.declared.call.Call.TheVariants.{Join, Ins, Del, Pull, Leave, Ops, Put, Read}
@@ -46,12 +46,12 @@ accepted-since S (Join b) s w r h =
 accepted-since S (Ins t n v k x) s w r h = (
   h.0,
   IfThere-changed (Descends w) s t
-      (after_submission (length S.log) (length S.log + length x)) S.outbox.sessions (λ u. refl) (λ u d. d) h.1,
+      (with_accepted (length S.log) (length S.log + length x)) S.outbox.sessions (λ u. refl) (λ u d. d) h.1,
 )
 accepted-since S (Del t n v k c) s w r h = (
   h.0,
   IfThere-changed (Descends w) s t
-      (after_submission (length S.log) (length S.log + element_count (counts_units t S.outbox) S.log v k c)) S.outbox.sessions
+      (with_accepted (length S.log) (length S.log + element_count (counts_units t S.outbox) S.log v k c)) S.outbox.sessions
       (λ u. refl) (λ u d. d) h.1,
 )
 accepted-since S (Pull t have most) s w r h =

@@ -11,7 +11,7 @@ use Rattle.session_outbox.specs.Sessions.{Outbox, after_accept}
 use Rattle.room.specs.declared.call.Call.{Call}
 use Rattle.room.specs.declared.reply.Reply.{Reply}
 use Rattle.room.specs.declared.reply.Reply.TheVariants as replies
-use Rattle.room.specs.Machine.{State, Finding, check, first_of, accepted_answer, accepted_next, found_answer, found_next}
+use Rattle.room.specs.Machine.{State, Finding, check, found_in_submission, accepted_answer, accepted_next, found_answer, found_next}
 use Rattle.room.specs.Parts.{state_with, Does, reply_at_once, Submits, Accepts}
 
 -- what a call is found to be tells what it is answered, and what it does
@@ -20,11 +20,11 @@ found : (S : State) (c : Call) (f : Finding) (reply : Reply) (T : State) → che
 found S c f reply T e a n = (a ∙ ap (found_answer S c) (sym e), n ∙ ap (found_next S c) (sym e))
 
 pub at_once : (R : ReplicaState) (outbox : Outbox) (c : Call) (f : Finding) (r : Option Refusal) (reply : Reply)
-    → ((count : ℕ) → check (state_with R outbox count) c ≡ first_of f r)
+    → ((count : ℕ) → check (state_with R outbox count) c ≡ found_in_submission f r)
     → Some reply ≡ reply_at_once f → Does R outbox c reply R outbox
 at_once R outbox c f r reply e h = record { answered = λ count. (go count f (e count) h).0; done = λ count. (go count f (e count) h).1 }
   where
-    go : (count : ℕ) (f : Finding) → check (state_with R outbox count) c ≡ first_of f r → Some reply ≡ reply_at_once f
+    go : (count : ℕ) (f : Finding) → check (state_with R outbox count) c ≡ found_in_submission f r → Some reply ≡ reply_at_once f
         → (reply ≡ found_answer (state_with R outbox count) c (check (state_with R outbox count) c))
         × (state_with R outbox count ≡ found_next (state_with R outbox count) c (check (state_with R outbox count) c))
     go count (Err w) k h = found (state_with R outbox count) c (Err w) reply _ k (cc) refl
@@ -34,7 +34,7 @@ at_once R outbox c f r reply e h = record { answered = λ count. (go count f (e 
 pub carried : (R : ReplicaState) (outbox : Outbox) (c : Call) (f : Finding) (r : Option Refusal) (s : ℕ) (more : List Operation) (n : ℕ)
     (submitted : Result (ℕ × ℕ) Refusal) (T : ReplicaState)
     (result : Result Reply AllocError) (outbox' : Outbox)
-    → ((count : ℕ) → check (state_with R outbox count) c ≡ first_of f r)
+    → ((count : ℕ) → check (state_with R outbox count) c ≡ found_in_submission f r)
     → ((count : ℕ) → accepted_answer (state_with R outbox count) c ≡ replies.Ok (length R.log) (length R.log + n))
     → ((count : ℕ) → accepted_next (state_with R outbox count) c
     ≡ state_with (record R { log = R.log ++ more }) (after_accept s (length R.log) (length R.log + n) outbox) count)
@@ -43,7 +43,7 @@ pub carried : (R : ReplicaState) (outbox : Outbox) (c : Call) (f : Finding) (r :
 carried R outbox c f r s more n submitted T result outbox' e a t h k w = go f r submitted result e h k w
   where
     go : (f : Finding) (r : Option Refusal) (submitted : Result (ℕ × ℕ) Refusal) (result : Result Reply AllocError)
-        → ((count : ℕ) → check (state_with R outbox count) c ≡ first_of f r)
+        → ((count : ℕ) → check (state_with R outbox count) c ≡ found_in_submission f r)
         → None ≡ reply_at_once f → Submits r submitted R more n T → Accepts s submitted outbox result outbox'
         → IfOk result (λ reply. Does R outbox c reply T outbox')
     go (Err x) r submitted result e h k w = cc

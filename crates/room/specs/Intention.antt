@@ -51,7 +51,7 @@ pub record IsAccepted (S : State) (c : Call) (start end : ℕ) : Type 0 where
 
 -- The operations of the log between two versions are those that the submission asked for over the log's beginning up to
 -- the first of them, and stand at their place.
-pub record IsKept (units : Bool) (site : ℕ) (log : List Operation) (c : Call) (start end : ℕ) : Type 0 where
+pub record IsIntentionKept (units : Bool) (site : ℕ) (log : List Operation) (c : Call) (start end : ℕ) : Type 0 where
   pub asked : take (end - start) (drop start log) ≡ asked_by units site (take start log) c
   pub stands : StandsAsked units log c (take (end - start) (drop start log))
 
@@ -63,7 +63,7 @@ state_before room i = state_of room.opening (take i room.history)
 abbrev pub KeepsIntentions : Account → Type 0
 KeepsIntentions room = (i : ℕ) (e : ℕ × Call) (start end : ℕ) → slice_get room.history i ≡ Some e
     → IsAccepted (state_before room i) e.1 start end
-    → IsKept (names_units (state_before room i) e.1) room.state.site room.state.log e.1 start end
+    → IsIntentionKept (names_units (state_before room i) e.1) room.state.site room.state.log e.1 start end
 
 -- each earlier log of the room is a beginning of the present one, so that an earlier version is a version for good
 abbrev pub OnlyGrows : Account → Type 0

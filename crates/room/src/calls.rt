@@ -165,7 +165,7 @@ fn counts_units(outbox: &Sessions, s: u32) -> bool
 /// The reply to a submission that isn't the session's next one: why it is refused, or the kept reply.
 fn reply_at_once(outbox: &Sessions, s: u32, n: u32, v: u32) -> Option<Reply>
     ensures reply { result ≡ reply_at_once (submission_of (session_with s outbox.now.sessions) n v) }
-    ensures acceptable { result ≡ None → MayAccept s outbox.now }
+    ensures acceptable { result ≡ None → MayAccept s outbox.now.sessions }
 {
     match outbox.check_submit(s, n, v) {
         Ok(Submission::New) => None,
@@ -180,7 +180,7 @@ fn accept(
     s: u32,
     submitted: Result<(u32, u32), Refusal>,
 ) -> Result<Reply, AllocError>
-    requires { MayAccept s outbox.old }
+    requires { MayAccept s outbox.old.sessions }
     ensures { Accepts s submitted outbox.old result outbox.new }
 {
     match submitted {

@@ -6,7 +6,7 @@ use Rattle.std.specs.Option.{option_map}
 use Rattle.std.proofs.lemmas.Bool.{eqb-true}
 use Rattle.indexmap.specs.IndexMap.{insert_entry}
 use Rattle.session_outbox.specs.declared.facts.Facts.{Facts}
-use Rattle.session_outbox.specs.Sessions.{Session, AreNumbered, change_session, without_session, session_with}
+use Rattle.session_outbox.specs.Sessions.{Session, HaveRisingNumbers, change_session, without_session, session_with}
 use Rattle.session_outbox.specs.Kept.{session_of, sessions_of}
 use Rattle.session_outbox.proofs.Numbered.{low_below, change_session-at}
 
@@ -67,7 +67,7 @@ changed s f w v es fs e k m = ap sessions_of e ∙ replaced s v es ∙ ap (λ u.
     ∙ change_session-at s f (session_of (s, w)) (sessions_of es) (there s w es k)
 
 -- the next number is new, so its session goes last
-pub inserted : (low next : ℕ) (w : Facts) (es : List (ℕ × Facts)) → AreNumbered low next (sessions_of es)
+pub inserted : (low next : ℕ) (w : Facts) (es : List (ℕ × Facts)) → HaveRisingNumbers low next (sessions_of es)
     → sessions_of (insert_entry nat_eq es next w) ≡ sessions_of es ++ session_of (next, w) ∷ []
 inserted low next w [] h = refl
 inserted low next w (e ∷ es) h = by (nat_eq next e.0) refl (inserted e.0 next w es h.1)

@@ -23,8 +23,8 @@ abbrev pub session_with : ℕ → List Session → Option Session
 session_with s sessions = find (λ w. s == w.number) sessions
 
 -- the session of this number is there, and its next submission has a number of 32 bits
-abbrev pub MayAccept : ℕ → Outbox → Type 0
-MayAccept s S = MatchOption (session_with s S.sessions) ⊥ (λ w. w.last < 4294967295)
+abbrev pub MayAccept : ℕ → List Session → Type 0
+MayAccept s sessions = MatchOption (session_with s sessions) ⊥ (λ w. w.last < 4294967295)
 
 -- the session of this number is changed
 abbrev pub change_session : ℕ → (Session → Session) → List Session → List Session
@@ -37,9 +37,9 @@ without_session s [] = []
 without_session s (w ∷ ws) = if s == w.number then ws else w ∷ without_session s ws
 
 -- the numbers are above `low`, rise in order of joining, and are below the next one; so no two are equal
-abbrev pub AreNumbered : ℕ → ℕ → List Session → Type 0
-AreNumbered low next [] = low < next
-AreNumbered low next (w ∷ ws) = (low < w.number) × AreNumbered w.number next ws
+abbrev pub HaveRisingNumbers : ℕ → ℕ → List Session → Type 0
+HaveRisingNumbers low next [] = low < next
+HaveRisingNumbers low next (w ∷ ws) = (low < w.number) × HaveRisingNumbers w.number next ws
 
 -- a session that joins at a version, with its way of counting
 abbrev pub joined : ℕ → ℕ → Bool → Session
@@ -47,8 +47,8 @@ joined number version units =
     record { number = number; first = version; sent = version; last = 0; start = 0; end = 0; units = units }
 
 -- its next submission is accepted, and leads from a version to a version
-abbrev pub submitted : ℕ → ℕ → Session → Session
-submitted start end w = record w { last = w.last + 1; start = start; end = end }
+abbrev pub with_accepted : ℕ → ℕ → Session → Session
+with_accepted start end w = record w { last = w.last + 1; start = start; end = end }
 
 -- it is sent what leads to a version
 abbrev pub sent_to : ℕ → Session → Session
@@ -71,7 +71,7 @@ after_leave s S = record S { sessions = without_session s S.sessions }
 
 -- a session's next submission was accepted
 abbrev pub after_accept : ℕ → ℕ → ℕ → Outbox → Outbox
-after_accept s start end S = record S { sessions = change_session s (submitted start end) S.sessions }
+after_accept s start end S = record S { sessions = change_session s (with_accepted start end) S.sessions }
 
 -- a session was sent what leads to a version
 abbrev pub after_pull : ℕ → ℕ → Outbox → Outbox

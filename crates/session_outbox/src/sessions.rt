@@ -1,11 +1,11 @@
 //! The sessions of a server's document, each by the number that it got when it joined.
 ghost use Rattle.std.specs.Prelude.{◌≡◌, ◌≤◌, ◌<◌, ◌↔◌, false, not, nat_lt, is_some, length, None, Some, Ok, IsOk, IsSome, IfOk, IfErr};
-ghost use Rattle.std.specs.Prelude.{OnOk, OnErr, MatchOption};
+ghost use Rattle.std.specs.Prelude.{OnOk, OnErr};
 ghost use Rattle.std.specs.Option.{option_map};
 ghost use Rattle.opid.specs.declared.refusal.Refusal.TheVariants.{NoSession};
 ghost use Rattle.session_outbox.specs.declared.submission.Submission.TheVariants.{New};
-ghost use Rattle.session_outbox.specs.Sessions.{session_with, change_session, without_session, MayAccept, AreNumbered, empty_outbox};
-ghost use Rattle.session_outbox.specs.Sessions.{submitted, sent_to, after_join, after_leave, after_accept, after_pull};
+ghost use Rattle.session_outbox.specs.Sessions.{session_with, change_session, without_session, MayAccept, HaveRisingNumbers, empty_outbox};
+ghost use Rattle.session_outbox.specs.Sessions.{with_accepted, sent_to, after_join, after_leave, after_accept, after_pull};
 ghost use Rattle.session_outbox.specs.Answers.{submission_of, pull_of, units_of_session, join_refusal};
 ghost use Rattle.session_outbox.specs.Kept.{sessions_of, session_of};
 
@@ -26,11 +26,11 @@ fn facts_with(facts: &IndexMap<u32, Facts>, s: u32) -> Option<Facts>
     facts.get(&s).copied()
 }
 
-/// Notes in the facts of the session with this number, which is there, that its next submission led from a version to a
-/// version.
-fn submit(facts: &mut IndexMap<u32, Facts>, s: u32, from: u32, to: u32)
-    requires { MatchOption (session_with s (sessions_of facts.old.entries)) ⊥ (λ w. w.last < 4294967295) }
-    ensures { sessions_of facts.new.entries ≡ change_session s (submitted from to) (sessions_of facts.old.entries) }
+/// Notes in the facts of the session with this number, which is there, that its next submission was accepted, and led from a
+/// version to a version.
+fn note_accepted(facts: &mut IndexMap<u32, Facts>, s: u32, from: u32, to: u32)
+    requires { MayAccept s (sessions_of facts.old.entries) }
+    ensures { sessions_of facts.new.entries ≡ change_session s (with_accepted from to) (sessions_of facts.old.entries) }
 {
     if let Some(own) = facts.get_mut(&s) {
         own.last += 1;
@@ -39,8 +39,9 @@ fn submit(facts: &mut IndexMap<u32, Facts>, s: u32, from: u32, to: u32)
     }
 }
 
-/// The versions that a pull by the session with this number leads from and to, of which its facts then note the last as sent.
-fn send(
+/// Notes in the facts of the session with this number that it was sent what its pull leads to, and gives the versions that
+/// the pull leads from and to.
+fn note_sent(
     facts: &mut IndexMap<u32, Facts>,
     s: u32,
     have: u32,
@@ -85,14 +86,14 @@ pub struct Sessions {
 }
 
 impl Model for Sessions {
-    ghost use Rattle.session_outbox.specs.Sessions.{Outbox, AreNumbered};
+    ghost use Rattle.session_outbox.specs.Sessions.{Outbox, HaveRisingNumbers};
     ghost use Rattle.session_outbox.specs.Kept.{sessions_of};
 
     ghost Value = { Outbox };
 
     ghost view = { λ m. record { sessions = sessions_of m.facts.entries; next_number = m.next_number } };
 
-    ghost invariant = { λ m. AreNumbered 0 m.next_number (sessions_of m.facts.entries) };
+    ghost invariant = { λ m. HaveRisingNumbers 0 m.next_number (sessions_of m.facts.entries) };
 }
 
 impl Sessions {
@@ -156,7 +157,7 @@ impl Sessions {
     /// where `v` is below the session's first version or above its sent one. A look-up.
     pub fn check_submit(&self, s: u32, n: u32, v: u32) -> Result<Submission, Refusal>
         ensures value { result ≡ submission_of (session_with s self.now.sessions) n v }
-        ensures acceptable { result ≡ Ok New → MayAccept s self.now }
+        ensures acceptable { result ≡ Ok New → MayAccept s self.now.sessions }
     {
         let Some(facts) = facts_with(&self.facts, s) else {
             return Err(Refusal::NoSession);
@@ -167,10 +168,10 @@ impl Sessions {
     /// Notes that the session's next submission, `New` by `check_submit`, was accepted and led from a version to a
     /// version: its last number goes up by one, and these versions are its kept reply. A look-up.
     pub fn accept(&mut self, s: u32, from: u32, to: u32)
-        requires { MayAccept s self.old }
+        requires { MayAccept s self.old.sessions }
         ensures { self.new ≡ after_accept s from to self.old }
     {
-        submit(&mut self.facts, s, from, to);
+        note_accepted(&mut self.facts, s, from, to);
     }
 
     /// The versions that the edits lead from and to which a session is sent that has the version `have`, where the
@@ -182,7 +183,7 @@ impl Sessions {
         ensures next { IfOk result (λ r. self.new ≡ after_pull s r.1 self.old) }
         ensures err { OnErr result (self.new ≡ self.old) }
     {
-        send(&mut self.facts, s, have, max, version)
+        note_sent(&mut self.facts, s, have, max, version)
     }
 
     /// Whether the session's places count UTF-16 units, as it said when it joined. Refused with `NoSession`. A look-up.
@@ -198,7 +199,7 @@ impl Sessions {
     /// How many sessions are there. Takes one step.
     pub fn len(&self) -> usize
         ensures value { result ≡ length self.now.sessions }
-        ensures numbered { AreNumbered 0 self.now.next_number self.now.sessions }
+        ensures numbered { HaveRisingNumbers 0 self.now.next_number self.now.sessions }
     {
         self.facts.len()
     }

@@ -1,5 +1,5 @@
 use Rattle.std.proofs.Common.{◌≡◌, ◌∙◌, ◌+◌, List, None, ap, refl, subst, sym}
-use Rattle.session_outbox.specs.Sessions.{Session, Outbox, AreNumbered, session_with, joined, after_join}
+use Rattle.session_outbox.specs.Sessions.{Session, Outbox, HaveRisingNumbers, session_with, joined, after_join}
 use Rattle.session_outbox.specs.Kept.{sessions_of}
 use Rattle.session_outbox.proofs.Entries.{inserted}
 use Rattle.session_outbox.proofs.Numbered.{numbered-joined, next_is_new}
@@ -7,7 +7,7 @@ use Rattle.session_outbox.proofs.sessions.Sessions.join.Goals as goal
 
 pub invariant_of-self-2 : goal.invariant_of-self-2
 invariant_of-self-2 c =
-    subst (λ (ws : List Session). AreNumbered 0 (c.self.inside.next_number + 1) ws)
+    subst (λ (ws : List Session). HaveRisingNumbers 0 (c.self.inside.next_number + 1) ws)
     (sym (ap sessions_of c.in_ok-insert.ensures.entries ∙ inserted 0 c.self.inside.next_number _ c.self.inside.facts.entries
     c.self.invariant))
     (numbered-joined 0 c.self.inside.next_number (sessions_of c.self.inside.facts.entries)

@@ -5,7 +5,7 @@ use Rattle.session_outbox.specs.Sessions.{Session, sent_to}
 use Rattle.session_outbox.specs.Answers.{pull_of}
 use Rattle.session_outbox.specs.Kept.{session_of, sessions_of}
 use Rattle.session_outbox.proofs.Entries.{there, none_there, changed}
-use Rattle.session_outbox.proofs.sessions.send.Goals as goal
+use Rattle.session_outbox.proofs.sessions.note_sent.Goals as goal
 
 pub returns-in_default-clause-value : goal.returns-in_default-clause-value
 returns-in_default-clause-value c =
