@@ -1,0 +1,53 @@
+use Rattle.std.proofs.Common.{arith}
+use Rattle.counted_tree.specs.Tree.{entries}
+use Rattle.counted_tree.specs.Change.{tree_in}
+use Rattle.counted_tree.proofs.Growth.{link_later, length-trees}
+use Rattle.counted_tree.proofs.Counts.{height_small, least-fork}
+use Rattle.counted_tree.proofs.Sizes.{size_few}
+use Rattle.counted_tree.proofs.Adding.{adds_push, tree_pushed}
+use Rattle.counted_tree.proofs.build.append.Goals as goal
+
+pub push-requires-clause-left : goal.push-requires-clause-left
+push-requires-clause-left c =
+    let ns = c.args.nodes.now.0 in
+    link_later _ _ c.args.node.left (omega (arith, length-trees ns)) c.requires.node.left_earlier
+
+pub push-requires-clause-right : goal.push-requires-clause-right
+push-requires-clause-right c =
+    let ns = c.args.nodes.now.0 in
+    link_later _ _ c.args.node.right (omega (arith, length-trees ns)) c.requires.node.right_earlier
+
+pub push-requires-clause-least : goal.push-requires-clause-least
+push-requires-clause-least c =
+    let n = c.args.node in
+    let a = c.args.nodes.now in
+    let keys = least-fork (entries (tree_in a n.left)) (entries (tree_in a n.right)) n.entry in
+    omega (arith, c.requires.node.least_is, c.requires.node.small, keys)
+
+pub push-requires-clause-shown : goal.push-requires-clause-shown
+push-requires-clause-shown c =
+    let n = c.args.node in
+    let few = size_few n.left_size (entries (tree_in c.args.nodes.now n.left)) c.requires.node.left_size in
+    omega (arith, few.0, c.requires.few)
+
+pub push-requires-clause-units : goal.push-requires-clause-units
+push-requires-clause-units c =
+    let n = c.args.node in
+    let few = size_few n.left_size (entries (tree_in c.args.nodes.now n.left)) c.requires.node.left_size in
+    omega (arith, few.1, c.requires.few)
+
+pub push-requires-clause-height : goal.push-requires-clause-height
+push-requires-clause-height c =
+    let n = c.args.node in
+    let a = c.args.nodes.now in
+    let l = height_small (tree_in a n.left) c.requires.node.balanced.0 (omega (arith, c.requires.few)) in
+    let r = height_small (tree_in a n.right) c.requires.node.balanced.1 (omega (arith, c.requires.few)) in
+    omega (arith, l, r, c.requires.node.height_is)
+
+pub returns-clause-adds : goal.returns-clause-adds
+returns-clause-adds c =
+    adds_push c.args.nodes.now c.push.new.self c.args.node c.requires.sound c.requires.node c.push.ensures.rows c.push.ensures.spare
+    c.push.ensures.known c.push.ensures.free
+
+pub returns-clause-tree : goal.returns-clause-tree
+returns-clause-tree c = tree_pushed c.args.nodes.now c.push.new.self _ c.push.result c.push.ensures.rows c.push.ensures.number
