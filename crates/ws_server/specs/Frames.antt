@@ -45,7 +45,8 @@ OpensAsked hall (Err refusal) answer opened = (answer ≡ text (No refusal)) × 
 -- the answer to a message of a connection that has opened no room
 abbrev pub Opens : Hall → List ℕ → List ℕ → Option ℕ → Type 0
 Opens hall bytes answer opened =
-    OpensAsked hall (requests.opening bytes) answer opened ⊎ ((length bytes ≤ 65536) × (answer ≡ text (No Why.Memory)) × (opened ≡ None))
+    OpensAsked hall (requests.room_asked_for bytes) answer opened
+    ⊎ ((length bytes ≤ 65536) × (answer ≡ text (No Why.Memory)) × (opened ≡ None))
 
 -- the answer to a message of a connection whose room is at this place, or that has opened none
 abbrev pub AnswersAt : {G : Type 0} → (G → ℕ → View → G → Type 0) → Hall → Option ℕ → Side G → List ℕ → List ℕ → Option ℕ → Side G → Type 0
