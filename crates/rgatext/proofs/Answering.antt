@@ -12,13 +12,13 @@ use Rattle.room.specs.declared.reply.Reply.TheVariants.{No}
 use Rattle.replica_world.specs.declared.event.Event.{Event}
 use Rattle.wire_json.specs.Text.{text}
 use Rattle.rgatext.specs.Script.{Asks}
-use Rattle.rgatext.specs.Worlds.{AnswersAsked, AnswersEvent, AnswersLine}
+use Rattle.rgatext.specs.Worlds.{AnswersEventAsked, AnswersEvent, AnswersLine}
 
 -- the answer to a line that asks for an event is that to the event
 pub answers_event : (old new : List Account) (line answer : List ℕ) (event : Event) (asked : Result Event Refusal)
     → Asks line asked → asked ≡ Ok event → AnswersEvent old event answer new → AnswersLine old line answer new
 answers_event old new line answer event asked h is told =
-    inl (asked, h, subst (λ (r : Result Event Refusal). AnswersAsked old r answer new) (sym is) told)
+    inl (asked, h, subst (λ (r : Result Event Refusal). AnswersEventAsked old r answer new) (sym is) told)
 
 -- the refusal of memory is not that of a line that is too long
 within_limit : (line : List ℕ) (why : Refusal) (r : Result Event Refusal) → r ≡ Err why → (65600 < length line → r ≡ Err TooLong)
@@ -32,7 +32,7 @@ pub answers_refusal : (world : List Account) (line : List ℕ) (why : Refusal) (
     → AnswersLine world line (text (No why)) world
 answers_refusal world line why r asked same h long (inl e) = inr (within_limit line why r same long e, ap (λ w. text (No w)) e, refl)
 answers_refusal world line why r asked same h long (inr is) =
-    inl (asked, h, subst (λ (r : Result Event Refusal). AnswersAsked world r (text (No why)) world) (sym is) (refl, refl))
+    inl (asked, h, subst (λ (r : Result Event Refusal). AnswersEventAsked world r (text (No why)) world) (sym is) (refl, refl))
 
 -- ---- lines of sites
 

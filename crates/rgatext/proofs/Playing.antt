@@ -12,7 +12,7 @@ use Rattle.ws_server.specs.ServedLines.{AreAnswered, Serves, ServesAll}
 use Rattle.ws_server.specs.declared.fault.ServeFault.{ServeFault}
 use Rattle.rgatext.specs.declared.stop.Stop.{Stop}
 use Rattle.rgatext.specs.declared.stop.Stop.TheVariants.{Fault}
-use Rattle.rgatext.specs.Played.{Opens, Closes, ServesRoom}
+use Rattle.rgatext.specs.Played.{OpensOver, Closes, ServesRoom}
 
 -- no line is answered where nothing is held and nothing is read
 pub serves_nothing : (desk : RoomDesk) (held : List ℕ) → held ≡ []
@@ -59,7 +59,7 @@ broken room snapshot desk after got answers left why opens serves = record {
 pub opens_more : (resume : Bool) (site : ℕ) (left left' : Option (List ℕ)) (got more : List ℕ) (over : Bool) (log : List Operation)
     (rest : List ℕ)
     → (over ≡ true → more ≡ []) → (over ≡ true → left' ≡ left)
-    → Opens resume site left got over log rest → Opens resume site left' (got ++ more) over log (rest ++ more)
+    → OpensOver resume site left got over log rest → OpensOver resume site left' (got ++ more) over log (rest ++ more)
 opens_more false site left left' got more over log rest none same (goes, empty, is) = (goes, empty, ap (λ t. t ++ more) is)
 opens_more true site left left' got more false log rest none same (line, (plain, is), stands, lacks) =
     (line, (plain, ap (λ t. t ++ more) is ∙ append_assoc line (10 ∷ rest) more), stands, lacks)

@@ -7,7 +7,7 @@ use Rattle.std.proofs.lemmas.Bool.{ne_eqb}
 use Rattle.std.proofs.lemmas.Fmt.{decimal_is_IsNumeral, decimal-digits_value, decimal_digit, first_decimal, parse-decimal, IsAscii-decimal}
 use Rattle.std.proofs.lemmas.Str.{IsUtf8-from_ascii}
 use Rattle.std.proofs.lemmas.Str.Parse.{numerals_by_value, tells_digits, digit_from_value}
-use Rattle.rgatext.specs.Script.{spaced, IsWord, IsPlain}
+use Rattle.rgatext.specs.Script.{spaced, IsWord, IsPlainNumber}
 
 heads : (a b : ℕ) (x y : List ℕ) → a ∷ x ≡ b ∷ y → a ≡ b
 heads a b x y e = ap (λ (l : List ℕ). get_or l 0 0) e
@@ -53,7 +53,7 @@ first_is_a_digit : (ds : List ℕ) → IsNumeral 10 ds → 48 ≤ get_or ds 0 0
 first_is_a_digit [] h = absurd (omega (arith, h.0))
 first_is_a_digit (c ∷ cs) h = omega (arith, digit_from_value c h.1.0)
 
-pub decimal_is_plain : (n : ℕ) → n < 2 ^ 32 → IsPlain (decimal n)
+pub decimal_is_plain : (n : ℕ) → n < 2 ^ 32 → IsPlainNumber (decimal n)
 decimal_is_plain zero h =
     let e : decimal 0 ≡ 48 ∷ [] = decimal_digit 0 (omega arith) in
     (λ p. omega (arith, p, first_is_a_digit (decimal 0) (decimal_is_IsNumeral 0 (omega arith)).0), λ p. ap length e)
@@ -61,10 +61,10 @@ decimal_is_plain (suc n) h =
     let first : 48 < get_or (decimal (suc n)) 0 0 = first_decimal (suc n) (omega arith) (omega arith) in
     (λ p. omega (arith, p, first), λ p. absurd (omega (arith, p, first)))
 
-no_plus : (w : List ℕ) → IsPlain w → without_leading_plus w ≡ w
+no_plus : (w : List ℕ) → IsPlainNumber w → without_leading_plus w ≡ w
 no_plus w h = rw (ne_eqb (get_or w 0 0) 43 h.0) refl
 
-pub number_read : {E : Type 0} (w : List ℕ) (r : Result ℕ E) → IsPlain w → ParsesUnsigned 32 10 w r → IfOk r (λ n. w ≡ decimal n)
+pub number_read : {E : Type 0} (w : List ℕ) (r : Result ℕ E) → IsPlainNumber w → ParsesUnsigned 32 10 w r → IfOk r (λ n. w ≡ decimal n)
 number_read w (Ok n) plain p =
     let whole = no_plus w plain in
     let at : IsNumeral 10 w × (digits_value 10 w < 2 ^ 32) =

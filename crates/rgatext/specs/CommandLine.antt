@@ -69,27 +69,27 @@ abbrev pub flag_option : Text → Rule
 flag_option name = record (new_rule name) { long = Some name; action = Some SetTrue }
 
 -- the subcommand `lines`
-abbrev pub lines : App
-lines =
+abbrev pub lines_command : App
+lines_command =
     with_rule (with_rule (with_rule (new_app (codes "lines")) site_option) (flag_option (codes "resume"))) (flag_option (codes "snapshot"))
 
 -- the subcommand `text`
-abbrev pub text : App
-text = with_rule (new_app (codes "text")) version_option
+abbrev pub text_command : App
+text_command = with_rule (new_app (codes "text")) version_option
 
 -- the subcommand `world`
-abbrev pub world : App
-world = with_rule (new_app (codes "world")) sites_option
+abbrev pub world_command : App
+world_command = with_rule (new_app (codes "world")) sites_option
 
 -- the subcommand `serve`
-abbrev pub serve : App
-serve = with_rule (with_rule (with_rule (with_rule (new_app (codes "serve")) port_option) site_option) conns_option) name_words
+abbrev pub serve_command : App
+serve_command = with_rule (with_rule (with_rule (with_rule (new_app (codes "serve")) port_option) site_option) conns_option) name_words
 
 -- the program, which asks for a subcommand
 abbrev pub rgatext : App
 rgatext =
-    let a = with_subcommand (with_subcommand (with_subcommand (with_subcommand (new_app (codes "rgatext")) lines.top) text.top) world.top)
-    serve.top in
+    let a = with_subcommand (with_subcommand (with_subcommand (with_subcommand (new_app (codes "rgatext")) lines_command.top)
+    text_command.top) world_command.top) serve_command.top in
     record a { top = record a.top { subcommand_required = true } }
 
 -- the number that a text of decimal digits is
@@ -120,13 +120,13 @@ AsksIn name rows (Serve port site conns names) = (name ≡ codes "serve")
     × (all_of (codes "name") rows ≡ Some (map string_bytes names.items))
 
 -- the subcommand that was met asks for the plan
-abbrev pub Asks : Option (Text × List Row) → Plan → Type 0
-Asks None plan = ⊥
-Asks (Some met) plan = AsksIn met.0 met.1 plan
+abbrev pub AsksForPlan : Option (Text × List Row) → Plan → Type 0
+AsksForPlan None plan = ⊥
+AsksForPlan (Some met) plan = AsksIn met.0 met.1 plan
 
 -- no plan is asked for; `clap` lets no such words through
 abbrev pub AsksNothing : Option (Text × List Row) → Type 0
-AsksNothing met = (plan : Plan) → Asks met plan → ⊥
+AsksNothing met = (plan : Plan) → AsksForPlan met plan → ⊥
 
 -- `clap` answers by a text that was asked for
 abbrev pub shows_text : ErrorKind → Bool

@@ -42,9 +42,9 @@ served_end (Err Socket) = Ok tt
 -- ---- `lines`
 
 -- the room opens over no log, and nothing is read for it; or over that of the first line
-abbrev pub Opens : Bool → ℕ → Option (List ℕ) → List ℕ → Bool → List Operation → List ℕ → Type 0
-Opens false site left got over log rest = (over ≡ false) × (log ≡ []) × (rest ≡ got)
-Opens true site left got over log rest =
+abbrev pub OpensOver : Bool → ℕ → Option (List ℕ) → List ℕ → Bool → List Operation → List ℕ → Type 0
+OpensOver false site left got over log rest = (over ≡ false) × (log ≡ []) × (rest ≡ got)
+OpensOver true site left got over log rest =
     (line : List ℕ) × IsFirstLine over left got line rest × StandsFor line log × LacksSite site log
 
 -- why no room opens: a read failed, or memory was refused, or the first line is no snapshot, or has an operation of the site
@@ -89,7 +89,7 @@ pub record ServesRoom {T : Type 0} (room : Account) (snapshot : Bool) (got : Lis
 abbrev pub PlaysLines : {T : Type 0} → ℕ → Bool → Bool → List ℕ → Option (List ℕ) → List ℕ → Result T Stop → Type 0
 PlaysLines site resume snapshot got left written end =
     ((why : Stop) × OpensNot resume site left got why × (written ≡ []) × (end ≡ Err why))
-    ⊎ ((over : Bool) × (log : List Operation) × (rest : List ℕ) × Opens resume site left got over log rest
+    ⊎ ((over : Bool) × (log : List Operation) × (rest : List ℕ) × OpensOver resume site left got over log rest
     × ServesRoom (account_over (room_over site log)) snapshot rest left written end)
 
 -- ---- `text`
@@ -112,9 +112,9 @@ PlaysText version got left written end = IsAtEnd left
 -- ---- `world`
 
 -- what comes after the answers, once all lines were served
-abbrev pub Follows : {T U : Type 0} → List ℕ → List ℕ → Result T ServeFault → Result U Stop → Type 0
-Follows text last (Err why) end = (last ≡ []) × (end ≡ Err (Fault why))
-Follows text last (Ok done) end = Writes text last end
+abbrev pub ClosesWith : {T U : Type 0} → List ℕ → List ℕ → Result T ServeFault → Result U Stop → Type 0
+ClosesWith text last (Err why) end = (last ≡ []) × (end ≡ Err (Fault why))
+ClosesWith text last (Ok done) end = Writes text last end
 
 -- a world of empty rooms answers the lines, and what comes after the answers is what its sites then read
 pub record ServesWorld {T : Type 0} (sites : ℕ) (got : List ℕ) (left : Option (List ℕ)) (written : List ℕ)
@@ -125,7 +125,7 @@ pub record ServesWorld {T : Type 0} (sites : ℕ) (got : List ℕ) (left : Optio
   pub served : Result (Unit {0}) ServeFault
   pub serves : Serves AnswersLine (empty_rooms 0 sites) got left answers served after
   pub whole : written ≡ answers ++ last
-  pub follows : Follows (readings after) last served end
+  pub closes : ClosesWith (readings after) last served end
 
 -- there was no memory for the buffer and the rooms, and nothing was read or written; or lines are served
 abbrev pub PlaysWorld : {T : Type 0} → ℕ → List ℕ → Option (List ℕ) → List ℕ → Result T Stop → Type 0

@@ -67,5 +67,5 @@ abbrev pub IsWord : List ℕ → Type 0
 IsWord bytes = AllByRecursion (λ byte. byte ≢ 32) bytes
 
 -- neither `+` nor a `0` that isn't alone stands first
-abbrev pub IsPlain : List ℕ → Type 0
-IsPlain word = (slice_index word 0 ≢ 43) × (slice_index word 0 ≡ 48 → length word ≡ 1)
+abbrev pub IsPlainNumber : List ℕ → Type 0
+IsPlainNumber word = (slice_index word 0 ≢ 43) × (slice_index word 0 ≡ 48 → length word ≡ 1)

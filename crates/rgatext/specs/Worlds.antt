@@ -28,14 +28,14 @@ AnswersEvent old event answer new =
     ⊎ ((answer ≡ text (reply.No Memory)) × (new ≡ old))
 
 -- the line's event is answered; a refused line leaves the world as it was
-abbrev pub AnswersAsked : List Account → Result Event Refusal → List ℕ → List Account → Type 0
-AnswersAsked old (Ok event) answer new = AnswersEvent old event answer new
-AnswersAsked old (Err why) answer new = (answer ≡ text (reply.No why)) × (new ≡ old)
+abbrev pub AnswersEventAsked : List Account → Result Event Refusal → List ℕ → List Account → Type 0
+AnswersEventAsked old (Ok event) answer new = AnswersEvent old event answer new
+AnswersEventAsked old (Err why) answer new = (answer ≡ text (reply.No why)) × (new ≡ old)
 
 -- the answer to a line of a script; the reading of one that isn't too long may find no memory
 abbrev pub AnswersLine : List Account → List ℕ → List ℕ → List Account → Type 0
 AnswersLine old line answer new =
-    ((asked : Result Event Refusal) × Asks line asked × AnswersAsked old asked answer new)
+    ((asked : Result Event Refusal) × Asks line asked × AnswersEventAsked old asked answer new)
     ⊎ ((length line ≤ 65600) × (answer ≡ text (reply.No Memory)) × (new ≡ old))
 
 -- ---- after the lines

@@ -3,8 +3,8 @@ ghost use Rattle.std.specs.Prelude.{◌≡◌, [], Some, None, Option, ℕ, ◌�
 ghost use Rattle.clap.specs.Words.{app_of, fault_of, found_of, kind_of, rows_of, rule_of, first_of, subcommand_of, subcommand_rows_of};
 ghost use Rattle.clap.specs.declared.builder.command.Command.TheViews.{out-Command};
 ghost use Rattle.rgatext.specs.declared.plan.Plan.{Plan};
-ghost use Rattle.rgatext.specs.CommandLine.{rgatext, lines, text, world, site_option, flag_option, version_option, sites_option, Asks};
-ghost use Rattle.rgatext.specs.CommandLine.{AsksNothing, ReadsTo, Refuses, ToldBy, is_set};
+ghost use Rattle.rgatext.specs.CommandLine.{rgatext, lines_command, text_command, world_command, site_option, flag_option};
+ghost use Rattle.rgatext.specs.CommandLine.{version_option, sites_option, AsksForPlan, AsksNothing, ReadsTo, Refuses, ToldBy, is_set};
 
 use crate::plan::{Plan, PlanFault, Sites};
 use crate::serve_words::{serve_command, serve_plan};
@@ -24,7 +24,7 @@ use std::alloc::{AllocError, Global};
 /// subcommand, are answered by `Help`; all other words by `Words`, which says what is wrong with them; want of memory by
 /// `Memory`. Takes time and memory in proportion to the words.
 pub fn plan(alloc: Global, words: &[String]) -> Result<Plan, PlanFault>
-    ensures planned { IfOk result (λ made. Asks (subcommand_of rgatext (map string_bytes words.now)) made) }
+    ensures planned { IfOk result (λ made. AsksForPlan (subcommand_of rgatext (map string_bytes words.now)) made) }
     ensures refused { IfErr result (Refuses (fault_of rgatext (map string_bytes words.now))
         (subcommand_of rgatext (map string_bytes words.now))) }
 {
@@ -52,7 +52,7 @@ fn command<'a>(alloc: Global) -> Result<Command<'a>, AllocError>
 }
 
 fn lines_command<'a>(alloc: Global) -> Result<Command<'a>, AllocError>
-    ensures shape { IfOk result (λ made. app_of made ≡ lines) }
+    ensures shape { IfOk result (λ made. app_of made ≡ lines_command) }
     ensures local { IfOk result (λ made. (out-Command made).has_globals ≡ false) }
 {
     let site = site_arg(alloc);
@@ -75,7 +75,7 @@ fn lines_command<'a>(alloc: Global) -> Result<Command<'a>, AllocError>
 }
 
 fn text_command<'a>(alloc: Global) -> Result<Command<'a>, AllocError>
-    ensures shape { IfOk result (λ made. app_of made ≡ text) }
+    ensures shape { IfOk result (λ made. app_of made ≡ text_command) }
     ensures local { IfOk result (λ made. (out-Command made).has_globals ≡ false) }
 {
     let version = version_arg(alloc);
@@ -86,7 +86,7 @@ fn text_command<'a>(alloc: Global) -> Result<Command<'a>, AllocError>
 }
 
 fn world_command<'a>(alloc: Global) -> Result<Command<'a>, AllocError>
-    ensures shape { IfOk result (λ made. app_of made ≡ world) }
+    ensures shape { IfOk result (λ made. app_of made ≡ world_command) }
     ensures local { IfOk result (λ made. (out-Command made).has_globals ≡ false) }
 {
     let sites = sites_arg(alloc);
@@ -143,7 +143,7 @@ fn flag_arg<'a>(alloc: Global, name: &'a str, help: &'a str) -> Arg<'a>
 
 // The plan of words that `clap` took.
 fn read_plan(alloc: Global, matches: &ArgMatches<'_>) -> Result<Plan, PlanFault>
-    ensures planned { IfOk result (λ made. Asks (subcommand_rows_of matches.now) made) }
+    ensures planned { IfOk result (λ made. AsksForPlan (subcommand_rows_of matches.now) made) }
     ensures refused { IfErr result (Refuses [] (subcommand_rows_of matches.now)) }
 {
     match subcommand_plan(alloc, matches)? {
@@ -153,7 +153,7 @@ fn read_plan(alloc: Global, matches: &ArgMatches<'_>) -> Result<Plan, PlanFault>
 }
 
 fn subcommand_plan(alloc: Global, matches: &ArgMatches<'_>) -> Result<Option<Plan>, AllocError>
-    ensures some { IfOk result (λ made. IfSome made (λ plan. Asks (subcommand_rows_of matches.now) plan)) }
+    ensures some { IfOk result (λ made. IfSome made (λ plan. AsksForPlan (subcommand_rows_of matches.now) plan)) }
     ensures none { IfOk result (λ made. IfNone made (AsksNothing (subcommand_rows_of matches.now))) }
 {
     match matches.subcommand() {
@@ -163,7 +163,7 @@ fn subcommand_plan(alloc: Global, matches: &ArgMatches<'_>) -> Result<Option<Pla
 }
 
 fn plan_named(alloc: Global, name: &str, used: &ArgMatches<'_>) -> Result<Option<Plan>, AllocError>
-    ensures some { IfOk result (λ made. IfSome made (λ plan. Asks (Some (name.now, rows_of (found_of used.now))) plan)) }
+    ensures some { IfOk result (λ made. IfSome made (λ plan. AsksForPlan (Some (name.now, rows_of (found_of used.now))) plan)) }
     ensures none { IfOk result (λ made. IfNone made (AsksNothing (Some (name.now, rows_of (found_of used.now))))) }
 {
     match name {

@@ -9,7 +9,7 @@ ghost use Rattle.ws_server.specs.AnsweredRequests.{AnswersRequest};
 ghost use Rattle.ws_server.specs.Lines.{ended};
 ghost use Rattle.ws_server.specs.ServedLines.{Serves};
 ghost use Rattle.ws_server.specs.Counting.{Rises};
-ghost use Rattle.rgatext.specs.Played.{PlaysLines, ServesRoom, Opens, OpensNot, Closes, served_end};
+ghost use Rattle.rgatext.specs.Played.{PlaysLines, ServesRoom, OpensOver, OpensNot, Closes, served_end};
 
 use crate::sending::send;
 use crate::stop::Stop;
@@ -69,7 +69,7 @@ fn open<R: Source>(
     ensures opens { (got : List ℕ) × Consumes (R.remaining input.old.inner) (R.remaining input.new.inner) got
         × MatchResult result
         (λ o. (o.room ≡ account_over (room_over site o.room.state.log))
-        × Opens resume site (R.remaining input.new.inner) got o.is_over o.room.state.log window.new)
+        × OpensOver resume site (R.remaining input.new.inner) got o.is_over o.room.state.log window.new)
         (λ why. OpensNot resume site (R.remaining input.new.inner) got why) }
     ensures counted { Rises input.old.failures input.new.failures 0 0 (served_end result) }
 {

@@ -5,7 +5,7 @@ ghost use Rattle.opid.specs.declared.refusal.Refusal.TheVariants.{TooLong};
 ghost use Rattle.replica_world.specs.declared.event.Event.{Event};
 ghost use Rattle.wire_json.specs.Given.{Gives, same};
 ghost use Rattle.rgatext.specs.declared.script.Form.{Form};
-ghost use Rattle.rgatext.specs.Script.{IsWord, IsPlain, IsForm, spaced, site_of, event_of, Asks};
+ghost use Rattle.rgatext.specs.Script.{IsWord, IsPlainNumber, IsForm, spaced, site_of, event_of, Asks};
 
 use memchr::memchr;
 use opid::{Refusal, Site};
@@ -167,7 +167,7 @@ fn read_number(word: &[u8]) -> Option<u32>
 
 // Whether a numeral of this form has neither a sign nor a leading zero.
 fn is_plain(word: &[u8]) -> bool
-    ensures { IsTrue result ↔ IsPlain word.now }
+    ensures { IsTrue result ↔ IsPlainNumber word.now }
 {
     match word.first() {
         Some(b'+') => false,

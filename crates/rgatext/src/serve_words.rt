@@ -4,7 +4,7 @@ ghost use Rattle.std.specs.Prelude.{codes};
 ghost use Rattle.clap.specs.Words.{app_of, found_of, rows_of, rule_of, all_of};
 ghost use Rattle.clap.specs.declared.builder.command.Command.TheViews.{out-Command};
 ghost use Rattle.rgatext.specs.declared.plan.Plan.{Plan};
-ghost use Rattle.rgatext.specs.CommandLine.{serve, port_option, conns_option, name_words, AsksIn, AsksNothing, ReadsTo};
+ghost use Rattle.rgatext.specs.CommandLine.{serve_command, port_option, conns_option, name_words, AsksIn, AsksNothing, ReadsTo};
 
 use crate::command_line::{site_arg, site_in};
 use crate::plan::Plan;
@@ -13,7 +13,7 @@ use std::alloc::{AllocError, Global};
 
 // The subcommand as `clap` is told of it.
 pub(crate) fn serve_command<'a>(alloc: Global) -> Result<Command<'a>, AllocError>
-    ensures shape { IfOk result (λ made. app_of made ≡ serve) }
+    ensures shape { IfOk result (λ made. app_of made ≡ serve_command) }
     ensures local { IfOk result (λ made. (out-Command made).has_globals ≡ false) }
 {
     let port = port_arg(alloc);

@@ -26,7 +26,7 @@ use Rattle.shared_room.specs.declared.shared.SharedRoom.{SharedRoom}
 use Rattle.shared_room.specs.Trails.{made, trail_of, calls_of, opening_in}
 use Rattle.shared_room.specs.Views.{View, view_of, IsPassOf}
 use Rattle.opid.specs.declared.refusal.Refusal.{Refusal}
-use Rattle.shared_room.specs.Turns.{Replies, Records, Stays, TakesTurn, Keeps, Ends, Answers, Visits, Joins, Meets}
+use Rattle.shared_room.specs.Turns.{Replies, Records, Stays, TakesTurn, Keeps, EndsTurn, Answers, Visits, Joins, Meets}
 use Rattle.shared_room.proofs.Trails.{calls_prefix, calls_made, calls_append, legal_calls, short_calls, owns_calls, distinct_calls}
 
 -- ---- the trail after a call
@@ -153,7 +153,7 @@ mine_same : (s s' : Sight Item) → Begins s s' → calls_of s'.mine ≡ calls_o
 mine_same s s' b = ap calls_of b.mine
 
 pub answered_after : (o : State) (s s' : Sight Item) (w : View) (c : Call) (r : Result Reply Refusal) → Begins s s'
-    → Keeps (view_of s') w → Ends o (view_of s') w c r
+    → Keeps (view_of s') w → EndsTurn o (view_of s') w c r
     → IfOk r (λ reply. Answers o (view_of s) w c reply)
 answered_after o s s' w c (Ok reply) b k e = (
   takes_turn s s' w b k,
@@ -172,7 +172,7 @@ answered_after o s s' w c (Ok reply) b k e = (
 answered_after o s s' w c (Err why) b k e = tt
 
 pub memory_after : (o : State) (s s' : Sight Item) (w : View) (c : Call) (r : Result Reply Refusal) → Begins s s'
-    → Keeps (view_of s') w → Ends o (view_of s') w c r
+    → Keeps (view_of s') w → EndsTurn o (view_of s') w c r
     → r ≡ Err Memory → Visits (view_of s) w
 memory_after o s s' w c (Ok reply) b k e is = absurd (cc is)
 memory_after o s s' w c (Err why) b k e is = (takes_turn s s' w b k, record { seen = e.1.seen; mine = e.1.mine ∙ mine_same s s' b })

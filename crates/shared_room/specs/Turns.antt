@@ -46,9 +46,9 @@ abbrev pub Visits : View → View → Type 0
 Visits v w = TakesTurn v w × Stays v w
 
 -- a turn ended, from inside of it: the call was answered, or there was no memory
-abbrev pub Ends : State → View → View → Call → Result Reply Refusal → Type 0
-Ends opening v w c (Ok r) = Replies opening v w c r
-Ends opening v w c (Err e) = (e ≡ Memory) × Stays v w
+abbrev pub EndsTurn : State → View → View → Call → Result Reply Refusal → Type 0
+EndsTurn opening v w c (Ok r) = Replies opening v w c r
+EndsTurn opening v w c (Err e) = (e ≡ Memory) × Stays v w
 
 -- from inside a turn to its end
 pub record Keeps (v w : View) : Type 0 where

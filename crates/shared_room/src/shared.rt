@@ -7,7 +7,7 @@ ghost use Rattle.history_lock.specs.Locks as locks;
 ghost use Rattle.history_lock.specs.Locks.{sight, ticket_of};
 ghost use Rattle.shared_room.specs.Trails.{trail_of};
 ghost use Rattle.shared_room.specs.Views.{view, opening, IsPassOf, View};
-ghost use Rattle.shared_room.specs.Turns.{Answers, Visits, Loses, Joins, Meets, Ends, Keeps, given_away, newcomer};
+ghost use Rattle.shared_room.specs.Turns.{Answers, Visits, Loses, Joins, Meets, EndsTurn, Keeps, given_away, newcomer};
 
 use crate::kept::KeptRoom;
 use crate::pass::Pass;
@@ -161,7 +161,7 @@ impl SharedRoom {
         requires marked { mark hold.value.room.value.history ≤ ticket_of hold }
         requires most { ticket_of hold < 2 ^ 62 }
         ensures pass { IsPassOf self.now pass.new }
-        ensures ends { Ends (opening self.now) (view pass.old) (view pass.new) call result }
+        ensures ends { EndsTurn (opening self.now) (view pass.old) (view pass.new) call result }
         ensures keeps { Keeps (view pass.old) (view pass.new) }
     {
         let number = hold.ticket();

@@ -16,7 +16,7 @@ use Rattle.opid.specs.Lawful.{IsLawful, MayFollow, GoesOn}
 use Rattle.opid.proofs.Gathered.{rest_at}
 use Rattle.opid.proofs.Logs.{IsLawful-take, goes_on_after}
 use Rattle.wire_json.specs.Members.{◌>>=◌}
-use Rattle.wire_json.specs.Operations.{each, items_in, op_of}
+use Rattle.wire_json.specs.Operations.{each, items_told, op_of}
 use Rattle.wire_json.specs.PackedOperations.{ItemOffer, item_offer_of, item_sited, item_operations, concatenated, all_operations}
 use Rattle.snapshot.specs.Snapshot.{LacksSite, ops_told}
 use Rattle.snapshot.specs.Values.{value_told}
@@ -70,10 +70,10 @@ first_told false d ds = go (op_of d) (each op_of ds)
 
 -- the operations before, and those that the values tell
 abbrev pub told_from : Bool → List Operation → List Value → Option (List Operation)
-told_from runs front values = option_map (λ ys. front ++ ys) (result_ok (ops_told runs (items_in (items_view values))))
+told_from runs front values = option_map (λ ys. front ++ ys) (result_ok (ops_told runs (items_told (items_view values))))
 
-pub from_none : (runs : Bool) (vs : List Value) → told_from runs [] vs ≡ result_ok (ops_told runs (items_in (items_view vs)))
-from_none runs vs = go (result_ok (ops_told runs (items_in (items_view vs))))
+pub from_none : (runs : Bool) (vs : List Value) → told_from runs [] vs ≡ result_ok (ops_told runs (items_told (items_view vs)))
+from_none runs vs = go (result_ok (ops_told runs (items_told (items_view vs))))
   where
     go : (o : Option (List Operation)) → option_map (λ ys. [] ++ ys) o ≡ o
     go (Some ys) = refl
@@ -81,9 +81,9 @@ from_none runs vs = go (result_ok (ops_told runs (items_in (items_view vs))))
 
 told_at : (runs : Bool) (front : List Operation) (vs : List Value) (i : ℕ) (v : Value) → i < length vs → v ≡ get_or vs i v
     → told_from runs front (drop i vs) ≡ option_map (λ ys. front ++ ys)
-    (then (value_told runs (view v)) (result_ok (ops_told runs (items_in (items_view (drop (i + 1) vs))))))
+    (then (value_told runs (view v)) (result_ok (ops_told runs (items_told (items_view (drop (i + 1) vs))))))
 told_at runs front vs i v h at = ap (told_from runs front) (rest_at vs i v h at)
-    ∙ ap (option_map (λ ys. front ++ ys)) (first_told runs (view v) (items_in (items_view (drop (i + 1) vs))))
+    ∙ ap (option_map (λ ys. front ++ ys)) (first_told runs (view v) (items_told (items_view (drop (i + 1) vs))))
 
 regroup : (front ys : List Operation) (rest : Option (List Operation))
     → option_map (λ zs. front ++ zs) (then (Ok ys) rest) ≡ option_map (λ zs. (front ++ ys) ++ zs) rest
@@ -94,7 +94,7 @@ pub value_goes_on : (runs : Bool) (front : List Operation) (vs : List Value) (i 
     (total : Option (List Operation)) → i < length vs → v ≡ get_or vs i v → value_told runs (view v) ≡ Ok ys
     → told_from runs front (drop i vs) ≡ total → told_from runs (front ++ ys) (drop (i + 1) vs) ≡ total
 value_goes_on runs front vs i v ys total h at is so_far =
-    let rest = result_ok (ops_told runs (items_in (items_view (drop (i + 1) vs)))) in
+    let rest = result_ok (ops_told runs (items_told (items_view (drop (i + 1) vs)))) in
     sym (told_at runs front vs i v h at ∙ ap (λ r. option_map (λ zs. front ++ zs) (then r rest)) is ∙ regroup front ys rest) ∙ so_far
 
 pub all_told : (runs : Bool) (front : List Operation) (vs : List Value) (i : ℕ) (total : Result (List Operation) Refusal)
@@ -115,7 +115,7 @@ pub refuted : (runs : Bool) (front : List Operation) (vs : List Value) (i : ℕ)
     → v ≡ get_or vs i v → told_from runs front (drop i vs) ≡ Some log → IsLawful log → length log ≤ 131072
     → ((xs : List Operation) → value_told runs (view v) ≡ Ok xs → GoesOn front xs → length front + length xs ≤ 131072 → ⊥) → ⊥
 refuted runs front vs i v log h at so_far lawful few not =
-    go (value_told runs (view v)) (result_ok (ops_told runs (items_in (items_view (drop (i + 1) vs))))) refl
+    go (value_told runs (view v)) (result_ok (ops_told runs (items_told (items_view (drop (i + 1) vs))))) refl
     (sym (told_at runs front vs i v h at) ∙ so_far)
   where
     may : (ys zs : List Operation) → value_told runs (view v) ≡ Ok ys → (front ++ ys) ++ zs ≡ log → ⊥

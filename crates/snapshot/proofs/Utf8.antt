@@ -11,10 +11,10 @@ use Rattle.opid.specs.declared.kind.OpKind.{OpKind}
 use Rattle.opid.specs.declared.kind.OpKind.TheVariants.{Ins, Del}
 use Rattle.opid.specs.Operations.{Operation}
 use Rattle.causal_clock.specs.Kinds.{IsClock}
-use Rattle.wire_json.specs.Text.{IsStampInRange, IsKindInRange, quote, more, listed, pairs_of, pair_text, clock_text, stamp_text}
+use Rattle.wire_json.specs.Text.{IsStampInRange, IsKindInRange, quote, more, in_brackets, pairs_of, pair_text, clock_text, stamp_text}
 use Rattle.wire_json.specs.Text.{parent_text}
 use Rattle.wire_json.specs.Text.{op_text_of, item_text_of, item_text, packed_text}
-use Rattle.wire_json.specs.Packing.{Item, packed}
+use Rattle.wire_json.specs.Packing.{Item, packed_items}
 use Rattle.wire_json.proofs.PackedBack.{IsPacked, are_packed, more_scalars, run_scalars}
 use Rattle.wire_json.proofs.Pairs.{pairs_small}
 use Rattle.snapshot.specs.Snapshot.{AreInRange, log_text}
@@ -35,7 +35,7 @@ more_texts : (ts : List (List ℕ)) → AllByRecursion IsUtf8 ts → IsUtf8 (mor
 more_texts [] h = IsUtf8-nil
 more_texts (t ∷ ts) h = all_texts (codes ",") (t ∷ more ts ∷ []) (IsUtf8-are_ascii _ refl) (h.0, (more_texts ts h.1, tt))
 
-listed_texts : (ts : List (List ℕ)) → AllByRecursion IsUtf8 ts → IsUtf8 (listed ts)
+listed_texts : (ts : List (List ℕ)) → AllByRecursion IsUtf8 ts → IsUtf8 (in_brackets ts)
 listed_texts [] h = IsUtf8-are_ascii (codes "[]") refl
 listed_texts (t ∷ ts) h =
     all_texts (codes "[") (t ∷ more ts ∷ codes "]" ∷ []) (IsUtf8-are_ascii _ refl) (h.0, (more_texts ts h.1, (IsUtf8-are_ascii _ refl, tt)))
@@ -125,4 +125,4 @@ each_text (i ∷ items) h =
 pub IsUtf8-log_text : (log : List Operation) → AreInRange log → IsUtf8 (log_text log)
 IsUtf8-log_text log h =
     all_texts (codes "{\"format\":2,\"ops\":") (packed_text log ∷ codes "}" ∷ []) (IsUtf8-are_ascii _ refl)
-    (listed_texts (map item_text (packed log)) (each_text (packed log) (are_packed log h)), (IsUtf8-are_ascii _ refl, tt))
+    (listed_texts (map item_text (packed_items log)) (each_text (packed_items log) (are_packed log h)), (IsUtf8-are_ascii _ refl, tt))

@@ -18,7 +18,7 @@ use Rattle.serde_json.proofs.Texts.{print-outline}
 use Rattle.opid.specs.Operations.{Operation}
 use Rattle.wire_json.specs.Members.{◌>>=◌}
 use Rattle.opid.specs.Lawful.{IsLawful}
-use Rattle.wire_json.specs.Packing.{packed}
+use Rattle.wire_json.specs.Packing.{packed_items}
 use Rattle.wire_json.specs.Text.{item_text, packed_text}
 use Rattle.wire_json.specs.Written.{each_data, item_data}
 use Rattle.wire_json.proofs.ListTexts.{regroup_3, list_compact}
@@ -29,24 +29,25 @@ use Rattle.snapshot.specs.Snapshot.{AreInRange, StandsFor, told_by, log_text}
 
 abbrev log_data : List Operation → Data
 log_data log =
-    object (member (codes "format") (number (unsigned 2)) (member (codes "ops") (array (each_data item_data (packed log))) no_members))
+    object (member (codes "format") (number (unsigned 2))
+    (member (codes "ops") (array (each_data item_data (packed_items log))) no_members))
 
 compact : (log : List Operation) → compact_text (log_data log) ≡ log_text log
 unfolding escape_byte
 compact log =
     ap (λ l. codes "{\"format\":" ++ (decimal 2 ++ (codes ",\"ops\":" ++ (l ++ codes "}"))))
-    (list_compact item_data item_text item_compact (packed log))
+    (list_compact item_data item_text item_compact (packed_items log))
     ∙ ap (λ d. codes "{\"format\":" ++ (d ++ (codes ",\"ops\":" ++ (packed_text log ++ codes "}")))) (decimal_digit 2 (lit< tt))
     ∙ regroup_3 (codes "{\"format\":2,\"ops\":") (packed_text log) (codes "}")
 
 numbers : (log : List Operation) → AreInRange log → HasNumbers (outline (log_data log))
-numbers log h = (IsNumber-decimal 2 (lit< tt), (items_numbers (packed log) (are_packed log h), tt))
+numbers log h = (IsNumber-decimal 2 (lit< tt), (items_numbers (packed_items log) (are_packed log h), tt))
 
 shallow : (log : List Operation) → depth (outline (log_data log)) ≤ max_depth
-shallow log = omega (arith, items_shallow (packed log))
+shallow log = omega (arith, items_shallow (packed_items log))
 
 value_read : (log : List Operation) → AreInRange log → of_json (outline (log_data log)) ≡ Some (log_data log)
-value_read log h = rw (number_of-decimal 2 (lit< tt)) (rw (items_read (packed log) (are_packed log h)) refl)
+value_read log h = rw (number_of-decimal 2 (lit< tt)) (rw (items_read (packed_items log) (are_packed log h)) refl)
 
 -- the value of a tree that no token follows
 abbrev whole : Option (json.Json × List Token) → Option Data

@@ -4,7 +4,7 @@ ghost use Rattle.serde_json.specs.View.{view, items_view};
 ghost use Rattle.opid.specs.declared.refusal.Refusal.TheVariants.{Memory, BadSnapshot, SiteUsed};
 ghost use Rattle.opid.specs.Operations.{Operation};
 ghost use Rattle.opid.specs.Lawful.{IsLawful, MayFollow, GoesOn};
-ghost use Rattle.wire_json.specs.Operations.{items_in};
+ghost use Rattle.wire_json.specs.Operations.{items_told};
 ghost use Rattle.snapshot.specs.Snapshot.{StandsFor, StandsForNone, LacksSite, HasSite, format_of, ops_told};
 ghost use Rattle.snapshot.specs.Values.{value_told};
 
@@ -78,12 +78,12 @@ fn read_format(value: &Value) -> Result<bool, Refusal>
 
 // The document of the operations that the values tell, each after those before it.
 fn integrate_all(alloc: Global, values: &[Value], runs: bool) -> Result<Doc, Refusal>
-    ensures told { IfOk result (λ doc. ops_told runs (items_in (items_view values.now)) ≡ Ok doc.log) }
+    ensures told { IfOk result (λ doc. ops_told runs (items_told (items_view values.now)) ≡ Ok doc.log) }
     ensures lawful { IfOk result (λ doc. IsLawful doc.log) }
     ensures few { IfOk result (λ doc. length doc.log ≤ 131072) }
     ensures unreserved { IfOk result (λ doc. doc.room ≡ 0) }
     ensures cause { IfErr result (λ e. (e ≡ Memory)
-        ⊎ ((log : List Operation) → ops_told runs (items_in (items_view values.now)) ≡ Ok log → IsLawful log → length log ≤ 131072 → ⊥)) }
+        ⊎ ((log : List Operation) → ops_told runs (items_told (items_view values.now)) ≡ Ok log → IsLawful log → length log ≤ 131072 → ⊥)) }
 {
     let mut doc = Doc::new(alloc);
     for value in values {

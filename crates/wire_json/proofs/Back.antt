@@ -11,8 +11,8 @@ use Rattle.opid.specs.Clocks.{entry}
 use Rattle.opid.specs.Operations.{Operation}
 use Rattle.causal_clock.specs.Kinds.{IsClock, IsOperation}
 use Rattle.wire_json.specs.Members.{◌>>=◌}
-use Rattle.wire_json.specs.Operations.{Offer, each, items_in, pair_of, stamp_told, parent_of, offer_of, site_of, sited_pair}
-use Rattle.wire_json.specs.Operations.{sited_kind, sited, counted, operation, op_of}
+use Rattle.wire_json.specs.Operations.{Offer, each, items_told, pair_of, stamp_told, parent_of, offer_of, site_of, sited_pair}
+use Rattle.wire_json.specs.Operations.{sited_kind, sited, with_clock, operation, op_of}
 use Rattle.wire_json.specs.Text.{IsStampInRange, IsKindInRange, pairs_of}
 use Rattle.wire_json.specs.Written.{each_data, two_data, pair_data, stamp_data, op_data_of, op_data}
 use Rattle.causal_clock.specs.Listing.{clock_told}
@@ -23,13 +23,14 @@ two_back : (m n : ℕ) → m < 2 ^ 32 → n < 2 ^ 32 → pair_of (two_data m n) 
 two_back m n h k = rw (lt-ltb m (2 ^ 32) h) (rw (lt-ltb n (2 ^ 32) k) refl)
 
 pub pairs_back : (ps : List (ℕ × ℕ)) → Each (λ p. (p.0 < 2 ^ 32) × (p.1 < 2 ^ 32)) ps
-    → each pair_of (items_in (each_data pair_data ps)) ≡ Ok ps
+    → each pair_of (items_told (each_data pair_data ps)) ≡ Ok ps
 pairs_back [] h = refl
 pairs_back (p ∷ ps) h = step (pairs_back ps h.1)
   where
-    step : each pair_of (items_in (each_data pair_data ps)) ≡ Ok ps → each pair_of (items_in (each_data pair_data (p ∷ ps))) ≡ Ok (p ∷ ps)
+    step : each pair_of (items_told (each_data pair_data ps)) ≡ Ok ps
+        → each pair_of (items_told (each_data pair_data (p ∷ ps))) ≡ Ok (p ∷ ps)
     step rest =
-        ap (λ r. r >>= λ y. each pair_of (items_in (each_data pair_data ps)) >>= λ ys. Ok (y ∷ ys)) (two_back p.0 p.1 h.0.0 h.0.1)
+        ap (λ r. r >>= λ y. each pair_of (items_told (each_data pair_data ps)) >>= λ ys. Ok (y ∷ ys)) (two_back p.0 p.1 h.0.0 h.0.1)
         ∙ ap (λ r. r >>= λ ys. Ok (p ∷ ys)) rest
 
 stamp_back : (s : Stamp) → IsStampInRange s → stamp_told (stamp_data s) ≡ Ok s
@@ -86,13 +87,13 @@ sited_back s clock kind h r =
 clock_back : (clock : List ℕ) → IsClock clock → clock_told (pairs_of clock) ≡ Ok clock
 clock_back clock h = rw (tells (pairs_of clock) (listing_of clock h)) (ap Ok (clock_with_pairs clock h))
 
-counted_back : (s : ℕ) (clock : List ℕ) (kind : OpKind) → 0 < entry clock s
-    → counted s clock kind ≡ Ok (record { site = s; clock = clock; kind = kind })
-counted_back s clock kind h = rw (lt-ltb 0 (entry clock s) h) refl
+with_clock_back : (s : ℕ) (clock : List ℕ) (kind : OpKind) → 0 < entry clock s
+    → with_clock s clock kind ≡ Ok (record { site = s; clock = clock; kind = kind })
+with_clock_back s clock kind h = rw (lt-ltb 0 (entry clock s) h) refl
 
 pub operation_back : (s : ℕ) (clock : List ℕ) (kind : OpKind) → IsClock clock → 0 < entry clock s
     → operation (offer_with s clock kind) ≡ Ok (record { site = s; clock = clock; kind = kind })
-operation_back s clock kind h own = ap (λ m. m >>= λ c. counted s c kind) (clock_back clock h) ∙ counted_back s clock kind own
+operation_back s clock kind h own = ap (λ m. m >>= λ c. with_clock s c kind) (clock_back clock h) ∙ with_clock_back s clock kind own
 
 pub op_back : (x : Operation) → IsOperation x → IsKindInRange x.kind → op_of (op_data x) ≡ Ok x
 op_back x h r =

@@ -27,7 +27,7 @@ use Rattle.wire_json.specs.declared.flat.Primitive.TheVariants.{Number, Text}
 use Rattle.wire_json.specs.declared.flat.Member.{Member}
 use Rattle.wire_json.specs.declared.flat.Next.TheVariants as nexts
 use Rattle.wire_json.specs.Members.{or_refuse, are_among, only_keys}
-use Rattle.wire_json.specs.Operations.{items_in, list_at}
+use Rattle.wire_json.specs.Operations.{items_told, list_at}
 use Rattle.wire_json.specs.Request.{json_of}
 use Rattle.wire_json.proofs.Steps.{json_read}
 use Rattle.wire_json.specs.Flat.{lone_value, value_of_tokens, primitive_data, put_all, flat_data, are_of}
@@ -158,7 +158,7 @@ no_lists q [] old none = none
 no_lists q (m ∷ ms) old none = no_lists q ms (put m.key.now (primitive_data m.value) old) (no_list_put q m.key.now m.value old none)
 
 pub no_list : (q : List ℕ) (ms : List Member) → list_at q (flat_data ms) ≡ Err BadField
-no_list q ms = ap (λ o. or_refuse BadField (option_map items_in o)) (no_lists q ms no_members refl)
+no_list q ms = ap (λ o. or_refuse BadField (option_map items_told o)) (no_lists q ms no_members refl)
 
 -- ---- the keys
 

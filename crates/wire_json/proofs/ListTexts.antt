@@ -2,7 +2,7 @@
 use Rattle.std.proofs.Common.{◌≡◌, ℕ, List, [], ◌∷◌, ◌++◌, map, true, refl, ap₂, ◌∙◌, append_assoc}
 use Rattle.serde_json.specs.Data.{Data, array}
 use Rattle.serde_json.specs.Written.{compact_text, items_text}
-use Rattle.wire_json.specs.Text.{more, listed}
+use Rattle.wire_json.specs.Text.{more, in_brackets}
 use Rattle.wire_json.specs.Written.{each_data}
 
 pub regroup_3 : (a b c : List ℕ) → a ++ (b ++ c) ≡ a ++ b ++ c
@@ -25,7 +25,7 @@ more_compact f t e [] = refl
 more_compact f t e (x ∷ xs) = ap₂ (λ y m. 44 ∷ (y ++ m)) (e x) (more_compact f t e xs) ∙ regroup_item (44 ∷ []) (t x) (more (map t xs))
 
 pub list_compact : {A : Type 0} (f : A → Data) (t : A → List ℕ) → ((x : A) → compact_text (f x) ≡ t x) → (xs : List A)
-    → compact_text (array (each_data f xs)) ≡ listed (map t xs)
+    → compact_text (array (each_data f xs)) ≡ in_brackets (map t xs)
 list_compact f t e [] = refl
 list_compact f t e (x ∷ xs) = ap₂ (λ y m. 91 ∷ (y ++ m)) (e x) (more_compact f t e xs) ∙ regroup_first (t x) (more (map t xs))
   where

@@ -16,10 +16,11 @@ use Rattle.opid.specs.declared.kind.OpKind.TheVariants.{Ins, Del}
 use Rattle.opid.specs.Operations.{Operation}
 use Rattle.causal_clock.specs.Kinds.{IsClock, IsOperation}
 use Rattle.wire_json.specs.Members.{◌>>=◌}
-use Rattle.wire_json.specs.Operations.{each, items_in}
-use Rattle.wire_json.specs.Packing.{next, following, Item, unfolded, unfolded_all, last_of, is_insertion, char_of, is_next, joins, alone}
-use Rattle.wire_json.specs.Packing.{with_one_more, packed_behind, packed}
-use Rattle.wire_json.specs.PackedOperations.{ItemOffer, lone, item_offer_of, item_sited, following_if_counted, item_operations}
+use Rattle.wire_json.specs.Operations.{each, items_told}
+use Rattle.wire_json.specs.Packing.{typed_next, typed_behind, Item, unfolded, unfolded_all, last_typed, is_insertion}
+use Rattle.wire_json.specs.Packing.{inserted_character, is_typed_next, joins, alone}
+use Rattle.wire_json.specs.Packing.{with_one_more, packed_behind, packed_items}
+use Rattle.wire_json.specs.PackedOperations.{ItemOffer, lone, item_offer_of, item_sited, unfolded_if_counted, item_operations}
 use Rattle.wire_json.specs.PackedOperations.{concatenated, packed_ops_of}
 use Rattle.wire_json.specs.Text.{IsOperationInRange, IsKindInRange, pairs_of}
 use Rattle.wire_json.specs.Written.{each_data, op_data_of, run_data_of, item_data_of, item_data}
@@ -45,15 +46,15 @@ IsPacked-alone x h = record { few = omega arith; behind = λ z. absurd (omega ar
 
 IsPacked-more : (i : Item) (y : Operation) → IsPacked i → IsOperationInRange y → joins i y ≡ true → IsPacked (with_one_more i y)
 IsPacked-more i y p h e =
-    let both = and_parts (nat_lt (length i.more + 1) 64) (is_next (last_of i.first i.more) y) e in
-    let insertion = and_parts (is_insertion (last_of i.first i.more).kind) _ both.1 in
+    let both = and_parts (nat_lt (length i.more + 1) 64) (is_typed_next (last_typed i.first i.more) y) e in
+    let insertion = and_parts (is_insertion (last_typed i.first i.more).kind) _ both.1 in
     record {
-      few = omega (arith, ltb-true (length i.more + 1) 64 both.0, length-append i.more (char_of y.kind ∷ []));
+      few = omega (arith, ltb-true (length i.more + 1) 64 both.0, length-append i.more (inserted_character y.kind ∷ []));
       behind = λ z. first i.first i.more insertion.0 p.behind;
       range = subst (Each IsOperationInRange) (sym (unfolded-more i y e)) (Each-push IsOperationInRange (unfolded i) y p.range h);
     }
   where
-    first : (x : Operation) (cs : List ℕ) → is_insertion (last_of x cs).kind ≡ true → (0 < length cs → is_insertion x.kind ≡ true)
+    first : (x : Operation) (cs : List ℕ) → is_insertion (last_typed x cs).kind ≡ true → (0 < length cs → is_insertion x.kind ≡ true)
         → is_insertion x.kind ≡ true
     first x [] e b = e
     first x (c ∷ cs) e b = b (omega arith)
@@ -69,7 +70,7 @@ packed-behind i (y ∷ ys) p h =
     go true e joined apart = joined (IsPacked-more i y p h.0 e)
     go false e joined apart = (p, apart)
 
-pub are_packed : (ops : List Operation) → Each IsOperationInRange ops → Each IsPacked (packed ops)
+pub are_packed : (ops : List Operation) → Each IsOperationInRange ops → Each IsPacked (packed_items ops)
 are_packed [] h = tt
 are_packed (x ∷ xs) h = packed-behind (alone x) xs (IsPacked-alone x h.0) h.1
 
@@ -79,14 +80,15 @@ scalars_both : (c : ℕ) (cs : List ℕ) → IsTrue (all_scalars (c ∷ [])) →
 scalars_both c cs h k = and_from _ (all_scalars cs) (and_parts _ (all_scalars []) h).0 k
 
 -- the characters are Unicode scalar values
-pub more_scalars : (x : Operation) (cs : List ℕ) → Each IsOperationInRange (following x cs) → IsTrue (all_scalars cs)
+pub more_scalars : (x : Operation) (cs : List ℕ) → Each IsOperationInRange (typed_behind x cs) → IsTrue (all_scalars cs)
 more_scalars x [] h = refl
-more_scalars x (c ∷ cs) h = scalars_both c cs h.0.1.1 (more_scalars (next x c) cs h.1)
+more_scalars x (c ∷ cs) h = scalars_both c cs h.0.1.1 (more_scalars (typed_next x c) cs h.1)
 
 -- the clock of the last one tells that none is above the limit
-pub last_sum : (x : Operation) (cs : List ℕ) → IsOperation x → Each IsOperationInRange (following x cs) → sum x.clock + length cs ≤ 131072
+pub last_sum : (x : Operation) (cs : List ℕ) → IsOperation x → Each IsOperationInRange (typed_behind x cs)
+    → sum x.clock + length cs ≤ 131072
 last_sum x [] o h = omega (arith, o.limit)
-last_sum x (c ∷ cs) o h = omega (arith, last_sum (next x c) cs h.0.0 h.1, sum-raised x.clock x.site (omega (arith, o.site, o.width)))
+last_sum x (c ∷ cs) o h = omega (arith, last_sum (typed_next x c) cs h.0.0 h.1, sum-raised x.clock x.site (omega (arith, o.site, o.width)))
 
 -- ---- reading an item back
 
@@ -133,15 +135,15 @@ sited_item_back i p =
     ap (λ r. r >>= λ f. Ok (record { first = f; more = i.more }))
     (sited_back i.first.site i.first.clock i.first.kind p.range.0.0.site p.range.0.1)
 
-following_counted : (x : Operation) (cs : List ℕ) → sum x.clock + length cs ≤ 131072 → following_if_counted x cs ≡ Ok (x ∷ following x cs)
-following_counted x cs h = rw (le-leb (sum x.clock + length cs) 131072 h) refl
+unfolded_counted : (x : Operation) (cs : List ℕ) → sum x.clock + length cs ≤ 131072 → unfolded_if_counted x cs ≡ Ok (x ∷ typed_behind x cs)
+unfolded_counted x cs h = rw (le-leb (sum x.clock + length cs) 131072 h) refl
 
 item_operations_back : (i : Item) → IsPacked i → item_operations (offer_for i.first i.more) ≡ Ok (unfolded i)
 item_operations_back i p =
     let o : IsOperation i.first = p.range.0.0 in
-    ap (λ r. r >>= λ x. following_if_counted x i.more)
+    ap (λ r. r >>= λ x. unfolded_if_counted x i.more)
     (operation_back i.first.site i.first.clock i.first.kind (record { width = o.width; limit = o.limit }) o.own)
-    ∙ following_counted i.first i.more (last_sum i.first i.more o p.range.1)
+    ∙ unfolded_counted i.first i.more (last_sum i.first i.more o p.range.1)
 
 -- ---- and lists of them
 
@@ -153,17 +155,18 @@ each_back P f g h back (x ∷ xs) e = step (each_back P f g h back xs e.1)
     step : each f (map g xs) ≡ Ok (map h xs) → each f (map g (x ∷ xs)) ≡ Ok (map h (x ∷ xs))
     step rest = ap (λ r. r >>= λ y. each f (map g xs) >>= λ ys. Ok (y ∷ ys)) (back x e.0) ∙ ap (λ r. r >>= λ ys. Ok (h x ∷ ys)) rest
 
-items_in-map : {A : Type 0} (f : A → Data) (xs : List A) → items_in (each_data f xs) ≡ map f xs
-items_in-map f [] = refl
-items_in-map f (x ∷ xs) = ap (λ ds. f x ∷ ds) (items_in-map f xs)
+items_told-map : {A : Type 0} (f : A → Data) (xs : List A) → items_told (each_data f xs) ≡ map f xs
+items_told-map f [] = refl
+items_told-map f (x ∷ xs) = ap (λ ds. f x ∷ ds) (items_told-map f xs)
 
 concatenated-unfolded : (items : List Item) → concatenated (map unfolded items) ≡ unfolded_all items
 concatenated-unfolded items = flat_map-map (λ xs. xs) unfolded items
 
-pub items_back : (items : List Item) → Each IsPacked items → packed_ops_of (items_in (each_data item_data items)) ≡ Ok (unfolded_all items)
+pub items_back : (items : List Item) → Each IsPacked items
+    → packed_ops_of (items_told (each_data item_data items)) ≡ Ok (unfolded_all items)
 items_back items h =
     let offer : Item → ItemOffer = λ i. offer_for i.first i.more in
-    ap (λ ds. packed_ops_of ds) (items_in-map item_data items)
+    ap (λ ds. packed_ops_of ds) (items_told-map item_data items)
     ∙ ap (λ r. r >>= λ os. each item_sited os >>= λ here. each item_operations here >>= λ lists. Ok (concatenated lists))
     (each_back IsPacked item_offer_of item_data offer item_back items h)
     ∙ ap (λ r. r >>= λ here. each item_operations here >>= λ lists. Ok (concatenated lists))
@@ -173,5 +176,5 @@ items_back items h =
 
 -- what is packed is read back as it was
 pub packed_back : (ops : List Operation) → Each IsOperationInRange ops
-    → packed_ops_of (items_in (each_data item_data (packed ops))) ≡ Ok ops
-packed_back ops h = items_back (packed ops) (are_packed ops h) ∙ ap Ok (unfolds ops)
+    → packed_ops_of (items_told (each_data item_data (packed_items ops))) ≡ Ok ops
+packed_back ops h = items_back (packed_items ops) (are_packed ops h) ∙ ap Ok (unfolds ops)

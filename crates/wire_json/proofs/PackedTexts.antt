@@ -16,8 +16,8 @@ use Rattle.opid.specs.declared.kind.OpKind.{OpKind}
 use Rattle.opid.specs.declared.kind.OpKind.TheVariants.{Ins, Del}
 use Rattle.opid.specs.Operations.{Operation}
 use Rattle.causal_clock.specs.Kinds.{IsClock, IsOperation}
-use Rattle.wire_json.specs.Operations.{items_in}
-use Rattle.wire_json.specs.Packing.{Item, packed}
+use Rattle.wire_json.specs.Operations.{items_told}
+use Rattle.wire_json.specs.Packing.{Item, packed_items}
 use Rattle.wire_json.specs.PackedOperations.{packed_ops_of}
 use Rattle.wire_json.specs.Text.{IsOperationInRange, IsKindInRange, pairs_of, quote, clock_text, parent_text, run_text_of, item_text_of}
 use Rattle.wire_json.specs.Text.{item_text, packed_text}
@@ -108,36 +108,36 @@ items_read (i ∷ items) h = rw (read_of i.first i.first.kind i.more h.0.range.0
 
 -- the outlines of packed operations tell them
 pub one_outline : (xs ys : List Operation) → Each IsOperationInRange xs → Each IsOperationInRange ys
-    → items_outline (each_data item_data (packed xs)) ≡ items_outline (each_data item_data (packed ys)) → xs ≡ ys
+    → items_outline (each_data item_data (packed_items xs)) ≡ items_outline (each_data item_data (packed_items ys)) → xs ≡ ys
 one_outline xs ys h k e =
-    let first = items_read (packed xs) (are_packed xs h) in
-    let second : of_items (items_outline (each_data item_data (packed xs))) ≡ Some (each_data item_data (packed ys)) =
-    ap of_items e ∙ items_read (packed ys) (are_packed ys k) in
-    let same : each_data item_data (packed xs) ≡ each_data item_data (packed ys) = cc in
+    let first = items_read (packed_items xs) (are_packed xs h) in
+    let second : of_items (items_outline (each_data item_data (packed_items xs))) ≡ Some (each_data item_data (packed_items ys)) =
+    ap of_items e ∙ items_read (packed_items ys) (are_packed ys k) in
+    let same : each_data item_data (packed_items xs) ≡ each_data item_data (packed_items ys) = cc in
     let told_first = packed_back xs h in
-    let told_second : packed_ops_of (items_in (each_data item_data (packed xs))) ≡ Ok ys =
-    ap (λ ds. packed_ops_of (items_in ds)) same ∙ packed_back ys k in
+    let told_second : packed_ops_of (items_told (each_data item_data (packed_items xs))) ≡ Ok ys =
+    ap (λ ds. packed_ops_of (items_told ds)) same ∙ packed_back ys k in
     cc
 
 -- ---- the whole text
 
 abbrev list_data : List Operation → Data
-list_data ops = array (each_data item_data (packed ops))
+list_data ops = array (each_data item_data (packed_items ops))
 
 list_read : (ops : List Operation) → Each IsOperationInRange ops → read (packed_text ops) ≡ Some (list_data ops)
 list_read ops h =
-    let packs : Each IsPacked (packed ops) = are_packed ops h in
-    let shallow : depth (outline (list_data ops)) ≤ max_depth = omega (arith, items_shallow (packed ops)) in
-    text_read (list_data ops) (packed_text ops) (list_compact item_data item_text item_compact (packed ops))
-    (items_numbers (packed ops) packs) shallow
+    let packs : Each IsPacked (packed_items ops) = are_packed ops h in
+    let shallow : depth (outline (list_data ops)) ≤ max_depth = omega (arith, items_shallow (packed_items ops)) in
+    text_read (list_data ops) (packed_text ops) (list_compact item_data item_text item_compact (packed_items ops))
+    (items_numbers (packed_items ops) packs) shallow
     ∙ array_read ops packs
   where
-    array_read : (ops : List Operation) → Each IsPacked (packed ops) → of_json (outline (list_data ops)) ≡ Some (list_data ops)
-    array_read ops packs = rw (items_read (packed ops) packs) refl
+    array_read : (ops : List Operation) → Each IsPacked (packed_items ops) → of_json (outline (list_data ops)) ≡ Some (list_data ops)
+    array_read ops packs = rw (items_read (packed_items ops) packs) refl
 
 -- the operations that a text of a list tells
 abbrev told : Option Data → Option (Result (List Operation) Refusal)
-told d = option_map (λ ds. packed_ops_of (items_in ds)) (option_and_then as_array d)
+told d = option_map (λ ds. packed_ops_of (items_told ds)) (option_and_then as_array d)
 
 reads_back : (ops : List Operation) → Each IsOperationInRange ops → told (read (packed_text ops)) ≡ Some (Ok ops)
 reads_back ops h = ap told (list_read ops h) ∙ ap Some (packed_back ops h)

@@ -9,31 +9,31 @@ use Rattle.serde_json.specs.Data.{array}
 use Rattle.opid.specs.Operations.{Operation}
 use Rattle.opid.proofs.Counts.{sum-raised}
 use Rattle.causal_clock.specs.Kinds.{IsOperation}
-use Rattle.wire_json.specs.Packing.{Item, next, last_of, is_next, joins, char_of, packed_behind}
+use Rattle.wire_json.specs.Packing.{Item, typed_next, last_typed, is_typed_next, joins, inserted_character, packed_behind}
 use Rattle.wire_json.specs.Written.{tokens_of, each_data, item_data}
 use Rattle.wire_json.proofs.Lists.{each_tokens, bracketed}
-use Rattle.wire_json.proofs.Packed.{is_next-next}
+use Rattle.wire_json.proofs.Packed.{is_typed_next-typed_next}
 
 -- no operation follows one whose clock is at the limit
-pub not_next : (x y : Operation) → 131072 ≤ sum x.clock → IsOperation x → IsOperation y → is_next x y ≡ false
-not_next x y h o p = false_from_ne_true (is_next x y) (λ e. omega (
+pub not_next : (x y : Operation) → 131072 ≤ sum x.clock → IsOperation x → IsOperation y → is_typed_next x y ≡ false
+not_next x y h o p = false_from_ne_true (is_typed_next x y) (λ e. omega (
   arith,
   h,
   p.limit,
-  ap (λ (z : Operation). sum z.clock) (is_next-next x y e),
+  ap (λ (z : Operation). sum z.clock) (is_typed_next-typed_next x y e),
   sum-raised x.clock x.site (omega (arith, o.site, o.width)),
 ))
 
-last_of-push : (x : Operation) (cs : List ℕ) (c : ℕ) → last_of x (cs ++ c ∷ []) ≡ next (last_of x cs) c
-last_of-push x [] c = refl
-last_of-push x (d ∷ cs) c = last_of-push (next x d) cs c
+last_typed-push : (x : Operation) (cs : List ℕ) (c : ℕ) → last_typed x (cs ++ c ∷ []) ≡ typed_next (last_typed x cs) c
+last_typed-push x [] c = refl
+last_typed-push x (d ∷ cs) c = last_typed-push (typed_next x d) cs c
 
-pub pushed : (i : Item) (y : Operation) (ch : ℕ) (more : List ℕ) → joins i y ≡ true → char_of y.kind ≡ ch → more ≡ i.more ++ ch ∷ []
-    → y ≡ last_of i.first more
+pub pushed : (i : Item) (y : Operation) (ch : ℕ) (more : List ℕ) → joins i y ≡ true → inserted_character y.kind ≡ ch
+    → more ≡ i.more ++ ch ∷ [] → y ≡ last_typed i.first more
 pushed i y ch more e same is =
-    let both = and_parts (nat_lt (length i.more + 1) 64) (is_next (last_of i.first i.more) y) e in
-    is_next-next (last_of i.first i.more) y both.1 ∙ ap (next (last_of i.first i.more)) same ∙ sym (last_of-push i.first i.more ch)
-    ∙ ap (last_of i.first) (sym is)
+    let both = and_parts (nat_lt (length i.more + 1) 64) (is_typed_next (last_typed i.first i.more) y) e in
+    is_typed_next-typed_next (last_typed i.first i.more) y both.1
+    ∙ ap (typed_next (last_typed i.first i.more)) same ∙ sym (last_typed-push i.first i.more ch) ∙ ap (last_typed i.first) (sym is)
 
 -- ---- the loop
 

@@ -9,9 +9,9 @@ use Rattle.serde_json.specs.Written.{outline}
 use Rattle.serde_json.proofs.Numbers.{number_of-decimal}
 use Rattle.opid.specs.Operations.{Operation}
 use Rattle.room.specs.declared.reply.Reply.TheVariants.{Ops}
-use Rattle.wire_json.specs.Operations.{items_in}
-use Rattle.wire_json.specs.Packing.{packed}
-use Rattle.wire_json.specs.PackedOperations.{packed_ops_of, first_of, handed_over}
+use Rattle.wire_json.specs.Operations.{items_told}
+use Rattle.wire_json.specs.Packing.{packed_items}
+use Rattle.wire_json.specs.PackedOperations.{packed_ops_of, first_65_of, handed_over}
 use Rattle.wire_json.specs.Text.{IsInRange, text}
 use Rattle.wire_json.specs.Written.{part_data}
 use Rattle.wire_json.proofs.Read.{small, text_read}
@@ -21,27 +21,27 @@ use Rattle.wire_json.proofs.Texts.{compact, numbers}
 
 part_read : (place : ℕ) (ops : List Operation) → IsInRange (Ops place ops) → read (text (Ops place ops)) ≡ Some (part_data place ops)
 part_read place ops h =
-    let shallow : depth (outline (part_data place ops)) ≤ max_depth = omega (arith, items_shallow (packed ops)) in
+    let shallow : depth (outline (part_data place ops)) ≤ max_depth = omega (arith, items_shallow (packed_items ops)) in
     text_read (part_data place ops) (text (Ops place ops)) (compact (Ops place ops)) (numbers (Ops place ops) h) shallow
     ∙ tree place ops h
   where
     tree : (place : ℕ) (ops : List Operation) → IsInRange (Ops place ops)
         → of_json (outline (part_data place ops)) ≡ Some (part_data place ops)
     tree place ops h =
-        rw (number_of-decimal place (small place h.0)) (rw (items_read (packed ops) (are_packed ops h.1)) refl)
+        rw (number_of-decimal place (small place h.0)) (rw (items_read (packed_items ops) (are_packed ops h.1)) refl)
 
 -- the list at the key "ops"
 abbrev list_in : Option Data → Option Items
 list_in d = option_and_then as_array (option_and_then (get (codes "ops")) d)
 
 pub tells : (place : ℕ) (ops : List Operation) → IsInRange (Ops place ops)
-    → option_map (λ ds. packed_ops_of (items_in ds)) (list_in (read (text (Ops place ops)))) ≡ Some (Ok ops)
+    → option_map (λ ds. packed_ops_of (items_told ds)) (list_in (read (text (Ops place ops)))) ≡ Some (Ok ops)
 tells place ops h =
-    ap (λ d. option_map (λ ds. packed_ops_of (items_in ds)) (list_in d)) (part_read place ops h) ∙ ap Some (packed_back ops h.1)
+    ap (λ d. option_map (λ ds. packed_ops_of (items_told ds)) (list_in d)) (part_read place ops h) ∙ ap Some (packed_back ops h.1)
 
 pub hands_over : (place : ℕ) (ops : List Operation) → IsInRange (Ops place ops) → length ops ≤ 64
-    → option_map (λ ds. handed_over (items_in ds)) (list_in (read (text (Ops place ops)))) ≡ Some (Ok ops)
+    → option_map (λ ds. handed_over (items_told ds)) (list_in (read (text (Ops place ops)))) ≡ Some (Ok ops)
 hands_over place ops h few =
-    ap (λ d. option_map (λ ds. handed_over (items_in ds)) (list_in d)) (part_read place ops h)
-    ∙ ap (λ r. Some (first_of r)) (packed_back ops h.1)
+    ap (λ d. option_map (λ ds. handed_over (items_told ds)) (list_in d)) (part_read place ops h)
+    ∙ ap (λ r. Some (first_65_of r)) (packed_back ops h.1)
     ∙ ap (λ xs. Some (Ok xs)) (take_all 65 ops (omega (arith, few)))

@@ -31,9 +31,9 @@ use Rattle.opid.proofs.Told.{number_of-injective}
 use Rattle.wire_json.proofs.Read.{small}
 use Rattle.wire_json.proofs.PackedTexts.{item_compact, items_numbers, items_shallow, one_outline}
 use Rattle.wire_json.proofs.PackedBack.{are_packed}
-use Rattle.wire_json.specs.Text.{IsInRange, IsEditInRange, IsOutcomeInRange, outcome_text, quote, text, listed}
+use Rattle.wire_json.specs.Text.{IsInRange, IsEditInRange, IsOutcomeInRange, outcome_text, quote, text, in_brackets}
 use Rattle.wire_json.specs.Text.{edit_text, item_text, packed_text}
-use Rattle.wire_json.specs.Packing.{packed}
+use Rattle.wire_json.specs.Packing.{packed_items}
 use Rattle.wire_json.proofs.ListTexts.{regroup_3, regroup_5, regroup_7, list_compact}
 use Rattle.wire_json.specs.Written.{data_of, item_data, outcome_data, edit_data, each_data}
 
@@ -60,15 +60,15 @@ compact (Ok «from» to) = regroup_5 (codes "{\"from\":") (decimal «from») (co
 compact (Edits «from» es) =
     ap (λ l. codes "{\"es\":" ++ (l ++ (codes ",\"from\":" ++ (decimal «from» ++ codes ",\"r\":\"edits\"}"))))
     (list_compact edit_data edit_text edit_compact es)
-    ∙ regroup_5 (codes "{\"es\":") (listed (map edit_text es)) (codes ",\"from\":") (decimal «from») (codes ",\"r\":\"edits\"}")
+    ∙ regroup_5 (codes "{\"es\":") (in_brackets (map edit_text es)) (codes ",\"from\":") (decimal «from») (codes ",\"r\":\"edits\"}")
 compact Left = refl
 compact (Ops «from» ops) =
     ap (λ l. codes "{\"from\":" ++ (decimal «from» ++ (codes ",\"ops\":" ++ (l ++ codes ",\"r\":\"ops\"}"))))
-    (list_compact item_data item_text item_compact (packed ops))
+    (list_compact item_data item_text item_compact (packed_items ops))
     ∙ regroup_5 (codes "{\"from\":") (decimal «from») (codes ",\"ops\":") (packed_text ops) (codes ",\"r\":\"ops\"}")
 compact (Put os) =
     ap (λ l. codes "{\"os\":" ++ (l ++ codes ",\"r\":\"put\"}")) (list_compact outcome_data outcome_text outcome_compact os)
-    ∙ regroup_3 (codes "{\"os\":") (listed (map outcome_text os)) (codes ",\"r\":\"put\"}")
+    ∙ regroup_3 (codes "{\"os\":") (in_brackets (map outcome_text os)) (codes ",\"r\":\"put\"}")
 compact (Text v x) = regroup_5 (codes "{\"r\":\"text\",\"v\":") (decimal v) (codes ",\"x\":") (quote x) (codes "}")
 compact (No why) = regroup_3 (codes "{\"n\":") (decimal (number_of why)) (codes ",\"r\":\"no\"}")
 
@@ -128,7 +128,7 @@ numbers (Joined s v x) h = (tt, (IsNumber-decimal s (small s h.0), (IsNumber-dec
 numbers (Ok «from» to) h = (IsNumber-decimal «from» (small «from» h.0), (tt, (IsNumber-decimal to (small to h.1), tt)))
 numbers (Edits «from» es) h = (edit_numbers es h.1, (IsNumber-decimal «from» (small «from» h.0), (tt, tt)))
 numbers Left h = (tt, tt)
-numbers (Ops «from» ops) h = (IsNumber-decimal «from» (small «from» h.0), (items_numbers (packed ops) (are_packed ops h.1), (tt, tt)))
+numbers (Ops «from» ops) h = (IsNumber-decimal «from» (small «from» h.0), (items_numbers (packed_items ops) (are_packed ops h.1), (tt, tt)))
 numbers (Put os) h = (outcome_numbers os h, (tt, tt))
 numbers (Text v x) h = (tt, (IsNumber-decimal v (small v h.0), (tt, tt)))
 numbers (No why) h = (IsNumber-decimal (number_of why) (number_small why), (tt, tt))
@@ -152,7 +152,7 @@ shallow (Joined s v x) = lit≤ tt
 shallow (Ok «from» to) = lit≤ tt
 shallow (Edits «from» es) = omega (arith, edits_shallow es)
 shallow Left = lit≤ tt
-shallow (Ops «from» ops) = omega (arith, items_shallow (packed ops))
+shallow (Ops «from» ops) = omega (arith, items_shallow (packed_items ops))
 shallow (Put os) = omega (arith, outcomes_shallow os)
 shallow (Text v x) = lit≤ tt
 shallow (No why) = lit≤ tt

@@ -12,8 +12,8 @@ use Rattle.opid.specs.Operations.{Operation}
 use Rattle.opid.proofs.Gathered.{rest_at}
 use Rattle.wire_json.specs.Members.{◌>>=◌}
 use Rattle.wire_json.specs.Operations.{Offer, each, sited, operation}
-use Rattle.wire_json.specs.Packing.{next, following}
-use Rattle.wire_json.specs.PackedOperations.{ItemOffer, item_offer_of, item_sited, following_if_counted, item_operations}
+use Rattle.wire_json.specs.Packing.{typed_next, typed_behind}
+use Rattle.wire_json.specs.PackedOperations.{ItemOffer, item_offer_of, item_sited, unfolded_if_counted, item_operations}
 use Rattle.wire_json.specs.PackedOperations.{item_ops_of, concatenated, all_operations}
 use Rattle.wire_json.proofs.Loops.{with_front}
 
@@ -21,17 +21,18 @@ use Rattle.wire_json.proofs.Loops.{with_front}
 
 pub follows_more : (x : Operation) (items : List Operation) (cs : List ℕ) (i c : ℕ) (total : List Operation) → i < length cs
     → c ≡ get_or cs i c
-    → items ++ following x (drop i cs) ≡ total → (items ++ next x c ∷ []) ++ following (next x c) (drop (i + 1) cs) ≡ total
+    → items ++ typed_behind x (drop i cs) ≡ total
+    → (items ++ typed_next x c ∷ []) ++ typed_behind (typed_next x c) (drop (i + 1) cs) ≡ total
 follows_more x items cs i c total h e so_far =
-    append_assoc items (next x c ∷ []) (following (next x c) (drop (i + 1) cs))
-    ∙ ap (λ ds. items ++ following x ds) (sym rest) ∙ so_far
+    append_assoc items (typed_next x c ∷ []) (typed_behind (typed_next x c) (drop (i + 1) cs))
+    ∙ ap (λ ds. items ++ typed_behind x ds) (sym rest) ∙ so_far
   where
     rest : drop i cs ≡ c ∷ drop (i + 1) cs
     rest = drop-cons cs i c h ∙ ap (λ d. d ∷ drop (suc i) cs) (sym e) ∙ ap (λ n. c ∷ drop n cs) (sym (add-one i))
 
 pub follows_all : (x : Operation) (items : List Operation) (cs : List ℕ) (i : ℕ) (total : List Operation) → length cs ≤ i
-    → items ++ following x (drop i cs) ≡ total → items ≡ total
-follows_all x items cs i total h so_far = sym (append-nil items) ∙ ap (λ ds. items ++ following x ds) (sym (drop_all i cs h)) ∙ so_far
+    → items ++ typed_behind x (drop i cs) ≡ total → items ≡ total
+follows_all x items cs i total h so_far = sym (append-nil items) ∙ ap (λ ds. items ++ typed_behind x ds) (sym (drop_all i cs h)) ∙ so_far
 
 -- ---- the operations of items
 
@@ -66,20 +67,20 @@ all_goes_on front xs i x ys total h e is so_far =
 
 -- ---- how many operations an item has
 
-length-following : (x : Operation) (cs : List ℕ) → length (following x cs) ≡ length cs
-length-following x [] = refl
-length-following x (c ∷ cs) = omega (arith, length-following (next x c) cs)
+length-typed_behind : (x : Operation) (cs : List ℕ) → length (typed_behind x cs) ≡ length cs
+length-typed_behind x [] = refl
+length-typed_behind x (c ∷ cs) = omega (arith, length-typed_behind (typed_next x c) cs)
 
 pub item_length : (o : ItemOffer) (xs : List Operation) → item_operations o ≡ Ok xs → length xs ≡ length o.more + 1
 item_length o xs e = go (operation o.first) e
   where
-    counted : (x : Operation) (t : Bool) → cond t (Ok (x ∷ following x o.more)) (Err BadClock) ≡ Ok xs → length xs ≡ length o.more + 1
+    counted : (x : Operation) (t : Bool) → cond t (Ok (x ∷ typed_behind x o.more)) (Err BadClock) ≡ Ok xs → length xs ≡ length o.more + 1
     counted x true e =
-        let same : x ∷ following x o.more ≡ xs = cc in
-        omega (arith, ap (length {A = Operation}) same, length-following x o.more)
+        let same : x ∷ typed_behind x o.more ≡ xs = cc in
+        omega (arith, ap (length {A = Operation}) same, length-typed_behind x o.more)
     counted x false e = cc
 
-    go : (r : Result Operation Refusal) → (r >>= λ x. following_if_counted x o.more) ≡ Ok xs → length xs ≡ length o.more + 1
+    go : (r : Result Operation Refusal) → (r >>= λ x. unfolded_if_counted x o.more) ≡ Ok xs → length xs ≡ length o.more + 1
     go (Ok x) e = counted x (nat_le (sum x.clock + length o.more) 131072) e
     go (Err f) e = cc
 

@@ -45,9 +45,9 @@ abbrev pub below : ℕ → ℕ → Option ℕ
 below limit n = if nat_lt n limit then Some n else None
 
 -- a number: whole, from 0 to 4,294,967,295, written with no sign, fraction or exponent
-abbrev pub number_of : Option Data → Result ℕ Refusal
-number_of d = or_refuse BadField (option_and_then (below (2 ^ 32)) (option_and_then as_u64 (option_and_then as_number d)))
+abbrev pub number_told : Option Data → Result ℕ Refusal
+number_told d = or_refuse BadField (option_and_then (below (2 ^ 32)) (option_and_then as_u64 (option_and_then as_number d)))
 
 -- the number at a key
 abbrev pub number_at : List ℕ → Data → Result ℕ Refusal
-number_at key d = number_of (get key d)
+number_at key d = number_told (get key d)

@@ -16,9 +16,9 @@ abbrev pub stamp_with : ℕ × ℕ → Stamp
 stamp_with p = record { sum = p.0; site = p.1 }
 
 -- what an offered kind does
-abbrev pub kind_of : OfferedKind → OpKind
-kind_of (Ins parent ch) = kinds.Ins (option_map stamp_with parent) ch
-kind_of (Del target) = kinds.Del (stamp_with target)
+abbrev pub offered_kind : OfferedKind → OpKind
+offered_kind (Ins parent ch) = kinds.Ins (option_map stamp_with parent) ch
+offered_kind (Del target) = kinds.Del (stamp_with target)
 
 -- the pair that a value is, or zeros
 abbrev pub pair_in : Data → ℕ × ℕ

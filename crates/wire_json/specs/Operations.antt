@@ -14,7 +14,7 @@ use Rattle.opid.specs.declared.kind.OpKind.TheVariants.{Ins, Del}
 use Rattle.opid.specs.Clocks.{entry}
 use Rattle.opid.specs.Operations.{Operation}
 use Rattle.causal_clock.specs.Listing.{clock_told}
-use Rattle.wire_json.specs.Members.{◌>>=◌, or_refuse, below, only_keys, number_of, number_at, text_at}
+use Rattle.wire_json.specs.Members.{◌>>=◌, or_refuse, below, only_keys, number_told, number_at, text_at}
 
 -- an operation as it is offered: its site, the pairs of its clock, and what it does, with sites of any number
 pub record Offer : Type 0 where
@@ -30,13 +30,13 @@ each f [] = Ok []
 each f (x ∷ xs) = f x >>= λ y. each f xs >>= λ ys. Ok (y ∷ ys)
 
 -- the items as a list
-abbrev pub items_in : Items → List Data
-items_in no_items = []
-items_in (item d ds) = d ∷ items_in ds
+abbrev pub items_told : Items → List Data
+items_told no_items = []
+items_told (item d ds) = d ∷ items_told ds
 
 -- the list at a key
 abbrev pub list_at : List ℕ → Data → Result (List Data) Refusal
-list_at key d = or_refuse BadField (option_map items_in (option_and_then as_array (get key d)))
+list_at key d = or_refuse BadField (option_map items_told (option_and_then as_array (get key d)))
 
 -- ---- the members of an operation object
 
@@ -48,8 +48,8 @@ two ds = if items_len ds == 2 then Some tt else None
 abbrev pub pair_of : Data → Result (ℕ × ℕ) Refusal
 pair_of d = do
   both ← or_refuse BadField (option_and_then two (as_array d))
-  x ← number_of (at 0 d)
-  y ← number_of (at 1 d)
+  x ← number_told (at 0 d)
+  y ← number_told (at 1 d)
   Ok (x, y)
 
 -- a value that has to be there
@@ -71,26 +71,26 @@ abbrev pub only_char : List ℕ → Option ℕ
 only_char s = if length (chars s) == 1 then slice_get (chars s) 0 else None
 
 -- the one character of the text at a key
-abbrev pub char_at : List ℕ → Data → Result ℕ Refusal
-char_at key d = text_at key d >>= λ s. or_refuse BadField (only_char s)
+abbrev pub one_character_at : List ℕ → Data → Result ℕ Refusal
+one_character_at key d = text_at key d >>= λ s. or_refuse BadField (only_char s)
 
 -- ---- the kinds: each with its keys
 
 -- the insertion that an object offers
-abbrev pub insertion_of : Data → Result Offer Refusal
-insertion_of d = do
+abbrev pub offered_insertion : Data → Result Offer Refusal
+offered_insertion d = do
   keys ← only_keys (codes "c" ∷ codes "k" ∷ codes "p" ∷ codes "s" ∷ codes "x" ∷ []) d
   c ← list_at (codes "c") d
   pairs ← each pair_of c
   p ← present (get (codes "p") d)
   parent ← parent_of p
   s ← number_at (codes "s") d
-  x ← char_at (codes "x") d
+  x ← one_character_at (codes "x") d
   Ok (record { site = s; pairs = pairs; kind = Ins parent x })
 
 -- the deletion that an object offers
-abbrev pub deletion_of : Data → Result Offer Refusal
-deletion_of d = do
+abbrev pub offered_deletion : Data → Result Offer Refusal
+offered_deletion d = do
   keys ← only_keys (codes "c" ∷ codes "k" ∷ codes "s" ∷ codes "t" ∷ []) d
   c ← list_at (codes "c") d
   pairs ← each pair_of c
@@ -101,7 +101,8 @@ deletion_of d = do
 
 -- what an object of this kind offers
 abbrev pub offer_named : List ℕ → Data → Result Offer Refusal
-offer_named k d = if bytes_eq k (codes "i") then insertion_of d else (if bytes_eq k (codes "d") then deletion_of d else Err BadField)
+offer_named k d =
+    if bytes_eq k (codes "i") then offered_insertion d else (if bytes_eq k (codes "d") then offered_deletion d else Err BadField)
 
 -- what an operation object offers
 abbrev pub offer_of : Data → Result Offer Refusal
@@ -140,14 +141,14 @@ sited o = do
 -- ---- clocks
 
 -- the operation with the clock, which has to count it
-abbrev pub counted : ℕ → List ℕ → OpKind → Result Operation Refusal
-counted s clock kind = if nat_lt 0 (entry clock s) then Ok (record { site = s; clock = clock; kind = kind }) else Err BadClock
+abbrev pub with_clock : ℕ → List ℕ → OpKind → Result Operation Refusal
+with_clock s clock kind = if nat_lt 0 (entry clock s) then Ok (record { site = s; clock = clock; kind = kind }) else Err BadClock
 
 -- the operation that an offer tells, whose sites are sites
 abbrev pub operation : Offer → Result Operation Refusal
 operation o = do
   clock ← clock_told o.pairs
-  counted o.site clock o.kind
+  with_clock o.site clock o.kind
 
 -- ---- an operation object
 

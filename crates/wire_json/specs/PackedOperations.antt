@@ -11,7 +11,7 @@ use Rattle.opid.specs.declared.kind.OpKind.TheVariants.{Ins}
 use Rattle.opid.specs.Operations.{Operation}
 use Rattle.wire_json.specs.Members.{◌>>=◌, only_keys, number_at, text_at}
 use Rattle.wire_json.specs.Operations.{Offer, each, list_at, pair_of, present, parent_of, offer_named, sited, operation}
-use Rattle.wire_json.specs.Packing.{following}
+use Rattle.wire_json.specs.Packing.{typed_behind}
 
 -- an operation as it is offered, and the characters of the insertions that follow it
 pub record ItemOffer : Type 0 where
@@ -62,14 +62,14 @@ item_sited o = do
   Ok (record { first = first; more = o.more })
 
 -- an operation and those that follow it: none has a clock with a sum above 131,072
-abbrev pub following_if_counted : Operation → List ℕ → Result (List Operation) Refusal
-following_if_counted x cs = if nat_le (sum x.clock + length cs) 131072 then Ok (x ∷ following x cs) else Err BadClock
+abbrev pub unfolded_if_counted : Operation → List ℕ → Result (List Operation) Refusal
+unfolded_if_counted x cs = if nat_le (sum x.clock + length cs) 131072 then Ok (x ∷ typed_behind x cs) else Err BadClock
 
 -- the operations that an offer tells, whose sites are sites
 abbrev pub item_operations : ItemOffer → Result (List Operation) Refusal
 item_operations o = do
   x ← operation o.first
-  following_if_counted x o.more
+  unfolded_if_counted x o.more
 
 -- the operations that a JSON value by itself tells, an operation object or a run object
 abbrev pub item_ops_of : Data → Result (List Operation) Refusal
@@ -99,11 +99,11 @@ packed_ops_of ds = do
 
 -- of more than 64 operations, which a room refuses whatever they are, the first 65: so a few bytes that stand for many
 -- operations don't take memory for all of them
-abbrev pub first_of : Result (List Operation) Refusal → Result (List Operation) Refusal
-first_of told = do
+abbrev pub first_65_of : Result (List Operation) Refusal → Result (List Operation) Refusal
+first_65_of told = do
   ops ← told
   Ok (take 65 ops)
 
 -- the operations that JSON values hand over
 abbrev pub handed_over : List Data → Result (List Operation) Refusal
-handed_over ds = first_of (packed_ops_of ds)
+handed_over ds = first_65_of (packed_ops_of ds)

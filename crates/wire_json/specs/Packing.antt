@@ -15,12 +15,12 @@ use Rattle.opid.specs.Asked.{insertion_run}
 -- ---- what a run stands for
 
 -- the insertion of a character that the site of x makes next, with the element of x as its parent
-abbrev pub next : Operation → ℕ → Operation
-next x c = record { site = x.site; clock = raised x.clock x.site; kind = Ins (Some (stamp_of x)) c }
+abbrev pub typed_next : Operation → ℕ → Operation
+typed_next x c = record { site = x.site; clock = raised x.clock x.site; kind = Ins (Some (stamp_of x)) c }
 
 -- the insertions of these characters, each the next one after that before it: what its site asks for that types them behind x
-abbrev pub following : Operation → List ℕ → List Operation
-following x cs = insertion_run x.site x.clock (Some (stamp_of x)) cs
+abbrev pub typed_behind : Operation → List ℕ → List Operation
+typed_behind x cs = insertion_run x.site x.clock (Some (stamp_of x)) cs
 
 -- an operation, and the characters of the insertions that follow it: none where it stands alone
 pub record Item : Type 0 where
@@ -29,7 +29,7 @@ pub record Item : Type 0 where
 
 -- the operations of an item
 abbrev pub unfolded : Item → List Operation
-unfolded i = i.first ∷ following i.first i.more
+unfolded i = i.first ∷ typed_behind i.first i.more
 
 -- the operations of all items
 abbrev pub unfolded_all : List Item → List Operation
@@ -38,9 +38,9 @@ unfolded_all items = flat_map unfolded items
 -- ---- packing from the left
 
 -- the last of an operation and those that follow it
-abbrev pub last_of : Operation → List ℕ → Operation
-last_of x [] = x
-last_of x (c ∷ cs) = last_of (next x c) cs
+abbrev pub last_typed : Operation → List ℕ → Operation
+last_typed x [] = x
+last_typed x (c ∷ cs) = last_typed (typed_next x c) cs
 
 -- it is an insertion
 abbrev pub is_insertion : OpKind → Bool
@@ -54,18 +54,18 @@ is_child s (Ins (Some p) ch) = is_same p s
 is_child s (Del target) = false
 
 -- the character that an insertion puts in
-abbrev pub char_of : OpKind → ℕ
-char_of (Ins parent ch) = ch
-char_of (Del target) = 0
+abbrev pub inserted_character : OpKind → ℕ
+inserted_character (Ins parent ch) = ch
+inserted_character (Del target) = 0
 
 -- x is an insertion, and y is the next one after it
-abbrev pub is_next : Operation → Operation → Bool
-is_next x y =
+abbrev pub is_typed_next : Operation → Operation → Bool
+is_typed_next x y =
     is_insertion x.kind && (y.site == x.site && (bytes_eq y.clock (raised x.clock x.site) && is_child (stamp_of x) y.kind))
 
 -- the item has fewer than 64 operations, and y is the next one after its last
 abbrev pub joins : Item → Operation → Bool
-joins i y = nat_lt (length i.more + 1) 64 && is_next (last_of i.first i.more) y
+joins i y = nat_lt (length i.more + 1) 64 && is_typed_next (last_typed i.first i.more) y
 
 -- an operation by itself
 abbrev pub alone : Operation → Item
@@ -73,7 +73,7 @@ alone x = record { first = x; more = [] }
 
 -- the item with the character of one insertion more
 abbrev pub with_one_more : Item → Operation → Item
-with_one_more i y = record { first = i.first; more = i.more ++ char_of y.kind ∷ [] }
+with_one_more i y = record { first = i.first; more = i.more ++ inserted_character y.kind ∷ [] }
 
 -- the item goes on with the operations as far as they join it
 abbrev pub packed_behind : Item → List Operation → List Item
@@ -81,6 +81,6 @@ packed_behind i [] = i ∷ []
 packed_behind i (y ∷ ys) = if joins i y then packed_behind (with_one_more i y) ys else i ∷ packed_behind (alone y) ys
 
 -- the operations, packed from the left
-abbrev pub packed : List Operation → List Item
-packed [] = []
-packed (x ∷ xs) = packed_behind (alone x) xs
+abbrev pub packed_items : List Operation → List Item
+packed_items [] = []
+packed_items (x ∷ xs) = packed_behind (alone x) xs

@@ -17,7 +17,7 @@ use Rattle.room.specs.declared.outcome.Outcome as outcome
 use Rattle.room.specs.declared.outcome.Outcome.TheVariants as outcomes
 use Rattle.room.specs.declared.reply.Reply as reply
 use Rattle.room.specs.declared.reply.Reply.TheVariants.{Joined, Ok, Edits, Left, Ops, Put, Text, No}
-use Rattle.wire_json.specs.Packing.{Item, packed}
+use Rattle.wire_json.specs.Packing.{Item, packed_items}
 
 -- the edit's place fits 64 bits, its number of code units 8, and its character is a Unicode scalar value
 abbrev pub IsEditInRange : edit.Edit → Type 0
@@ -68,9 +68,9 @@ more [] = []
 more (x ∷ xs) = codes "," ++ x ++ more xs
 
 -- texts in brackets with commas between them
-abbrev pub listed : List (List ℕ) → List ℕ
-listed [] = codes "[]"
-listed (x ∷ xs) = codes "[" ++ x ++ more xs ++ codes "]"
+abbrev pub in_brackets : List (List ℕ) → List ℕ
+in_brackets [] = codes "[]"
+in_brackets (x ∷ xs) = codes "[" ++ x ++ more xs ++ codes "]"
 
 -- the text of an edit
 abbrev pub edit_text : edit.Edit → List ℕ
@@ -89,7 +89,7 @@ pair_text p = codes "[" ++ decimal p.0 ++ codes "," ++ decimal p.1 ++ codes "]"
 
 -- the text of a clock: its pairs
 abbrev pub clock_text : List ℕ → List ℕ
-clock_text clock = listed (map pair_text (pairs_of clock))
+clock_text clock = in_brackets (map pair_text (pairs_of clock))
 
 -- a stamp is its sum and its site
 abbrev pub stamp_text : Stamp → List ℕ
@@ -128,7 +128,7 @@ item_text i = item_text_of i.first i.more
 
 -- the one text of operations: packed
 abbrev pub packed_text : List Operation → List ℕ
-packed_text ops = listed (map item_text (packed ops))
+packed_text ops = in_brackets (map item_text (packed_items ops))
 
 -- the text of an outcome
 abbrev pub outcome_text : outcome.Outcome → List ℕ
@@ -142,9 +142,10 @@ abbrev pub text : reply.Reply → List ℕ
 text (Joined s v x) = codes "{\"r\":\"joined\",\"s\":" ++ decimal s ++ codes ",\"v\":" ++ decimal v ++ codes ",\"x\":" ++ quote x
     ++ codes "}"
 text (Ok «from» to) = codes "{\"from\":" ++ decimal «from» ++ codes ",\"r\":\"ok\",\"to\":" ++ decimal to ++ codes "}"
-text (Edits «from» es) = codes "{\"es\":" ++ listed (map edit_text es) ++ codes ",\"from\":" ++ decimal «from» ++ codes ",\"r\":\"edits\"}"
+text (Edits «from» es) = codes "{\"es\":" ++ in_brackets (map edit_text es) ++ codes ",\"from\":" ++ decimal «from»
+    ++ codes ",\"r\":\"edits\"}"
 text (Ops «from» ops) = codes "{\"from\":" ++ decimal «from» ++ codes ",\"ops\":" ++ packed_text ops ++ codes ",\"r\":\"ops\"}"
-text (Put os) = codes "{\"os\":" ++ listed (map outcome_text os) ++ codes ",\"r\":\"put\"}"
+text (Put os) = codes "{\"os\":" ++ in_brackets (map outcome_text os) ++ codes ",\"r\":\"put\"}"
 text Left = codes "{\"r\":\"left\"}"
 text (Text v x) = codes "{\"r\":\"text\",\"v\":" ++ decimal v ++ codes ",\"x\":" ++ quote x ++ codes "}"
 text (No why) = codes "{\"n\":" ++ decimal (number_of why) ++ codes ",\"r\":\"no\"}"

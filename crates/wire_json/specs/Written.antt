@@ -16,7 +16,7 @@ use Rattle.room.specs.declared.outcome.Outcome as outcome
 use Rattle.room.specs.declared.outcome.Outcome.TheVariants as outcomes
 use Rattle.room.specs.declared.reply.Reply as reply
 use Rattle.room.specs.declared.reply.Reply.TheVariants.{Joined, Ok, Edits, Left, Ops, Put, Text, No}
-use Rattle.wire_json.specs.Packing.{Item, packed}
+use Rattle.wire_json.specs.Packing.{Item, packed_items}
 use Rattle.wire_json.specs.Text.{pairs_of}
 
 -- the tokens of a value
@@ -122,7 +122,7 @@ item_data i = item_data_of i.first i.more
 -- the value of operations from a place on, packed
 abbrev pub part_data : ℕ → List Operation → Data
 part_data «from» ops = object (member (codes "from") (number (unsigned «from»))
-    (member (codes "ops") (array (each_data item_data (packed ops))) (member (codes "r") (string (codes "ops")) no_members)))
+    (member (codes "ops") (array (each_data item_data (packed_items ops))) (member (codes "r") (string (codes "ops")) no_members)))
 
 -- the value of an outcome
 abbrev pub outcome_data : outcome.Outcome → Data

@@ -4,10 +4,10 @@ ghost use Rattle.std.specs.Str.{chars};
 ghost use Rattle.serde_json.specs.View.{view, items_view};
 ghost use Rattle.opid.specs.declared.refusal.Refusal.TheVariants.{Memory};
 ghost use Rattle.opid.specs.Operations.{Operation};
-ghost use Rattle.wire_json.specs.Operations.{each, items_in};
-ghost use Rattle.wire_json.specs.Packing.{next, following};
-ghost use Rattle.wire_json.specs.PackedOperations.{item_offer_of, item_sited, item_operations, run_of, run_chars, all_operations, first_of};
-ghost use Rattle.wire_json.specs.PackedOperations.{handed_over, item_ops_of};
+ghost use Rattle.wire_json.specs.Operations.{each, items_told};
+ghost use Rattle.wire_json.specs.Packing.{typed_next, typed_behind};
+ghost use Rattle.wire_json.specs.PackedOperations.{item_offer_of, item_sited, item_operations, run_of, run_chars, all_operations};
+ghost use Rattle.wire_json.specs.PackedOperations.{first_65_of, handed_over, item_ops_of};
 ghost use Rattle.wire_json.specs.Given.{Gives};
 
 use crate::offer::{ItemOffer, Offer, OfferedKind, SitedItem};
@@ -32,7 +32,7 @@ const MOST: usize = MAX_COUNT as usize + 1;
 /// next one the clock before it raised at the site, and the element before it as its parent. `BadClock` where the last
 /// clock's sum exceeds 131,072. Takes time and memory in proportion to the values.
 pub(crate) fn read_items(alloc: Global, values: &[Value]) -> Result<Vec<Op>, Refusal>
-    ensures { Gives (λ ops. ops.items) result (handed_over (items_in (items_view values.now))) }
+    ensures { Gives (λ ops. ops.items) result (handed_over (items_told (items_view values.now))) }
 {
     let offers = read_item_offers(alloc, values)?;
     let sited = check_item_sites(alloc, offers.as_slice())?;
@@ -53,7 +53,7 @@ pub fn read_item_ops(alloc: Global, value: &Value) -> Result<Vec<Op>, Refusal>
 }
 
 fn read_item_offers<'v>(alloc: Global, values: &'v [Value]) -> Result<Vec<ItemOffer<'v>>, Refusal>
-    ensures { Gives (λ v. v.items) result (each item_offer_of (items_in (items_view values.now))) }
+    ensures { Gives (λ v. v.items) result (each item_offer_of (items_told (items_view values.now))) }
 {
     let mut offers = Vec::new(alloc);
     for value in values {
@@ -79,7 +79,7 @@ fn check_item_sites<'a, 'v>(
 }
 
 fn unfold_all(alloc: Global, offers: &[SitedItem<'_, '_>]) -> Result<Vec<Op>, Refusal>
-    ensures { Gives (λ v. v.items) result (first_of (all_operations offers.now)) }
+    ensures { Gives (λ v. v.items) result (first_65_of (all_operations offers.now)) }
 {
     let mut ops = Vec::new(alloc);
     for offer in offers {
@@ -159,7 +159,7 @@ fn unfold(ops: &mut Vec<Op>, offer: &SitedItem<'_, '_>) -> Result<(), Refusal>
 fn unfold_run(ops: &mut Vec<Op>, first: Op, more: &[char]) -> Result<(), Refusal>
     requires sum { sum first.clock + length more.now ≤ MAX_SUM }
     requires few { length ops.old.items ≤ 65 }
-    ensures ok { OnOk result (ops.new.items ≡ take 65 (ops.old.items ++ (first ∷ following first more.now))) }
+    ensures ok { OnOk result (ops.new.items ≡ take 65 (ops.old.items ++ (first ∷ typed_behind first more.now))) }
     ensures memory { IfErr result (λ e. e ≡ Memory) }
 {
     if ops.len() >= MOST {
@@ -180,7 +180,7 @@ fn unfold_run(ops: &mut Vec<Op>, first: Op, more: &[char]) -> Result<(), Refusal
 // The insertion of a character that follows an operation.
 pub(crate) fn next_op(last: &Op, ch: char) -> Op
     requires { sum last.now.clock < MAX_SUM }
-    ensures value { result ≡ next last.now ch }
+    ensures value { result ≡ typed_next last.now ch }
     ensures total { sum result.clock ≡ sum last.now.clock + 1 }
 {
     let site = last.site();

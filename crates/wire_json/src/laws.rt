@@ -7,8 +7,8 @@ ghost use Rattle.opid.specs.Operations.{Operation};
 ghost use Rattle.causal_clock.specs.Kinds.{IsOperation};
 ghost use Rattle.room.specs.declared.reply.Reply.{Reply};
 ghost use Rattle.room.specs.declared.reply.Reply.TheVariants.{Ops};
-ghost use Rattle.wire_json.specs.Operations.{op_of, items_in};
-ghost use Rattle.wire_json.specs.Packing.{unfolded_all, packed};
+ghost use Rattle.wire_json.specs.Operations.{op_of, items_told};
+ghost use Rattle.wire_json.specs.Packing.{unfolded_all, packed_items};
 ghost use Rattle.wire_json.specs.PackedOperations.{packed_ops_of, handed_over};
 ghost use Rattle.wire_json.specs.Text.{IsInRange, IsKindInRange, IsOperationInRange, text, op_text, packed_text};
 
@@ -30,17 +30,17 @@ pub fn different_operations()
 
 /// Unfolding what is packed gives the operations back, in their order.
 pub fn packing_unfolds()
-    ensures { (ops : List Operation) → unfolded_all (packed ops) ≡ ops }
+    ensures { (ops : List Operation) → unfolded_all (packed_items ops) ≡ ops }
 {}
 
 /// The text of an `ops` reply is JSON whose list at the key "ops" tells just the reply's operations. Where they are at most 64, a
 /// `put` of that list hands over the same operations.
 pub fn packed_operations_read_back()
     ensures told { (place : ℕ) (ops : List Operation) → IsInRange (Ops place ops)
-        → option_map (λ ds. packed_ops_of (items_in ds))
+        → option_map (λ ds. packed_ops_of (items_told ds))
         (option_and_then as_array (option_and_then (get (codes "ops")) (read (text (Ops place ops))))) ≡ Some (Ok ops) }
     ensures put { (place : ℕ) (ops : List Operation) → IsInRange (Ops place ops) → length ops ≤ 64
-        → option_map (λ ds. handed_over (items_in ds))
+        → option_map (λ ds. handed_over (items_told ds))
         (option_and_then as_array (option_and_then (get (codes "ops")) (read (text (Ops place ops))))) ≡ Some (Ok ops) }
 {}
 

@@ -3,7 +3,7 @@ ghost use Rattle.std.specs.Prelude.{◌≡◌, ◌<◌, ◌++◌, ◌∷◌, tru
 ghost use Rattle.std.specs.List.{AllByRecursion};
 ghost use Rattle.opid.specs.declared.refusal.Refusal.TheVariants.{Memory};
 ghost use Rattle.serde_json.specs.Data.{array};
-ghost use Rattle.wire_json.specs.Packing.{joins, is_next, alone, with_one_more, packed};
+ghost use Rattle.wire_json.specs.Packing.{joins, is_typed_next, alone, with_one_more, packed_items};
 ghost use Rattle.wire_json.specs.Text.{IsOperationInRange, item_text};
 ghost use Rattle.wire_json.specs.Written.{tokens_of, each_data, item_data};
 
@@ -29,13 +29,13 @@ pub struct Item {
 
 impl Model for Item {
     ghost use Rattle.std.specs.Prelude.{◌≡◌};
-    ghost use Rattle.wire_json.specs.Packing.{Item as Packed, last_of};
+    ghost use Rattle.wire_json.specs.Packing.{Item as Packed, last_typed};
 
     ghost Value = { Packed };
 
     ghost view = { λ i. record { first = i.first; more = i.more.items } };
 
-    ghost invariant = { λ i. i.last ≡ last_of i.first i.more.items };
+    ghost invariant = { λ i. i.last ≡ last_typed i.first i.more.items };
 }
 
 impl Item {
@@ -73,7 +73,7 @@ impl Item {
 
 // Whether the first is an insertion, and the second the next one after it.
 fn is_next(x: &Op, y: &Op) -> bool
-    ensures { result ≡ is_next x.now y.now }
+    ensures { result ≡ is_typed_next x.now y.now }
 {
     prove!(x.site().number() < 32);
     prove!(y.site().number() < 32);
@@ -89,7 +89,7 @@ fn is_next(x: &Op, y: &Op) -> bool
 /// one and the run has fewer than 64 characters. Takes time and memory in proportion to the operations.
 pub(crate) fn append_packed(alloc: Global, out: &mut Writer, ops: &[Op]) -> Result<(), AllocError>
     ensures before { out.new.before ≡ out.old.before }
-    ensures tokens { OnOk result (out.new.tokens ≡ out.old.tokens ++ tokens_of (array (each_data item_data (packed ops.now)))) }
+    ensures tokens { OnOk result (out.new.tokens ≡ out.old.tokens ++ tokens_of (array (each_data item_data (packed_items ops.now)))) }
     ensures in_range { OnOk result (AllByRecursion IsOperationInRange ops.now) }
 {
     out.begin_array()?;

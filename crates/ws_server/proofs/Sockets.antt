@@ -11,8 +11,8 @@ use Rattle.ws_server.specs.declared.fault.ServeFault.TheVariants.{Read, Write, M
 use Rattle.ws_server.specs.declared.hall.Hall.{Hall}
 use Rattle.shared_room.specs.Views.{View}
 use Rattle.ws_server.specs.Frames.{Side, AnswersFrame}
-use Rattle.ws_server.specs.Serving.{data_of, FailsToSend, ServesTurn, end_of_read, fault_of_send}
-use Rattle.ws_server.specs.Sockets.{IsHandedOver}
+use Rattle.ws_server.specs.Serving.{bytes_of, FailsToSend, ServesTurn, end_of_read, fault_of_send}
+use Rattle.ws_server.specs.Sockets.{IsOfHandshake}
 
 -- not the fault of a read
 abbrev IsNotRead : ServeFault → Type 0
@@ -29,7 +29,7 @@ pub serves_unsent : {C G : Type 0} (reads : C → Result Message Error → C →
     (sends : C → Content → Result (Unit {0}) Error → C → Type 0) (told_before : G → ℕ → View → G → Type 0)
     (told_after : G → ℕ → G → Type 0) (hall : Hall)
     (first mid last : C) (old new : Side G) (message : Message) (bytes answer : List ℕ) (made : Option ℕ) (why : ServeFault)
-    → reads first (Ok message) mid → data_of (content_of message) ≡ Some bytes
+    → reads first (Ok message) mid → bytes_of (content_of message) ≡ Some bytes
     → AnswersFrame told_before hall old bytes answer made new → FailsToSend sends mid answer last why
     → ServesTurn reads sends told_before told_after hall first old last new (Err why)
 serves_unsent reads sends told_before told_after hall first mid last old new message bytes answer made Read read taken answers (inl fails) =
@@ -59,7 +59,7 @@ serves_nothing reads sends told_before told_after hall first last side why end r
 pub handed_over : {S : Type 0} (given limited : Socket S) → IsOfServer given
     → limited ≡ record given { conn = record given.conn { config = limited.conn.config } }
     → limited.conn.config.max_message_size ≡ Some 131072 → limited.conn.config.max_frame_size ≡ Some 131072
-    → limited.conn.config.accept_unmasked_frames ≡ false → IsHandedOver limited
+    → limited.conn.config.accept_unmasked_frames ≡ false → IsOfHandshake limited
 handed_over {S} given limited handshake is message frame masked =
     let with_message : Option ℕ → Socket S = λ m.
     record given { conn = record given.conn { config = record limited.conn.config { max_message_size = m } } } in

@@ -48,8 +48,8 @@ Hands step fault old after [] result new = (result ≡ Ok after) × (new ≡ old
 Hands step fault old after (op ∷ ops) result new =
     (answered : Result Reply DeskFault) × Calls step fault old (calls.Put (op ∷ ops)) answered new × (result ≡ number_after after answered)
 
--- what followed what the first desk answered
-abbrev pub Follows : {S : Type 0} → (S → Call → Reply → S → Type 0) → (S → Call → DeskFault → S → Type 0) → S → ℕ → Result Reply DeskFault
+-- the operations that the first desk told were handed over; or it told its fault, which is the result
+abbrev pub HandsTold : {S : Type 0} → (S → Call → Reply → S → Type 0) → (S → Call → DeskFault → S → Type 0) → S → ℕ → Result Reply DeskFault
     → Result ℕ DeskFault → S → Type 0
-Follows step fault old after (Ok reply) result new = Hands step fault old after (told_ops reply) result new
-Follows step fault old after (Err why) result new = (result ≡ Err why) × (new ≡ old)
+HandsTold step fault old after (Ok reply) result new = Hands step fault old after (told_ops reply) result new
+HandsTold step fault old after (Err why) result new = (result ≡ Err why) × (new ≡ old)

@@ -10,7 +10,7 @@ use Rattle.shared_room.specs.declared.shared.SharedRoom.{SharedRoom}
 use Rattle.shared_room.specs.Views.{View, view, opening}
 use Rattle.ws_server.specs.declared.conn.Conn.{Conn}
 use Rattle.ws_server.specs.declared.hall.Hall.{Hall}
-use Rattle.ws_server.specs.Halls.{rooms_of, place_of}
+use Rattle.ws_server.specs.Halls.{rooms_of, place_named}
 use Rattle.ws_server.specs.AnsweredRequests.{AnswersRequest}
 use Rattle.ws_server.specs.PassSteps.{pass_step, pass_fault}
 use Rattle.ws_server.specs.Gates.{Gated, gated_step, gated_fault}
@@ -39,19 +39,20 @@ OpensAt None answer opened = (answer ≡ text (No Why.NoRoom)) × (opened ≡ No
 
 -- the answer to what an `open` asks for, and the room that is opened then
 abbrev pub OpensAsked : Hall → Result (List ℕ) Refusal → List ℕ → Option ℕ → Type 0
-OpensAsked hall (Ok name) answer opened = OpensAt (place_of hall name) answer opened
+OpensAsked hall (Ok name) answer opened = OpensAt (place_named hall name) answer opened
 OpensAsked hall (Err refusal) answer opened = (answer ≡ text (No refusal)) × (opened ≡ None)
 
 -- the answer to a message of a connection that has opened no room
-abbrev pub Opens : Hall → List ℕ → List ℕ → Option ℕ → Type 0
-Opens hall bytes answer opened =
-    OpensAsked hall (requests.opening bytes) answer opened ⊎ ((length bytes ≤ 65536) × (answer ≡ text (No Why.Memory)) × (opened ≡ None))
+abbrev pub OpensRoom : Hall → List ℕ → List ℕ → Option ℕ → Type 0
+OpensRoom hall bytes answer opened =
+    OpensAsked hall (requests.room_asked_for bytes) answer opened
+    ⊎ ((length bytes ≤ 65536) × (answer ≡ text (No Why.Memory)) × (opened ≡ None))
 
 -- the answer to a message of a connection whose room is at this place, or that has opened none
 abbrev pub AnswersAt : {G : Type 0} → (G → ℕ → View → G → Type 0) → Hall → Option ℕ → Side G → List ℕ → List ℕ → Option ℕ → Side G → Type 0
 AnswersAt told_before hall None old bytes answer made new =
     (new.passes ≡ old.passes) × (new.conn.calls ≡ old.conn.calls) × (new.gate ≡ old.gate) × (made ≡ None)
-    × Opens hall bytes answer new.conn.opened
+    × OpensRoom hall bytes answer new.conn.opened
 AnswersAt told_before hall (Some at) old bytes answer made new =
     (new.conn.opened ≡ Some at)
     × ((room : SharedRoom) × (p q : Pass) × (slice_get (rooms_of hall) at ≡ Some room) × (slice_get old.passes at ≡ Some p)

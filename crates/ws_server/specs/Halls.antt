@@ -15,8 +15,8 @@ abbrev pub rooms_of : Hall → List SharedRoom
 rooms_of hall = map (λ e. e.1) hall.rooms.entries
 
 -- the place of the room with this name
-abbrev pub place_of : Hall → List ℕ → Option ℕ
-place_of hall name = index_of_by (λ key. bytes_eq name (string_bytes key)) hall.rooms
+abbrev pub place_named : Hall → List ℕ → Option ℕ
+place_named hall name = index_of_by (λ key. bytes_eq name (string_bytes key)) hall.rooms
 
 -- each pass is one of the room at its place
 abbrev pub ArePassesOf : List SharedRoom → List Pass → Type 0

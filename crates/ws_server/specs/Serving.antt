@@ -14,15 +14,15 @@ use Rattle.ws_server.specs.declared.fault.ServeFault.TheVariants.{Read, Write, M
 use Rattle.ws_server.specs.declared.hall.Hall.{Hall}
 use Rattle.ws_server.specs.Frames.{Side, AnswersFrame}
 use Rattle.ws_server.specs.Gates.{TellsAfter}
-use Rattle.ws_server.specs.Sockets.{Sends, IsHandedOver}
+use Rattle.ws_server.specs.Sockets.{Sends, IsOfHandshake}
 
 -- the bytes of a text or binary message
-abbrev pub data_of : Content → Option (List ℕ)
-data_of (text bytes) = Some bytes
-data_of (binary bytes) = Some bytes
-data_of (ping bytes) = None
-data_of (pong bytes) = None
-data_of (close code) = None
+abbrev pub bytes_of : Content → Option (List ℕ)
+bytes_of (text bytes) = Some bytes
+bytes_of (binary bytes) = Some bytes
+bytes_of (ping bytes) = None
+bytes_of (pong bytes) = None
+bytes_of (close code) = None
 
 -- how a turn ends at a read that gave no message: well where the connection is closed, and with `Read` for all but want of memory
 abbrev pub end_of_read : Error → Result Bool ServeFault
@@ -64,7 +64,7 @@ module _ {C G : Type 0} (reads : C → Result Message Error → C → Type 0) (s
   abbrev pub AnswersUnsent : C → Side G → C → Side G → ServeFault → Type 0
   AnswersUnsent first old last new why =
       (message : Message) × (mid : C) × (bytes : List ℕ) × (answer : List ℕ) × (made : Option ℕ)
-      × reads first (Ok message) mid × (data_of (content_of message) ≡ Some bytes)
+      × reads first (Ok message) mid × (bytes_of (content_of message) ≡ Some bytes)
       × AnswersFrame told_before hall old bytes answer made new × FailsToSend sends mid answer last why
 
   -- a read gave no message, for a cause with which a turn ends so, and nothing was answered
@@ -75,7 +75,7 @@ module _ {C G : Type 0} (reads : C → Result Message Error → C → Type 0) (s
   -- a send alone
   abbrev pub ServesTurn : C → Side G → C → Side G → Result Bool ServeFault → Type 0
   ServesTurn first old last new (Ok true) =
-      (message : Message) × (mid : C) × reads first (Ok message) mid × AnswersMessage (data_of (content_of message)) mid old last new
+      (message : Message) × (mid : C) × reads first (Ok message) mid × AnswersMessage (bytes_of (content_of message)) mid old last new
   ServesTurn first old last new (Ok false) = reads first (Err ConnectionClosed) last × (new ≡ old)
   ServesTurn first old last new (Err Read) = ReadsNothing first old last new (Err Read)
   ServesTurn first old last new (Err Write) = AnswersUnsent first old last new Write
@@ -98,6 +98,6 @@ abbrev pub ServesSocket : {S G T : Type 0} → (S → Option (List ℕ)) → (S 
     → (G → ℕ → G → Type 0) → Hall → List Pass → G → List Pass → G → Result T ServeFault → Type 0
 ServesSocket {S} remaining contents told_before told_after hall passes gate passes' gate' result =
     (((result ≡ Err Read) ⊎ (result ≡ Err Memory)) × (passes' ≡ passes) × (gate' ≡ gate))
-    ⊎ ((first last : Socket S) × (conn conn' : Conn) × IsHandedOver first × IsNew conn
+    ⊎ ((first last : Socket S) × (conn conn' : Conn) × IsOfHandshake first × IsNew conn
     × ServesToEnd (λ old result new. Reads remaining old new result) (Sends contents) told_before told_after hall
     first (record { conn = conn; passes = passes; gate = gate }) last (record { conn = conn'; passes = passes'; gate = gate' }) result)

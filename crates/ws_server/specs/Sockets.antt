@@ -24,8 +24,8 @@ module _ {S : Type 0} (contents : S → Option (List ℕ)) where
 
 -- the socket that a handshake gave, which took a head and has read and written nothing since; but neither a message nor a frame has
 -- more than 131,072 bytes, and a frame is masked
-abbrev pub IsHandedOver : {S : Type 0} → Socket S → Type 0
-IsHandedOver {S} first =
+abbrev pub IsOfHandshake : {S : Type 0} → Socket S → Type 0
+IsOfHandshake {S} first =
     (given : Socket S) × IsOfServer given
     × (first ≡ record given {
       conn = record given.conn {

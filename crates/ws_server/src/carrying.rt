@@ -3,7 +3,7 @@ ghost use Rattle.std.specs.Prelude.{◌≡◌, ℕ, ◌<◌, ◌≤◌, Result, 
 ghost use Rattle.room.specs.declared.reply.Reply.{Reply};
 ghost use Rattle.room.specs.declared.desk.DeskFault.{DeskFault};
 ghost use Rattle.room.specs.declared.call.Call.TheVariants as calls;
-ghost use Rattle.ws_server.specs.Carrying.{Calls, Hands, Follows, carried, is_refused_for_room};
+ghost use Rattle.ws_server.specs.Carrying.{Calls, Hands, HandsTold, carried, is_refused_for_room};
 
 use opid::{MAX_COUNT, Refusal};
 use room::{Call, Desk, DeskFault, Operations, Outcome, Outcomes, Reply};
@@ -56,7 +56,7 @@ pub fn carry<A: Desk, B: Desk>(a: &mut A, b: &mut B, after: u32) -> Result<u32, 
     ensures b_ready { B.ready b.new }
     ensures carries { (asked : Result Reply DeskFault)
         × Calls A.step A.fault a.old (calls.Ops after 64) asked a.new
-        × Follows B.step B.fault b.old after asked result b.new }
+        × HandsTold B.step B.fault b.old after asked result b.new }
 {
     match a.call(Call::Ops {
         after,

@@ -6,7 +6,7 @@ ghost use Rattle.ws_server.specs.declared.fault.ServeFault.TheVariants.{Memory};
 ghost use Rattle.ws_server.specs.Lines.{ended};
 ghost use Rattle.ws_server.specs.LineBytes.{line_bytes};
 ghost use Rattle.ws_server.specs.Halls.{rooms_of, IsHallPassOf, IsConnOf};
-ghost use Rattle.ws_server.specs.Frames.{AnswersOver, AnswersFrame, Opens};
+ghost use Rattle.ws_server.specs.Frames.{AnswersOver, AnswersFrame, OpensRoom};
 ghost use Rattle.ws_server.specs.Gates.{next_call};
 
 use crate::conn::Conn;
@@ -93,7 +93,7 @@ fn answer_over<R: Wait, G: Witness>(
 // The answer to a message of a connection that has opened no room.
 fn open(alloc: Global, hall: &Hall, opened: &mut Option<usize>, bytes: &[u8]) -> ReplyLine
     requires { opened.old ≡ None }
-    ensures opened { (answer : List ℕ) × Opens hall.now bytes.now answer opened.new × (line_bytes result ≡ ended answer) }
+    ensures opened { (answer : List ℕ) × OpensRoom hall.now bytes.now answer opened.new × (line_bytes result ≡ ended answer) }
     ensures within { IfSome opened.new (λ at. at < length (rooms_of hall.now)) }
 {
     let name = match read_open(alloc, bytes) {

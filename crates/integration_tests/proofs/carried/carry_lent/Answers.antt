@@ -8,7 +8,7 @@ use Rattle.room.specs.declared.desk.DeskFault.{DeskFault}
 use Rattle.shared_room.specs.declared.desk.PassDesk.{PassDesk}
 use Rattle.shared_room.specs.declared.shared.SharedRoom.{SharedRoom}
 use Rattle.shared_room.specs.Views.{IsPassOf}
-use Rattle.ws_server.specs.Carrying.{Calls, Hands, Follows, told_ops}
+use Rattle.ws_server.specs.Carrying.{Calls, Hands, HandsTold, told_ops}
 use Rattle.ws_server.proofs.Lending.{desk_step, desk_fault}
 use Rattle.integration_tests.proofs.carried.carry_lent.Goals as goal
 
@@ -29,7 +29,7 @@ handed old new after [] result did = same old new did.1
 handed old new after (op ∷ ops) result did = called old new (calls.Put (op ∷ ops)) did.0 did.1
 
 followed : {H : Type 0} (old new : PassDesk H) (after : ℕ) (asked : Result Reply DeskFault) (result : Result ℕ DeskFault)
-    → Follows desk_step desk_fault old after asked result new → Stays old new
+    → HandsTold desk_step desk_fault old after asked result new → Stays old new
 followed old new after (Ok reply) result did = handed old new after (told_ops reply) result did
 followed old new after (Err why) result did = same old new did.1
 

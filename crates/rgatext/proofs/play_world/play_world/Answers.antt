@@ -33,7 +33,7 @@ whole sites world after held got answers last left r none opens serves writes = 
   serves = subst (λ (w : List Account). Serves {T = Unit {0}} AnswersLine w got left answers (Ok tt) after) opens
       (subst (λ (h : List ℕ). Serves {T = Unit {0}} AnswersLine world (h ++ got) left answers (Ok tt) after) none serves);
   whole = refl;
-  follows = writes;
+  closes = writes;
 }
 
 -- the engine ended with a fault
@@ -48,7 +48,7 @@ broken sites world after held got answers left why none opens serves = record {
   serves = subst (λ (w : List Account). Serves {T = Unit {0}} AnswersLine w got left answers (Err why) after) opens
       (subst (λ (h : List ℕ). Serves {T = Unit {0}} AnswersLine world (h ++ got) left answers (Err why) after) none serves);
   whole = sym (append-nil answers);
-  follows = (refl, refl);
+  closes = (refl, refl);
 }
 
 pub returns-in-Ok-serve-clause-plays : goal.returns-in-Ok-serve-clause-plays

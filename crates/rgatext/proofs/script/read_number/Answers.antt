@@ -3,7 +3,7 @@ use Rattle.std.proofs.Common.{◌≡◌, true, false, sym, subst, ◌∙◌, dec
 use Rattle.std.specs.Prelude.{IfOk, IfErr, IfSome, IfNone, Option}
 use Rattle.std.specs.Result.{result_ok}
 use Rattle.std.specs.Str.Parse.{ParsesUnsigned}
-use Rattle.rgatext.specs.Script.{IsPlain}
+use Rattle.rgatext.specs.Script.{IsPlainNumber}
 use Rattle.rgatext.proofs.Words.{decimal_is_plain, number_read, number_not_read}
 use Rattle.snapshot.proofs.Utf8.{number_text}
 use Rattle.rgatext.proofs.script.read_number.Goals as goal
@@ -18,7 +18,7 @@ none_where_err P (Err d) o e h = subst (λ (q : Option ℕ). IfNone q P) (sym e)
 
 pub returns-then-not-is_plain-clause-none : goal.returns-then-not-is_plain-clause-none
 returns-then-not-is_plain-clause-none c = λ n fits is.
-    let plain : IsPlain c.args.word.now = subst IsPlain (sym is) (decimal_is_plain n fits) in
+    let plain : IsPlainNumber c.args.word.now = subst IsPlainNumber (sym is) (decimal_is_plain n fits) in
     let apart : true ≡ false = sym (c.is_plain.ensures.1 plain) ∙ c.if-not-is_plain.true in cc
 
 pub returns-in-Ok-clause-some : goal.returns-in-Ok-clause-some
@@ -27,7 +27,7 @@ returns-in-Ok-clause-some c =
     let same = c.in-Ok.ensures.cases.0 in
     let read : ParsesUnsigned 32 10 word c.parse.result =
     subst (λ (w : List ℕ). ParsesUnsigned 32 10 w c.parse.result) same c.parse.ensures.value.0 in
-    let plain : IsPlain word = c.is_plain.ensures.0 c.if-not-is_plain.false in
+    let plain : IsPlainNumber word = c.is_plain.ensures.0 c.if-not-is_plain.false in
     some_where_ok (λ n. word ≡ decimal n) c.parse.result c.ok.result c.ok.ensures.value (number_read word c.parse.result plain read)
 
 pub returns-in-Ok-clause-none : goal.returns-in-Ok-clause-none

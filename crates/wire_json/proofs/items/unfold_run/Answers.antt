@@ -1,13 +1,13 @@
 -- Each one follows the last.
 use Rattle.std.proofs.Common.{◌≡◌, ◌∙◌, ◌++◌, ◌+◌, ◌∷◌, [], ap, arith, rules, append_assoc, take, drop, length, vec_len}
-use Rattle.wire_json.specs.Packing.{following}
+use Rattle.wire_json.specs.Packing.{typed_behind}
 use Rattle.wire_json.proofs.Unfolding.{follows_more, follows_all, one_kept, first_kept, all_kept}
 use Rattle.wire_json.proofs.items.unfold_run.Goals as goal
 
 pub loop-ch-init : goal.loop-ch-init
 loop-ch-init c = record {
-  whole = ap (λ items. items ++ following c.args.first c.args.more.now) c.in_ok-push.ensures.items
-      ∙ append_assoc c.args.ops.now.items (c.args.first ∷ []) (following c.args.first c.args.more.now);
+  whole = ap (λ items. items ++ typed_behind c.args.first c.args.more.now) c.in_ok-push.ensures.items
+      ∙ append_assoc c.args.ops.now.items (c.args.first ∷ []) (typed_behind c.args.first c.args.more.now);
   kept =
       let size : vec_len c.args.ops.now ≡ length c.args.ops.now.items = search rules in
       one_kept c.args.ops.now.items c.args.first c.push.new.self.items c.in_ok-push.ensures.items
@@ -21,8 +21,8 @@ loop-ch-preserved c =
     let rest = drop (c.loop-ch.ch-index + 1) more in
     let size : vec_len c.loop-ch.ops ≡ length c.loop-ch.ops.items = search rules in
     record {
-      whole = ap (λ items. items ++ following c.next_op-last.result rest) c.in_ok-push-2.ensures.items
-          ∙ ap (λ x. (c.loop-ch.ops.items ++ x ∷ []) ++ following x rest) c.next_op-last.ensures.value
+      whole = ap (λ items. items ++ typed_behind c.next_op-last.result rest) c.in_ok-push-2.ensures.items
+          ∙ ap (λ x. (c.loop-ch.ops.items ++ x ∷ []) ++ typed_behind x rest) c.next_op-last.ensures.value
           ∙ follows_more c.loop-ch.last c.loop-ch.ops.items more c.loop-ch.ch-index c.ch-item.result _ c.loop-ch-test.true
           c.ch-item.is c.loop-ch.invariant.whole;
       kept = one_kept c.loop-ch.ops.items c.next_op-last.result c.push-in-loop-ch.new.self.items c.in_ok-push-2.ensures.items
@@ -39,12 +39,12 @@ returns-clause-ok c =
 pub returns-then-len-ge-MOST-clause-ok : goal.returns-then-len-ge-MOST-clause-ok
 returns-then-len-ge-MOST-clause-ok c =
     let size : vec_len c.args.ops.now ≡ length c.args.ops.now.items = search rules in
-    first_kept c.args.ops.now.items (c.args.first ∷ following c.args.first c.args.more.now) c.requires.few
+    first_kept c.args.ops.now.items (c.args.first ∷ typed_behind c.args.first c.args.more.now) c.requires.few
     (omega (arith, c.if-len-ge-MOST.true, c.len.ensures, size))
 
 pub returns-then-len-ge-MOST-2-clause-ok : goal.returns-then-len-ge-MOST-2-clause-ok
 returns-then-len-ge-MOST-2-clause-ok c =
     let size : vec_len c.loop-ch.ops ≡ length c.loop-ch.ops.items = search rules in
-    first_kept c.loop-ch.ops.items (following c.loop-ch.last (drop c.loop-ch.ch-index c.args.more.now)) c.loop-ch.invariant.kept
+    first_kept c.loop-ch.ops.items (typed_behind c.loop-ch.last (drop c.loop-ch.ch-index c.args.more.now)) c.loop-ch.invariant.kept
     (omega (arith, c.if-len-ge-MOST-2.true, c.len-in-loop-ch.ensures, size))
     ∙ ap (take 65) c.loop-ch.invariant.whole

@@ -3,7 +3,7 @@ use Rattle.std.proofs.Common.{◌≡◌, ℕ, Option, Some, None, refl, sym, ap,
 use Rattle.opid.specs.declared.refusal.Refusal.TheVariants as Why
 use Rattle.room.specs.declared.reply.Reply.TheVariants.{No}
 use Rattle.wire_json.specs.Text.{text}
-use Rattle.ws_server.specs.Halls.{place_of}
+use Rattle.ws_server.specs.Halls.{place_named}
 use Rattle.ws_server.specs.Frames.{OpensAt, opened_text}
 use Rattle.ws_server.proofs.Opening.{opens_at, opens_refused}
 use Rattle.ws_server.proofs.frame.open.Goals as goal
@@ -18,8 +18,8 @@ returns-in-Err-clause-opened c = (
 
 pub returns-in-Some-clause-opened : goal.returns-in-Some-clause-opened
 returns-in-Some-clause-opened c =
-    let place : place_of c.args.hall.now (string_bytes c.in-Ok.name) ≡ Some c.in-Some.at =
-    sym (c.in-Some.ensures.place ∙ ap (place_of c.args.hall.now) c.as_str.ensures.value) in
+    let place : place_named c.args.hall.now (string_bytes c.in-Ok.name) ≡ Some c.in-Some.at =
+    sym (c.in-Some.ensures.place ∙ ap (place_named c.args.hall.now) c.as_str.ensures.value) in
     let P : Option ℕ → Type 0 = λ o. OpensAt o opened_text (Some c.in-Some.at) in (
       opened_text,
       opens_at c.args.hall.now c.args.bytes.now (string_bytes c.in-Ok.name) opened_text (Some c.in-Some.at) c.in-Ok.ensures.asked
@@ -29,8 +29,8 @@ returns-in-Some-clause-opened c =
 
 pub returns-clause-opened : goal.returns-clause-opened
 returns-clause-opened c =
-    let place : place_of c.args.hall.now (string_bytes c.in-Ok.name) ≡ None =
-    sym (c.in-None.ensures.place ∙ ap (place_of c.args.hall.now) c.as_str.ensures.value) in
+    let place : place_named c.args.hall.now (string_bytes c.in-Ok.name) ≡ None =
+    sym (c.in-None.ensures.place ∙ ap (place_named c.args.hall.now) c.as_str.ensures.value) in
     let answer = text (No Why.NoRoom) in
     let P : Option ℕ → Type 0 = λ o. OpensAt o answer c.args.opened.now in (
       answer,
