@@ -8,7 +8,7 @@ use Rattle.std.proofs.Math.Bool.{and-true}
 use Rattle.std.proofs.lemmas.Map.Text.{is_eq-slice_cmp}
 use Rattle.std.proofs.lemmas.Slice.Eq.{bytes_eq-Decides}
 use Rattle.std.specs.Prelude.{SomeIff, IfSome}
-use Rattle.std.specs.List.{list_any}
+use Rattle.std.specs.List.{list_any, list_all}
 use Rattle.std.specs.Cmp.Lexicographic.{slice_cmp}
 use Rattle.std.specs.Ordering.{match_ordering}
 use Rattle.fast_float.specs.Text.{scan, digits_of, IsInteger}
@@ -30,7 +30,7 @@ use Rattle.wire_json.specs.Members.{or_refuse, are_among, only_keys}
 use Rattle.wire_json.specs.Operations.{items_told, list_at}
 use Rattle.wire_json.specs.Request.{json_of}
 use Rattle.wire_json.proofs.Steps.{json_read}
-use Rattle.wire_json.specs.Flat.{lone_value, value_of_tokens, primitive_data, put_all, flat_data, are_of}
+use Rattle.wire_json.specs.Flat.{lone_value, value_of_tokens, primitive_data, put_all, flat_data}
 use Rattle.wire_json.specs.Flat.{IsPrimitive, ReadsNext, TellsMembers}
 
 -- ---- members one after another
@@ -197,21 +197,25 @@ among_put : (row : List (List ℕ)) (k : List ℕ) (d : Data) (ms : Members) →
 among_put row k d no_members = refl
 among_put row k d (member l e ms) = among_put_at _ row k l d e ms refl (among_put row k d ms)
 
-keys_among : (row : List (List ℕ)) (ms : List Member) (old : Members) → are_among row (put_all ms old) ≡ are_of row ms && are_among row old
+-- each key is one of the row
+abbrev pub all_known : List (List ℕ) → List Member → Bool
+all_known row ms = list_all (λ m. known row m.key.now) ms
+
+keys_among : (row : List (List ℕ)) (ms : List Member) (old : Members) → are_among row (put_all ms old) ≡ all_known row ms && are_among row old
 keys_among row [] old = refl
 keys_among row (m ∷ ms) old =
     keys_among row ms (put m.key.now (primitive_data m.value) old)
-    ∙ ap (λ b. are_of row ms && b) (among_put row m.key.now (primitive_data m.value) old)
-    ∙ moved (are_of row ms) (known row m.key.now) (are_among row old)
+    ∙ ap (λ b. all_known row ms && b) (among_put row m.key.now (primitive_data m.value) old)
+    ∙ moved (all_known row ms) (known row m.key.now) (are_among row old)
 
 kept_or_refused : (b : Bool) → or_refuse {A = Unit {0}} BadField (if b then Some tt else None) ≡ (if b then Ok tt else Err BadField)
 kept_or_refused true = refl
 kept_or_refused false = refl
 
-pub only_of : (row : List (List ℕ)) (ms : List Member) → only_keys row (flat_data ms) ≡ (if are_of row ms then Ok tt else Err BadField)
+pub only_of : (row : List (List ℕ)) (ms : List Member) → only_keys row (flat_data ms) ≡ (if all_known row ms then Ok tt else Err BadField)
 only_of row ms =
-    ap (λ b. or_refuse {A = Unit {0}} BadField (if b then Some tt else None)) (keys_among row ms no_members ∙ and-true (are_of row ms))
-    ∙ kept_or_refused (are_of row ms)
+    ap (λ b. or_refuse {A = Unit {0}} BadField (if b then Some tt else None)) (keys_among row ms no_members ∙ and-true (all_known row ms))
+    ∙ kept_or_refused (all_known row ms)
 
 -- ---- from the bytes on
 

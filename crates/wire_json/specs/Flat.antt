@@ -1,6 +1,5 @@
 -- JSON objects whose members are whole numbers and texts (RFC 8259). No public clause cites this: it is the code's alone.
-use Rattle.std.specs.Prelude.{◌≡◌, ℕ, List, [], ◌∷◌, Bool, Option, Some, option_and_then, bytes_eq, Result}
-use Rattle.std.specs.List.{list_any, list_all}
+use Rattle.std.specs.Prelude.{◌≡◌, ℕ, List, [], ◌∷◌, Option, Some, option_and_then}
 use Rattle.json.specs.Token.{Token, end_object, key, string, number}
 use Rattle.json.specs.Json as json
 use Rattle.serde_json.specs.Data as tree
@@ -10,11 +9,6 @@ use Rattle.wire_json.specs.declared.flat.Primitive.{Primitive}
 use Rattle.wire_json.specs.declared.flat.Primitive.TheVariants.{Number, Text}
 use Rattle.wire_json.specs.declared.flat.Member.{Member}
 use Rattle.serde_json.specs.View.{view}
-use Rattle.opid.specs.declared.refusal.Refusal.{Refusal}
-use Rattle.opid.specs.Operations.{Operation}
-use Rattle.wire_json.specs.Members.{◌>>=◌}
-use Rattle.wire_json.specs.Operations.{list_at}
-use Rattle.wire_json.specs.PackedOperations.{handed_over}
 use Rattle.wire_json.specs.declared.fields.Fields.{Fields}
 use Rattle.wire_json.specs.declared.fields.Fields.TheVariants.{Flat, Tree}
 use Rattle.wire_json.specs.declared.flat.Next as next
@@ -41,10 +35,6 @@ put_all (m ∷ ms) found = put_all ms (put m.key.now (primitive_data m.value) fo
 -- the object that has these members
 abbrev pub flat_data : List Member → Data
 flat_data ms = object (put_all ms no_members)
-
--- each key is one of the row
-abbrev pub are_of : List (List ℕ) → List Member → Bool
-are_of row ms = list_all (λ m. list_any (λ name. bytes_eq name m.key.now) row) ms
 
 -- the token is by itself this value
 abbrev pub IsPrimitive : Token → Primitive → Type 0
@@ -74,7 +64,3 @@ TellsMembers old (m ∷ ms) new =
 abbrev pub fields_data : Fields → Data
 fields_data (Flat ms) = flat_data ms.now
 fields_data (Tree v) = view v.now
-
--- the single operations that the list at a key hands over
-abbrev pub operations_at : List ℕ → Data → Result (List Operation) Refusal
-operations_at k d = list_at k d >>= handed_over

@@ -107,3 +107,7 @@ first_65_of told = do
 -- the operations that JSON values hand over
 abbrev pub handed_over : List Data → Result (List Operation) Refusal
 handed_over ds = first_65_of (packed_ops_of ds)
+
+-- the single operations that the list at a key hands over
+abbrev pub operations_at : List ℕ → Data → Result (List Operation) Refusal
+operations_at k d = list_at k d >>= handed_over

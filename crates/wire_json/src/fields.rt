@@ -1,14 +1,17 @@
 //! What a request tells by its keys: of an object that was read with no tree, or of any JSON value.
-ghost use Rattle.std.specs.Prelude.{◌≡◌, map, is_some, option_map};
-ghost use Rattle.serde_json.specs.Find.{get};
-ghost use Rattle.wire_json.specs.Flat.{primitive_data, flat_data, are_of, fields_data, operations_at};
+ghost use Rattle.std.specs.Prelude.{◌≡◌, map, is_some, option_map, option_and_then, bytes_eq};
+ghost use Rattle.serde_json.specs.Find.{get, as_number, as_u64, as_str};
+ghost use Rattle.serde_json.specs.View.{view};
+ghost use Rattle.std.specs.List.{list_any, list_all};
+ghost use Rattle.wire_json.specs.Flat.{primitive_data, flat_data, fields_data};
+ghost use Rattle.wire_json.specs.PackedOperations.{operations_at};
 ghost use Rattle.wire_json.specs.Members.{only_keys, number_at, text_at};
 ghost use Rattle.wire_json.specs.Given.{Tells, Gives};
 
 use crate::flat::{Member, Primitive};
 use crate::items::read_items;
 use crate::operations::read_list;
-use crate::reading::{check_keys, is_among, read_number, read_text};
+use crate::reading::{check_keys, is_among};
 use causal_clock::Op;
 use opid::Refusal;
 use serde_json::Value;
@@ -34,13 +37,26 @@ impl<'v> Fields<'v> {
         }
     }
 
+    // The number or the text at a key, if it is one.
+    fn primitive(&self, key: &str) -> Option<Primitive<'v>>
+        ensures number { option_and_then as_u64 (option_and_then as_number (option_map primitive_data result))
+            ≡ option_and_then as_u64 (option_and_then as_number (get key.now (fields_data self.now))) }
+        ensures text { option_and_then as_str (option_map primitive_data result)
+            ≡ option_and_then as_str (get key.now (fields_data self.now)) }
+    {
+        match self {
+            Fields::Flat(members) => value_among(members, key),
+            Fields::Tree(value) => primitive_in(value.get(key)),
+        }
+    }
+
     /// The number at a key, whole and from 0 to 4,294,967,295.
     pub fn number(&self, key: &str) -> Result<u32, Refusal>
         ensures { result ≡ number_at key.now (fields_data self.now) }
     {
-        match self {
-            Fields::Flat(members) => number_among(members, key),
-            Fields::Tree(value) => read_number(value, key),
+        match self.primitive(key) {
+            Some(Primitive::Number(n)) if n <= u32::MAX as u64 => Ok(n as u32),
+            _ => Err(Refusal::BadField),
         }
     }
 
@@ -48,9 +64,9 @@ impl<'v> Fields<'v> {
     pub fn text(&self, key: &str) -> Result<&'v str, Refusal>
         ensures { Tells (λ s. s.now) result (text_at key.now (fields_data self.now)) }
     {
-        match self {
-            Fields::Flat(members) => text_among(members, key),
-            Fields::Tree(value) => read_text(value, key),
+        match self.primitive(key) {
+            Some(Primitive::Text(text)) => Ok(text),
+            _ => Err(Refusal::BadField),
         }
     }
 
@@ -88,21 +104,20 @@ fn value_among<'v>(members: &[Member<'v>], key: &str) -> Option<Primitive<'v>>
     found
 }
 
-fn number_among(members: &[Member<'_>], key: &str) -> Result<u32, Refusal>
-    ensures { result ≡ number_at key.now (flat_data members.now) }
+// The number or the text that a value is, if it is one.
+fn primitive_in<'v>(value: Option<&'v Value>) -> Option<Primitive<'v>>
+    ensures number { option_and_then as_u64 (option_and_then as_number (option_map primitive_data result))
+        ≡ option_and_then as_u64 (option_and_then as_number (option_map (λ v. view v.now) value.entry)) }
+    ensures text { option_and_then as_str (option_map primitive_data result)
+        ≡ option_and_then as_str (option_map (λ v. view v.now) value.entry) }
 {
-    match value_among(members, key) {
-        Some(Primitive::Number(n)) if n <= u32::MAX as u64 => Ok(n as u32),
-        _ => Err(Refusal::BadField),
+    let value = value?;
+    if let Some(n) = value.as_u64() {
+        return Some(Primitive::Number(n));
     }
-}
-
-fn text_among<'v>(members: &[Member<'v>], key: &str) -> Result<&'v str, Refusal>
-    ensures { Tells (λ s. s.now) result (text_at key.now (flat_data members.now)) }
-{
-    match value_among(members, key) {
-        Some(Primitive::Text(text)) => Ok(text),
-        _ => Err(Refusal::BadField),
+    match value.as_str() {
+        Some(text) => Some(Primitive::Text(text)),
+        None => None,
     }
 }
 
@@ -117,7 +132,7 @@ fn check_members(members: &[Member<'_>], row: &[&str]) -> Result<(), Refusal>
 }
 
 fn are_of(members: &[Member<'_>], row: &[&str]) -> bool
-    ensures { result ≡ are_of (map (λ name. name.now) row.now) members.now }
+    ensures { result ≡ list_all (λ m. list_any (λ name. bytes_eq name m.key.now) (map (λ name. name.now) row.now)) members.now }
 {
     members.iter().all(|member| is_among(member.key, row))
 }
