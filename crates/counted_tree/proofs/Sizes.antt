@@ -1,6 +1,6 @@
 -- How much the parts of a fork show, and how much a list shows after a change.
 use Rattle.std.proofs.Common.{◌≡◌, ℕ, ◌+◌, ◌-◌, ◌*◌, ◌≤◌, ◌<◌, Bool, true, false, cond, List, [], ◌∷◌, ◌++◌, length, Option, Some, None}
-use Rattle.std.proofs.Common.{ap, arith, inl, inr, eq-eqb, length-append}
+use Rattle.std.proofs.Common.{sym, ap, subst, arith, inl, inr, eq-eqb, length-append}
 use Rattle.std.proofs.Math.Dec.{eqb}
 use Rattle.std.specs.Prelude.{◌^◌}
 use Rattle.std.specs.Option.{IfSome}
@@ -29,15 +29,19 @@ units-fork l r x = length-fork (items_of true) l r x
 pub size_few : (s : Size) (xs : List Entry) → IsSizeOf s xs → (s.shown ≤ length xs) × (s.units ≤ 2 * length xs)
 size_few s xs h = (omega (arith, length-visible-le xs, h.0), omega (arith, length-items-le true xs, h.1))
 
+-- how much two lists and an entry between them show
+pub through_lists : (t s m : Size) (xs ys : List Entry) (x : Entry) → t ≡ through s x m → IsSizeOf s xs → IsSizeOf m ys
+    → IsSizeOf t (xs ++ x ∷ ys)
+through_lists t s m xs ys x et a b = (
+  omega (arith, shown-fork xs ys x, ap (λ (z : Size). z.shown) et, a.0, b.0),
+  omega (arith, units-fork xs ys x, ap (λ (z : Size). z.units) et, a.1, b.1),
+)
+
 -- how much a fork shows, by its two sides
 pub through_fork : (t s m : Size) (u l r : Tree) (x : Entry) → u ≡ Fork l x r → t ≡ through s x m → IsSizeOf s (entries l)
     → IsSizeOf m (entries r) → IsSizeOf t (entries u)
 through_fork t s m u l r x eu et a b =
-    let shown = ap (λ (v : Tree). length (visible (entries v))) eu in
-    let two = ap (λ (v : Tree). length (units (entries v))) eu in (
-      omega (arith, shown, shown-fork (entries l) (entries r) x, ap (λ (z : Size). z.shown) et, a.0, b.0),
-      omega (arith, two, units-fork (entries l) (entries r) x, ap (λ (z : Size). z.units) et, a.1, b.1),
-    )
+    subst (λ v. IsSizeOf t (entries v)) (sym eu) (through_lists t s m (entries l) (entries r) x et a b)
 
 -- these are small numbers
 pub through_small : (s m : Size) (xs ys : List Entry) (x : Entry) → IsSizeOf s xs → IsSizeOf m ys → length xs + length ys < 131072

@@ -8,20 +8,22 @@ use crate::entry::Entry;
 /// How many elements are shown, and how many units those have.
 #[derive(Clone, Copy)]
 pub struct Size {
+    /// The elements.
     pub shown: u32,
+    /// Their units in UTF-16: one or two for each.
     pub units: u32,
 }
 
 impl Size {
     /// That of no entry.
-    pub fn none() -> Size
+    pub(crate) fn none() -> Size
         ensures { result ≡ record { shown = 0; units = 0 } }
     {
         Size { shown: 0, units: 0 }
     }
 
     /// That of one entry.
-    pub fn of(entry: &Entry) -> Size
+    pub(crate) fn of(entry: &Entry) -> Size
         ensures { result ≡ size_of entry.now }
     {
         Size {
@@ -31,14 +33,14 @@ impl Size {
     }
 
     /// How many places are taken, in units or in elements.
-    pub fn items(&self, in_units: bool) -> usize
+    pub(crate) fn items(&self, in_units: bool) -> usize
         ensures { result ≡ (if in_units then self.now.units else self.now.shown) }
     {
         (if in_units { self.units } else { self.shown }) as usize
     }
 
     /// With what an entry shows, and with more.
-    pub fn through(self, entry: &Entry, more: Size) -> Size
+    pub(crate) fn through(self, entry: &Entry, more: Size) -> Size
         requires shown { self.shown + length (items_of false entry.now) + more.shown < 2 ^ 32 }
         requires units { self.units + length (items_of true entry.now) + more.units < 2 ^ 32 }
         ensures { result ≡ through self entry.now more }
@@ -50,7 +52,7 @@ impl Size {
     }
 
     /// Without a part and what an entry shows.
-    pub fn beyond(self, part: Size, entry: &Entry) -> Size
+    pub(crate) fn beyond(self, part: Size, entry: &Entry) -> Size
         requires shown { part.shown + length (items_of false entry.now) ≤ self.shown }
         requires units { part.units + length (items_of true entry.now) ≤ self.units }
         ensures { result ≡ beyond self part entry.now }
@@ -62,7 +64,7 @@ impl Size {
     }
 
     /// With more.
-    pub fn plus(self, more: Size) -> Size
+    pub(crate) fn plus(self, more: Size) -> Size
         requires shown { self.shown + more.shown < 2 ^ 32 }
         requires units { self.units + more.units < 2 ^ 32 }
         ensures { result ≡ record { shown = self.shown + more.shown; units = self.units + more.units } }
@@ -74,7 +76,7 @@ impl Size {
     }
 
     /// Without a part.
-    pub fn minus(self, part: Size) -> Size
+    pub(crate) fn minus(self, part: Size) -> Size
         requires shown { part.shown ≤ self.shown }
         requires units { part.units ≤ self.units }
         ensures { result ≡ record { shown = self.shown - part.shown; units = self.units - part.units } }

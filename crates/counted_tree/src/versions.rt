@@ -156,11 +156,13 @@ impl VersionTree {
         root_of(self.roots.as_slice(), version).size.items(true)
     }
 
-    /// How many shown elements stand before one in the newest version. Takes no memory, and as many steps as `find`.
-    pub fn rank(&self, elem: u32, steps: &mut Steps) -> usize
+    /// How many shown elements stand before one in the newest version, and how many units these have. Takes no memory, and
+    /// as many steps as `find`.
+    pub fn ranks(&self, elem: u32, steps: &mut Steps) -> Size
         requires { Lists elem (newest_list self.now) }
-        ensures rank { result ≡ length (visible (entries_before elem (newest_list self.now))) }
-        ensures few { result ≤ 131072 }
+        ensures shown { result.shown ≡ length (visible (entries_before elem (newest_list self.now))) }
+        ensures units { result.units ≡ length (units (entries_before elem (newest_list self.now))) }
+        ensures few { (result.shown ≤ 131072) × (result.units ≤ 2 * 131072) }
         ensures cost { steps.new ≤ steps.old + 2 * digits (length (newest_list self.now)) }
     {
         let root = last_root(self.roots.as_slice());
@@ -169,9 +171,18 @@ impl VersionTree {
             self.table.as_slice(),
             root.link.get(),
             elem,
-            false,
             steps,
         )
+    }
+
+    /// How many shown elements stand before one in the newest version. Takes no memory, and as many steps as `find`.
+    pub fn rank(&self, elem: u32, steps: &mut Steps) -> usize
+        requires { Lists elem (newest_list self.now) }
+        ensures rank { result ≡ length (visible (entries_before elem (newest_list self.now))) }
+        ensures few { result ≤ 131072 }
+        ensures cost { steps.new ≤ steps.old + 2 * digits (length (newest_list self.now)) }
+    {
+        self.ranks(elem, steps).shown as usize
     }
 
     /// How many units the shown elements before one have in the newest version. Takes no memory, and as many steps as `find`.
@@ -181,15 +192,7 @@ impl VersionTree {
         ensures few { result ≤ 2 * 131072 }
         ensures cost { steps.new ≤ steps.old + 2 * digits (length (newest_list self.now)) }
     {
-        let root = last_root(self.roots.as_slice());
-        rank_in(
-            &self.nodes,
-            self.table.as_slice(),
-            root.link.get(),
-            elem,
-            true,
-            steps,
-        )
+        self.ranks(elem, steps).units as usize
     }
 
     /// The last element that one passes in the newest version, going right from an element, or from before all others, as

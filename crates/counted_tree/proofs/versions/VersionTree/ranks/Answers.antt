@@ -1,0 +1,27 @@
+use Rattle.std.proofs.Common.{◌≡◌, length, ap, sym, ◌∙◌}
+use Rattle.counted_tree.specs.Entry.{visible, units}
+use Rattle.counted_tree.specs.Changed.{before}
+use Rattle.counted_tree.specs.Arena.{list_of}
+use Rattle.counted_tree.specs.Versions.{Versions, rooted, newest_list, newest_root}
+use Rattle.counted_tree.proofs.Listed.{last_list}
+use Rattle.counted_tree.proofs.versions.VersionTree.ranks.Goals as goal
+
+pub returns-clause-shown : goal.returns-clause-shown
+returns-clause-shown c =
+    let ns = c.self.inside.nodes.0 in
+    let roots = c.self.inside.roots.items in
+    let root_is : c.last_root-root.result ≡ newest_root roots = c.last_root-root.ensures ∙ ap newest_root c.as_slice.ensures.value in
+    let newest : newest_list c.args.self.now ≡ list_of ns c.get.result =
+    ap (λ (v : Versions). newest_list v) (sym c.self.view_is) ∙ last_list ns roots ∙ ap (rooted ns) (sym root_is)
+    ∙ ap (list_of ns) (sym c.get.ensures) in
+    c.rank_in.ensures.size.0 ∙ ap (λ xs. length (visible (before c.args.elem xs))) (sym newest)
+
+pub returns-clause-units : goal.returns-clause-units
+returns-clause-units c =
+    let ns = c.self.inside.nodes.0 in
+    let roots = c.self.inside.roots.items in
+    let root_is : c.last_root-root.result ≡ newest_root roots = c.last_root-root.ensures ∙ ap newest_root c.as_slice.ensures.value in
+    let newest : newest_list c.args.self.now ≡ list_of ns c.get.result =
+    ap (λ (v : Versions). newest_list v) (sym c.self.view_is) ∙ last_list ns roots ∙ ap (rooted ns) (sym root_is)
+    ∙ ap (list_of ns) (sym c.get.ensures) in
+    c.rank_in.ensures.size.1 ∙ ap (λ xs. length (units (before c.args.elem xs))) (sym newest)
