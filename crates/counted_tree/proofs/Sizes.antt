@@ -138,13 +138,7 @@ more_put (Some e) x xs h = (
   items-put_after true e x xs h,
 )
 
--- with one hidden: a list shows more than the one in which an entry is hidden, and so does the whole
-pub more_here : (l r : List Entry) (x : Entry) → ShowsMore (size_of x) (l ++ x ∷ r) (l ++ record x { shown = false } ∷ r)
-more_here l r x = (
-  omega (arith, shown-fork l r x, shown-fork l r (record x { shown = false })),
-  omega (arith, units-fork l r x, units-fork l r (record x { shown = false })),
-)
-
+-- what a side shows more, the whole does
 pub more_left : (s : Size) (l m r : List Entry) (x : Entry) → ShowsMore s l m → ShowsMore s (l ++ x ∷ r) (m ++ x ∷ r)
 more_left s l m r x h = (
   omega (arith, shown-fork l r x, shown-fork m r x, h.0),
