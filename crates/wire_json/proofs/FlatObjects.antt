@@ -201,7 +201,8 @@ among_put row k d (member l e ms) = among_put_at _ row k l d e ms refl (among_pu
 abbrev pub all_known : List (List ℕ) → List Member → Bool
 all_known row ms = list_all (λ m. known row m.key.now) ms
 
-keys_among : (row : List (List ℕ)) (ms : List Member) (old : Members) → are_among row (put_all ms old) ≡ all_known row ms && are_among row old
+keys_among : (row : List (List ℕ)) (ms : List Member) (old : Members)
+    → are_among row (put_all ms old) ≡ all_known row ms && are_among row old
 keys_among row [] old = refl
 keys_among row (m ∷ ms) old =
     keys_among row ms (put m.key.now (primitive_data m.value) old)
