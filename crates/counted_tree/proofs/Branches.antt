@@ -10,9 +10,9 @@ use Rattle.counted_tree.specs.Tree.Tree.{Leaf, Fork}
 use Rattle.counted_tree.specs.Store.{Store}
 use Rattle.counted_tree.specs.Change.{tree_in, Adds}
 use Rattle.counted_tree.specs.Branch.{IsBranchOf, IsBranch}
-use Rattle.counted_tree.specs.Table.{IsTopBelow}
 use Rattle.counted_tree.proofs.Growth.{link_later}
 use Rattle.counted_tree.proofs.Counts.{least-fork}
+use Rattle.counted_tree.proofs.Tables.{IsTopBelow}
 
 -- it stays right as nodes are added
 pub branch_later : (a b : Store) (n : ℕ) (l : Branch) → Adds a b n → IsBranch a l → IsBranch b l

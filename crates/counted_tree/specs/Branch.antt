@@ -1,4 +1,4 @@
--- What a tree's link is kept beside. No public clause cites this: it is the code's alone.
+-- What is kept beside a tree's link. No public clause cites this: it is the code's alone.
 use Rattle.std.specs.Prelude.{◌≡◌, ℕ, length, Option, None, IsSome}
 use Rattle.counted_tree.specs.declared.branch.Branch.{Branch}
 use Rattle.counted_tree.specs.Entry.{least_key}
@@ -8,7 +8,7 @@ use Rattle.counted_tree.specs.Arena.{IsLinkBelow}
 use Rattle.counted_tree.specs.Store.{Store}
 use Rattle.counted_tree.specs.Change.{tree_in}
 
--- the link is none to the empty tree, and to another one some, with the element at its top
+-- the tree is empty and there is no link; or there is one, and this is the element at the top
 abbrev pub IsTopOf : Option ℕ → ℕ → Tree → Type 0
 IsTopOf link e Leaf = link ≡ None
 IsTopOf link e (Fork l x r) = IsSome link × (e ≡ x.elem)
@@ -19,7 +19,7 @@ pub record IsBranchOf (b : Branch) (t : Tree) : Type 0 where
   pub least : b.least ≡ least_key (entries t)
   pub height : b.height ≡ height t
 
--- its link names a tree, of which it tells what is so
+-- the link names a tree of the store, and the branch tells what is so of it
 pub record IsBranch (a : Store) (b : Branch) : Type 0 where
   pub link : IsLinkBelow (length a.0) b.link
   pub tells : IsBranchOf b (tree_in a b.link)

@@ -11,7 +11,7 @@ use crate::steps::Steps;
 #[derive(Clone, Copy)]
 pub struct Branch {
     pub link: Option<u32>,
-    /// The element at its top, 0 where it is empty.
+    /// The element at its top, if there is one.
     pub elem: u32,
     /// The least key in it, `KEYS` where it is empty.
     pub least: u32,
