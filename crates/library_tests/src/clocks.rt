@@ -1,6 +1,7 @@
 //! The worked cases of clocks, operations and logs, and a random log beside a plain list.
-ghost use Rattle.std.specs.Prelude.{◌≡◌, ◌<◌, length};
+ghost use Rattle.std.specs.Prelude.{◌≡◌, length};
 
+use crate::dice::Dice;
 use causal_clock::{Clock, Op, OpLog, Reads};
 use opid::{OpKind, Refusal, Site, Stamp};
 use std::alloc::Global;
@@ -154,33 +155,22 @@ fn is_rest(log: &OpLog, place: usize, ops: &[Op]) -> bool {
     rest.next().is_none()
 }
 
-/// The next of a row of numbers that look random.
-fn drawn(seed: &mut u64, below: u64) -> u64
-    requires { 0 < below }
-    ensures { result < below }
-{
-    *seed = seed
-        .wrapping_mul(6_364_136_223_846_793_005)
-        .wrapping_add(1_442_695_040_888_963_407);
-    (*seed >> 33) % below
-}
-
 /// An operation of one of five sites, whose clock has nothing to do with those before it.
-fn any_op(alloc: Global, seed: &mut u64) -> Result<Op, Fail> {
-    let own = drawn(seed, 5) as u8;
+fn any_op(alloc: Global, dice: &mut Dice) -> Result<Op, Fail> {
+    let own = dice.roll(5) as u8;
     let mut pairs = Vec::new(alloc);
     for number in 0..5u8 {
-        let count = drawn(seed, 3) as u32;
+        let count = dice.roll(3) as u32;
         let count = if number == own { count + 1 } else { count };
         if count > 0 {
             pairs.push((site(number)?, count))?;
         }
     }
     let stamp = Stamp {
-        sum: drawn(seed, 100_000) as u32,
-        site: site(drawn(seed, 32) as u8)?,
+        sum: dice.roll(100_000) as u32,
+        site: site(dice.roll(32) as u8)?,
     };
-    let kind = match drawn(seed, 3) {
+    let kind = match dice.roll(3) {
         0 => OpKind::Ins {
             parent: None,
             ch: 'b',
@@ -196,14 +186,14 @@ fn any_op(alloc: Global, seed: &mut u64) -> Result<Op, Fail> {
 
 #[test]
 fn a_log_gives_back_what_was_pushed(rt: HostRuntime) -> Result<(), Fail> {
-    let mut seed = 7;
+    let mut dice = Dice::new(7);
     let mut log = OpLog::new(rt.alloc());
     let mut plain = Vec::new(rt.alloc());
     for k in 0..2_000usize {
         if k % 64 == 0 {
             log.reserve(64)?;
         }
-        let op = any_op(rt.alloc(), &mut seed)?;
+        let op = any_op(rt.alloc(), &mut dice)?;
         log.push(op)?;
         plain.push(op)?;
     }

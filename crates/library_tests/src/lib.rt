@@ -1,5 +1,5 @@
-//! Tests of the crates below a room, over their public calls. They stand apart from those crates, which would be proved once more for
-//! tests of their own.
+//! Tests of clocks, texts, lists, trees, documents, what is held back, sessions, requests, replies and snapshots, over the public
+//! calls of their crates. They stand apart from those, which would be proved once more for tests of their own.
 #![tactic(auto)]
 
 #[cfg(test)]

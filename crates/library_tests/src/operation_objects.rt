@@ -20,7 +20,7 @@ fn op_of(alloc: Global, text: &str) -> Result<Op, Refusal> {
     read_op(&value)
 }
 
-// The operations that a list tells, as a request hands them over.
+// The operations that a list tells, as a request hands them over: of more than 64 the first 65.
 pub(crate) fn ops_of(alloc: Global, list: &str) -> Result<Vec<Op>, Refusal> {
     let request = format!(in alloc; "{{\"ops\":{list},\"t\":\"put\"}}")?;
     match read_request(alloc, request.as_bytes())? {

@@ -1,6 +1,7 @@
 //! Runs as JSON shows them.
 ghost use Rattle.std.specs.Prelude.{◌<◌};
 
+use crate::dice::Dice;
 use crate::operation_objects::{ops_of, packed};
 use causal_clock::{Clock, MAX_SUM, Op};
 use opid::{OpKind, Refusal, Site, Stamp};
@@ -153,17 +154,13 @@ fn logs_are_read_back(
 fn random_log(alloc: Global) -> Result<Vec<Op>, Refusal> {
     let mut ops: Vec<Op> = Vec::new(alloc);
     let mut site = Site::new(0)?;
-    let mut seed: u64 = 24;
+    let mut dice = Dice::new(24);
     for _ in 0..2_000 {
-        seed = seed
-            .wrapping_mul(6_364_136_223_846_793_005)
-            .wrapping_add(1_442_695_040_888_963_407);
-        let dice = (seed >> 33) as u32;
-        if dice % 40 == 0 {
-            site = Site::new((dice / 64 % 4) as u8)?;
+        if dice.roll(40) == 0 {
+            site = Site::new(dice.roll(4) as u8)?;
         }
         let newest = ops.last().map(|op| op.stamp());
-        let kind = match (dice / 1024 % 80, newest) {
+        let kind = match (dice.roll(80), newest) {
             (0, _) => OpKind::Ins {
                 parent: None,
                 ch: 'é',

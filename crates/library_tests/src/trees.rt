@@ -1,24 +1,23 @@
 //! A worked tree, and a random one beside a scan of all elements.
 mod plain;
 
+use crate::dice::Dice;
 use crate::trees::plain::Plain;
 use counted_tree::{Steps, VersionTree};
 use std::alloc::AllocError;
 use std::test::Fail;
 
-// Each key is below this: 2^23.
-const KEYS: u32 = 8_388_608;
-
 const OPERATIONS: usize = 120;
 
 const ELEMENTS: usize = 400;
 
-fn next(seed: &mut u64, n: u32) -> u32 {
-    let x = seed
-        .wrapping_mul(6_364_136_223_846_793_005)
-        .wrapping_add(1_442_695_040_888_963_407);
-    *seed = x;
-    if n == 0 { 0 } else { (x >> 32) as u32 % n }
+/// A number below this one, or 0 where there is none.
+fn below(dice: &mut Dice, n: u32) -> u32 {
+    if n == 0 {
+        0
+    } else {
+        dice.roll(n as usize) as u32
+    }
 }
 
 /// The element that a version shows at the place, if there are both.
@@ -66,10 +65,11 @@ fn insert(
     tree: &mut VersionTree,
     plain: &mut Plain,
     before: Option<u32>,
-    key: u32,
+    key: u16,
     wide: bool,
 ) -> Result<(), AllocError> {
-    if tree.room() == 0 || key >= KEYS {
+    let key = u32::from(key);
+    if tree.room() == 0 {
         return Ok(());
     }
     let n = tree.elements();
@@ -96,11 +96,11 @@ fn hide(tree: &mut VersionTree, plain: &mut Plain, k: usize) {
     }
 }
 
-fn step(tree: &mut VersionTree, plain: &mut Plain, seed: &mut u64) -> Result<(), AllocError> {
+fn step(tree: &mut VersionTree, plain: &mut Plain, dice: &mut Dice) -> Result<(), AllocError> {
     let n = tree.elements() as u32;
-    let key = next(seed, 9);
-    let wide = next(seed, 3) == 0;
-    match next(seed, 10) {
+    let key = dice.roll(9) as u16;
+    let wide = dice.roll(3) == 0;
+    match dice.roll(10) {
         0 => {
             if tree.room() > 0 {
                 tree.mark();
@@ -109,11 +109,11 @@ fn step(tree: &mut VersionTree, plain: &mut Plain, seed: &mut u64) -> Result<(),
         }
         1 => insert(tree, plain, None, key, wide),
         2 | 3 | 4 => {
-            hide(tree, plain, next(seed, n) as usize);
+            hide(tree, plain, below(dice, n) as usize);
             Ok(())
         }
         5 | 6 => insert(tree, plain, n.checked_sub(1), key, wide),
-        _ => insert(tree, plain, Some(next(seed, n)), key, wide),
+        _ => insert(tree, plain, Some(below(dice, n)), key, wide),
     }
 }
 
@@ -122,9 +122,9 @@ fn agrees_with_a_scan(rt: HostRuntime) -> Result<(), Fail> {
     let mut tree = VersionTree::new(rt.alloc());
     let mut plain = Plain::new(rt.alloc());
     tree.reserve(OPERATIONS)?;
-    let mut seed = 11;
+    let mut dice = Dice::new(11);
     for _ in 0..OPERATIONS {
-        step(&mut tree, &mut plain, &mut seed)?;
+        step(&mut tree, &mut plain, &mut dice)?;
     }
     assert!(rt; tree.newest() > 90);
     for version in 0..tree.newest() + 1 {
@@ -162,13 +162,11 @@ fn long_ways_agree_with_a_scan(rt: HostRuntime) -> Result<(), Fail> {
     let mut tree = VersionTree::new(rt.alloc());
     let mut plain = Plain::new(rt.alloc());
     tree.reserve(ELEMENTS)?;
-    let mut seed = 5;
+    let mut dice = Dice::new(5);
     for n in 0..ELEMENTS as u32 {
-        let key = match next(&mut seed, 40) {
-            0 => next(&mut seed, 1000),
-            _ => next(&mut seed, 1000).saturating_add(1000),
-        };
-        let before = next(&mut seed, n + 1).checked_sub(1);
+        let least = if dice.roll(40) == 0 { 0 } else { 1000 };
+        let key = least + dice.roll(1000) as u16;
+        let before = below(&mut dice, n + 1).checked_sub(1);
         insert(&mut tree, &mut plain, before, key, false)?;
     }
     for key in [0, 500, 999, 1000, 1998, 1999, 2000, u32::MAX] {
@@ -274,9 +272,9 @@ fn the_longest_log_stays_within_its_bounds(rt: HostRuntime) -> Result<(), Fail> 
     }
     assert_eq!(rt; tree.newest(), 131_072);
     assert!(rt; tree.nodes() <= 5_242_880);
-    let mut seed = 3;
+    let mut dice = Dice::new(3);
     for version in 1..131_073u32 {
-        let place = next(&mut seed, version) as usize;
+        let place = dice.roll(version as usize);
         assert!(rt; is_found_soon(&tree, version as usize, place));
     }
     Ok(())

@@ -1,11 +1,18 @@
--- How the program ends, where it hasn't done what its words ask for.
-use Rattle.std.specs.Prelude.{ℕ, Bool, true, false}
+-- How the program ends.
+use Rattle.std.specs.Prelude.{ℕ, Bool, true, false, Result, Ok, Err}
 use Rattle.rgatext.specs.declared.ending.Ending.{Ending}
-use Rattle.rgatext.specs.declared.ending.Ending.TheVariants.{Unplanned, Stopped}
+use Rattle.rgatext.specs.declared.ending.Ending.TheVariants.{Done, Unplanned, Stopped}
 use Rattle.rgatext.specs.declared.plan.PlanFault.TheVariants.{Help, Words, Memory}
+use Rattle.rgatext.specs.declared.stop.Stop.{Stop}
 
--- the program's status; 0 besides where all was done
+-- how the run of a plan ends
+abbrev pub ending_of : Result (Unit {0}) Stop → Ending
+ending_of (Ok done) = Done
+ending_of (Err why) = Stopped why
+
+-- the program's status
 abbrev pub status_of : Ending → ℕ
+status_of Done = 0
 status_of (Unplanned (Help text)) = 0
 status_of (Unplanned (Words text)) = 2
 status_of (Unplanned Memory) = 1
@@ -13,6 +20,7 @@ status_of (Stopped why) = 1
 
 -- it is told on standard output, not on standard error
 abbrev pub is_output : Ending → Bool
+is_output Done = false
 is_output (Unplanned (Help text)) = true
 is_output (Unplanned (Words text)) = false
 is_output (Unplanned Memory) = false

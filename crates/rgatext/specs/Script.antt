@@ -8,6 +8,7 @@ use Rattle.opid.specs.declared.refusal.Refusal.TheVariants.{BadField, BadSite, T
 use Rattle.replica_world.specs.declared.event.Event.{Event}
 use Rattle.replica_world.specs.declared.event.Event.TheVariants as events
 use Rattle.wire_json.specs.Members.{◌>>=◌}
+use Rattle.wire_json.specs.Operations.{site_of}
 use Rattle.wire_json.specs.Request.{request}
 use Rattle.rgatext.specs.declared.script.Form.{Form}
 use Rattle.rgatext.specs.declared.script.Form.TheVariants.{Call, Carry, Fork}
@@ -33,10 +34,6 @@ abbrev pub IsForm : List ℕ → Form → Type 0
 IsForm line form = (line ≡ line_of form) × IsFormInRange form
 
 -- ---- what a line asks for
-
--- the site of a number
-abbrev pub site_of : ℕ → Result ℕ Refusal
-site_of n = if nat_lt n 32 then Ok n else Err BadSite
 
 -- the event that a form asks for; sites are seen before the request is read
 abbrev pub event_of : Form → Result Event Refusal

@@ -3,9 +3,11 @@ use crate::plan::PlanFault;
 use crate::stop::Stop;
 use std::fmt;
 
-/// Why the program ends without having done what its words ask for, or having shown its help instead.
+/// How the program ends.
 #[derive(Debug, Drop)]
 pub enum Ending {
+    /// What its words ask for was done.
+    Done,
     /// There is no plan.
     Unplanned(PlanFault),
     /// The plan's run stopped before its end.
@@ -14,13 +16,24 @@ pub enum Ending {
 
 impl Ending {
     ghost use Rattle.std.specs.Prelude.{◌≡◌};
-    ghost use Rattle.rgatext.specs.Endings.{status_of, is_output};
+    ghost use Rattle.rgatext.specs.Endings.{ending_of, status_of, is_output};
 
-    /// The status: 0 where help was asked for, 2 for bad words, and else 1. Constant time.
+    /// How the run of a plan ends. Constant time.
+    pub fn of(ran: Result<(), Stop>) -> Ending
+        ensures { result ≡ ending_of ran }
+    {
+        match ran {
+            Ok(()) => Ending::Done,
+            Err(why) => Ending::Stopped(why),
+        }
+    }
+
+    /// The status: 0 where all was done or help was asked for, 2 for bad words, and else 1. Constant time.
     pub fn status(&self) -> u8
         ensures { result ≡ status_of self.now }
     {
         match self {
+            Ending::Done => 0,
             Ending::Unplanned(PlanFault::Help(_)) => 0,
             Ending::Unplanned(PlanFault::Words(_)) => 2,
             Ending::Unplanned(PlanFault::Memory) => 1,
@@ -28,14 +41,14 @@ impl Ending {
         }
     }
 
-    /// Whether it is told on standard output: help that was asked for is, all else on standard error. Constant time.
+    /// Whether it is told on standard output: help that was asked for is, all else on standard error. There is nothing to tell
+    /// where all was done. Constant time.
     pub fn is_output(&self) -> bool
         ensures { result ≡ is_output self.now }
     {
         match self {
             Ending::Unplanned(PlanFault::Help(_)) => true,
-            Ending::Unplanned(_) => false,
-            Ending::Stopped(_) => false,
+            Ending::Done | Ending::Unplanned(_) | Ending::Stopped(_) => false,
         }
     }
 }
@@ -43,6 +56,7 @@ impl Ending {
 impl fmt::Display for Ending {
     fn fmt<W: fmt::Write>(&self, f: &mut fmt::Formatter<W>) -> fmt::Result {
         match self {
+            Ending::Done => Ok(()),
             Ending::Unplanned(why) => write!(f, "{why}"),
             Ending::Stopped(why) => write!(f, "rgatext: {why}\n"),
         }

@@ -63,7 +63,7 @@ fn play_streams(rt: &HostRuntime, plan: &Plan) -> Result<(), Stop>
     play(rt.alloc(), plan, &mut input, &mut output)
 }
 
-// Tells why the program ends, and gives the status.
+// Tells how the program ends, and gives the status.
 fn tell(rt: &HostRuntime, ending: &Ending) -> ExitCode {
     if ending.is_output() {
         let _ = print!(rt; "{ending}");
@@ -87,8 +87,5 @@ fn main(rt: HostRuntime) -> ExitCode {
         } => host(&rt, rt.alloc(), *port, *site, *conns, names),
         _ => play_streams(&rt, &plan),
     };
-    match ran {
-        Ok(()) => ExitCode::SUCCESS,
-        Err(why) => tell(&rt, &Ending::Stopped(why)),
-    }
+    tell(&rt, &Ending::of(ran))
 }

@@ -5,14 +5,14 @@ ghost use Rattle.opid.specs.declared.refusal.Refusal.TheVariants.{TooLong};
 ghost use Rattle.replica_world.specs.declared.event.Event.{Event};
 ghost use Rattle.wire_json.specs.Given.{Gives, same};
 ghost use Rattle.rgatext.specs.declared.script.Form.{Form};
-ghost use Rattle.rgatext.specs.Script.{IsWord, IsPlainNumber, IsForm, spaced, site_of, event_of, Asks};
+ghost use Rattle.rgatext.specs.Script.{IsWord, IsPlainNumber, IsForm, spaced, event_of, Asks};
 
 use memchr::memchr;
 use opid::{Refusal, Site};
 use replica_world::Event;
 use std::alloc::Global;
 use std::str;
-use wire_json::RequestReader;
+use wire_json::{RequestReader, check_site};
 
 /// The most bytes of a line.
 pub const MAX_LINE_BYTES: usize = 65_600;
@@ -51,29 +51,20 @@ fn event_of(alloc: Global, reader: &mut RequestReader, form: Form<'_>) -> Result
 {
     match form {
         Form::Call { site, request } => {
-            let at = site_of(site)?;
+            let at = check_site(site)?;
             let call = reader.read(alloc, request)?;
             Ok(Event::Call(at, call))
         }
         Form::Carry { from, n, to } => {
-            let from = site_of(from)?;
-            let to = site_of(to)?;
+            let from = check_site(from)?;
+            let to = check_site(to)?;
             Ok(Event::Carry { from, n, to })
         }
         Form::Fork { new, from, n } => {
-            let new = site_of(new)?;
-            let from = site_of(from)?;
+            let new = check_site(new)?;
+            let from = check_site(from)?;
             Ok(Event::Fork { new, from, n })
         }
-    }
-}
-
-fn site_of(number: u32) -> Result<Site, Refusal>
-    ensures { result ≡ site_of number }
-{
-    match u8::try_from(number) {
-        Ok(number) => Site::new(number),
-        Err(_) => Err(Refusal::BadSite),
     }
 }
 

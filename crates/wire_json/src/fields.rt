@@ -5,7 +5,7 @@ ghost use Rattle.serde_json.specs.View.{view};
 ghost use Rattle.std.specs.List.{list_any, list_all};
 ghost use Rattle.wire_json.specs.Flat.{primitive_data, flat_data, fields_data};
 ghost use Rattle.wire_json.specs.PackedOperations.{operations_at};
-ghost use Rattle.wire_json.specs.Members.{only_keys, number_at, text_at};
+ghost use Rattle.wire_json.specs.Members.{only_keys, number_told, number_at, text_at};
 ghost use Rattle.wire_json.specs.Given.{Tells, Gives};
 
 use crate::flat::{Member, Primitive};
@@ -54,10 +54,7 @@ impl<'v> Fields<'v> {
     pub fn number(&self, key: &str) -> Result<u32, Refusal>
         ensures { result ≡ number_at key.now (fields_data self.now) }
     {
-        match self.primitive(key) {
-            Some(Primitive::Number(n)) if n <= u32::MAX as u64 => Ok(n as u32),
-            _ => Err(Refusal::BadField),
-        }
+        number_told(self.primitive(key))
     }
 
     /// The text at a key.
@@ -102,6 +99,23 @@ fn value_among<'v>(members: &[Member<'v>], key: &str) -> Option<Primitive<'v>>
         }
     }
     found
+}
+
+// The number that a value is, whole and from 0 to 4,294,967,295.
+fn number_told(value: Option<Primitive<'_>>) -> Result<u32, Refusal>
+    ensures { result ≡ number_told (option_map primitive_data value.entry) }
+{
+    match value {
+        Some(Primitive::Number(n)) if n <= u32::MAX as u64 => Ok(n as u32),
+        _ => Err(Refusal::BadField),
+    }
+}
+
+/// The same of a JSON value, if there is one.
+pub(crate) fn number_in(value: Option<&Value>) -> Result<u32, Refusal>
+    ensures { result ≡ number_told (option_map (λ v. view v.now) value.entry) }
+{
+    number_told(primitive_in(value))
 }
 
 // The number or the text that a value is, if it is one.

@@ -21,7 +21,7 @@ pub use laws::{
 };
 pub use opening::read_open;
 pub use operation_writing::{check_op, write_op};
-pub use operations::{read_list, read_op};
+pub use operations::{check_site, read_list, read_op};
 pub use packing::{Item, write_item};
 pub use reading::{
     MAX_REQUEST_BYTES, RequestReader, check_keys, read_number, read_request, read_value,

@@ -54,7 +54,7 @@ impl Item {
     pub fn is_joined_by(&self, op: &Op) -> bool
         ensures { result ≡ joins self.now op.now }
     {
-        self.more.len() + 1 < MAX_RUN && is_next(&self.last, op)
+        self.more.len() + 1 < MAX_RUN && is_typed_next(&self.last, op)
     }
 
     /// Adds an operation that joins the run. An error is for want of memory.
@@ -72,7 +72,7 @@ impl Item {
 }
 
 // Whether the first is an insertion, and the second the next one after it.
-fn is_next(x: &Op, y: &Op) -> bool
+fn is_typed_next(x: &Op, y: &Op) -> bool
     ensures { result ≡ is_typed_next x.now y.now }
 {
     prove!(x.site().number() < 32);

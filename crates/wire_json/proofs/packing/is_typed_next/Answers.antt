@@ -2,7 +2,7 @@
 use Rattle.std.proofs.Common.{◌∙◌, ap, sym, arith, sum}
 use Rattle.std.proofs.lemmas.Bool.{le-ltb}
 use Rattle.wire_json.proofs.Packer.{not_next}
-use Rattle.wire_json.proofs.packing.is_next.Goals as goal
+use Rattle.wire_json.proofs.packing.is_typed_next.Goals as goal
 
 pub returns-else-sum-lt-MAX_SUM : goal.returns-else-sum-lt-MAX_SUM
 returns-else-sum-lt-MAX_SUM c =
