@@ -1,6 +1,6 @@
 -- Which plan the rows of a subcommand ask for, and when they ask for none.
-use Rattle.std.proofs.Common.{◌≡◌, ℕ, ◌≤◌, List, Option, None, Some, Bool, false, refl, sym, ap}
-use Rattle.std.proofs.Common.{ap₂, ◌∙◌, ◌||◌, arith, codes, slice_index}
+use Rattle.std.proofs.Common.{◌≡◌, ℕ, ◌≤◌, List, Option, None, Some, refl, sym, ap}
+use Rattle.std.proofs.Common.{◌∙◌, arith, codes, slice_index}
 use Rattle.clap.specs.Words.{Row, all_of, first_of}
 use Rattle.rgatext.specs.declared.plan.Plan.TheVariants.{Lines, Text as TextOf, Serve, World}
 use Rattle.rgatext.specs.CommandLine.{AsksNothing, ReadsTo}

@@ -1,10 +1,10 @@
 -- Scripts of a world: each line asks for one event, in one of three forms. Words have one space between them, numbers are
 -- written in decimal. The forms are the server's own.
-use Rattle.std.specs.Prelude.{◌≡◌, ◌≢◌, ◌⊎◌, ℕ, ◌^◌, ◌<◌, ◌≤◌, nat_lt, if◌then◌else◌, Result, Ok, Err, List, ◌∷◌, ◌++◌, length, slice_index}
+use Rattle.std.specs.Prelude.{◌≡◌, ◌≢◌, ◌⊎◌, ℕ, ◌^◌, ◌<◌, ◌≤◌, Result, Ok, Err, List, ◌∷◌, ◌++◌, length, slice_index}
 use Rattle.std.specs.Prelude.{codes, decimal}
 use Rattle.std.specs.List.{AllByRecursion}
 use Rattle.opid.specs.declared.refusal.Refusal.{Refusal}
-use Rattle.opid.specs.declared.refusal.Refusal.TheVariants.{BadField, BadSite, TooLong}
+use Rattle.opid.specs.declared.refusal.Refusal.TheVariants.{BadField, TooLong}
 use Rattle.replica_world.specs.declared.event.Event.{Event}
 use Rattle.replica_world.specs.declared.event.Event.TheVariants as events
 use Rattle.wire_json.specs.Members.{◌>>=◌}

@@ -1,5 +1,5 @@
 -- The values that the subcommand's rows have are those that were read.
-use Rattle.std.proofs.Common.{◌≡◌, ◌∙◌, ℕ, List, Option, Some, sym, ap, subst, codes, refl}
+use Rattle.std.proofs.Common.{◌∙◌, ℕ, List, Option, Some, sym, ap, subst, codes, refl}
 use Rattle.clap.specs.Words.{found_of, rows_of}
 use Rattle.clap.proofs.WalkLemmas.{first_value-rows, raw_values-rows}
 use Rattle.rgatext.specs.CommandLine.{ReadsTo}

@@ -1,5 +1,4 @@
 -- The hall's pass stays one of the hall.
-use Rattle.std.proofs.Common.{◌≡◌}
 use Rattle.ws_server.specs.Halls.{IsHallPassOf}
 use Rattle.rgatext.proofs.host.fn.serve_all.scope.Given as goal
 
