@@ -1,5 +1,5 @@
 //! The worked cases of clocks, operations and logs, and a random log beside a plain list.
-ghost use Rattle.std.specs.Prelude.{◌≡◌, length};
+ghost use Rattle.std.specs.Prelude.{◌≡◌, ◌<◌, length};
 
 use crate::dice::Dice;
 use causal_clock::{Clock, Op, OpLog, Reads};

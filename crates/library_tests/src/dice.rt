@@ -1,17 +1,18 @@
 //! Numbers that look random, always the same.
 ghost use Rattle.std.specs.Prelude.{◌<◌};
 
-/// A row of such numbers, from a seed on.
+/// A row of such numbers.
 #[derive(Drop)]
-pub(crate) struct Dice(u64);
+pub struct Dice(u64);
 
 impl Dice {
-    pub(crate) fn new(seed: u64) -> Dice {
+    /// The row from a seed on.
+    pub fn new(seed: u64) -> Dice {
         Dice(seed)
     }
 
     /// The next number of the row, below this.
-    pub(crate) fn roll(&mut self, sides: usize) -> usize
+    pub fn roll(&mut self, sides: usize) -> usize
         requires { 0 < sides }
         ensures { result < sides }
     {

@@ -1,9 +1,9 @@
 //! Runs as JSON shows them.
 ghost use Rattle.std.specs.Prelude.{◌<◌};
 
-use crate::dice::Dice;
 use crate::operation_objects::{ops_of, packed};
 use causal_clock::{Clock, MAX_SUM, Op};
+use library_tests::dice::Dice;
 use opid::{OpKind, Refusal, Site, Stamp};
 use std::alloc::Global;
 use std::ops::Range;
