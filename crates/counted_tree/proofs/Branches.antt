@@ -1,25 +1,24 @@
 -- What a branch tells: as the nodes grow, of a fork, and of its row in the table of parents.
-use Rattle.std.proofs.Common.{◌≡◌, ℕ, ◌+◌, ◌<◌, Option, None, Some, max, min, refl, sym, ap, ◌∙◌, subst, arith}
+use Rattle.std.proofs.Common.{◌≡◌, ℕ, ◌+◌, ◌<◌, ◌≤◌, List, length, get_or, Option, None, Some, max, min, refl, sym, ap, ◌∙◌, subst, arith}
+use Rattle.std.specs.Prelude.{◌^◌}
+use Rattle.std.proofs.lemmas.Option.{get_or_from_slice_get, slice_get_within}
 use Rattle.std.specs.Option.{IfSome}
 use Rattle.counted_tree.specs.declared.branch.Branch.{Branch}
 use Rattle.counted_tree.specs.declared.entry.Entry.{Entry}
 use Rattle.counted_tree.specs.declared.node.Node.{Node}
 use Rattle.counted_tree.specs.Size.{IsSizeOf}
-use Rattle.counted_tree.specs.Tree.{Tree, entries, IsBalanced}
+use Rattle.counted_tree.specs.Entry.{least_key}
+use Rattle.counted_tree.specs.Arena.{AreSound}
+use Rattle.counted_tree.specs.declared.row.Row.{Row}
+use Rattle.counted_tree.specs.Tree.{Tree, entries, height, IsBalanced}
 use Rattle.counted_tree.specs.Tree.Tree.{Leaf, Fork}
 use Rattle.counted_tree.specs.Store.{Store}
-use Rattle.counted_tree.specs.Change.{tree_in, Adds}
+use Rattle.counted_tree.specs.Change.{tree_in}
 use Rattle.counted_tree.specs.Branch.{IsBranchOf, IsBranch}
-use Rattle.counted_tree.proofs.Growth.{link_later}
-use Rattle.counted_tree.proofs.Counts.{least-fork}
+use Rattle.counted_tree.specs.Table.{row_of, PointsTo, HasRow}
+use Rattle.counted_tree.proofs.Growth.{linked_balanced}
+use Rattle.counted_tree.proofs.Counts.{height_small, least_within, least-fork}
 use Rattle.counted_tree.proofs.Tables.{IsTopBelow}
-
--- it stays right as nodes are added
-pub branch_later : (a b : Store) (n : ℕ) (l : Branch) → Adds a b n → IsBranch a l → IsBranch b l
-branch_later a b n l p h = record {
-  link = link_later _ _ l.link p.longer h.link;
-  tells = subst (IsBranchOf l) (sym (p.same l.link h.link)) h.tells;
-}
 
 -- the branch of a fork
 pub branch_over : (l r : Branch) (x : Entry) (least high number : ℕ) (s t : Tree) → IsBranchOf l s → IsBranchOf r t
@@ -39,6 +38,27 @@ row_if (Some k) e n h = h
 pub row_of_branch : (b : Branch) (t : Tree) (n : ℕ) → IsBranchOf b t → IsTopBelow n t → IfSome b.link (λ _. b.elem < n)
 row_of_branch b Leaf n h k = subst (λ o. IfSome o (λ _. b.elem < n)) (sym h.top) tt
 row_of_branch b (Fork l x r) n h k = row_if b.link b.elem n (omega (arith, h.top.1, k))
+
+-- its numbers are small
+pub branch_small : (a : Store) (b : Branch) → AreSound a.0 → IsBranch a b → length (entries (tree_in a b.link)) ≤ 131072
+    → (b.least ≤ 2 ^ 23) × (b.height ≤ 25)
+branch_small a b sound h few =
+    let t = tree_in a b.link in (
+      omega (arith, h.tells.least, least_within (entries t)),
+      omega (arith, h.tells.height, height_small t (linked_balanced a.0 b.link sound h.link) few),
+    )
+
+-- the row of a fork that the table has is what is read of it
+pub read_row : (tb : List Row) (t l r : Tree) (x : Entry) (w d : Row) → t ≡ Fork l x r → HasRow tb t → w ≡ get_or tb x.elem d
+    → (w.least ≡ least_key (entries t)) × (w.height ≡ height t)
+read_row tb t l r x w d e has read =
+    let p = subst (λ u. PointsTo tb u has.0) e has.1 in
+    let same = read ∙ get_or_from_slice_get tb x.elem (row_of (Fork l x r) has.0) d p in
+    (ap (λ (v : Row). v.least) same ∙ ap (λ u. least_key (entries u)) (sym e), ap (λ (v : Row). v.height) same ∙ ap height (sym e))
+
+pub row_there : (tb : List Row) (t l r : Tree) (x : Entry) → t ≡ Fork l x r → HasRow tb t → x.elem < length tb
+row_there tb t l r x e has =
+    slice_get_within tb x.elem (row_of (Fork l x r) has.0) (subst (λ u. PointsTo tb u has.0) e has.1)
 
 -- a node's tree by the branches of its two sides
 pub record AreSides (a : Store) (t : Tree) (n : Node) (l r : Branch) : Type 0 where

@@ -1,5 +1,5 @@
 -- How far one comes past greater keys, in two lists one after the other.
-use Rattle.std.proofs.Common.{◌≡◌, ℕ, ◌<◌, ◌≤◌, Bool, true, false, ltb, List, [], ◌∷◌, ◌++◌, Option, Some, None}
+use Rattle.std.proofs.Common.{◌≡◌, ℕ, ◌<◌, ◌≤◌, Bool, true, false, ltb, List, [], ◌∷◌, ◌++◌, length, Option, Some, None}
 use Rattle.std.proofs.Common.{refl, sym, ap, ◌∙◌, arith, inl, inr}
 use Rattle.std.specs.Prelude.{◌^◌}
 use Rattle.std.proofs.lemmas.Bool.{cases_lt, lt-ltb, le-ltb}
@@ -7,7 +7,12 @@ use Rattle.counted_tree.specs.declared.entry.Entry.{Entry}
 use Rattle.counted_tree.specs.Entry.{least_key}
 use Rattle.counted_tree.specs.Tree.{Tree, entries}
 use Rattle.counted_tree.specs.Tree.Tree.{Leaf, Fork}
+use Rattle.counted_tree.specs.Arena.{AreSound}
+use Rattle.counted_tree.specs.Change.{tree_in}
+use Rattle.counted_tree.specs.Store.{Store}
 use Rattle.counted_tree.proofs.Counts.{least-fork}
+use Rattle.counted_tree.proofs.Told.{opened}
+use Rattle.std.proofs.lemmas.Option.{slice_get_cases}
 use Rattle.std.specs.Option.{IsSome}
 use Rattle.counted_tree.specs.declared.side.Side.{Side}
 use Rattle.counted_tree.specs.declared.side.Side.TheVariants.{Left, Right}
@@ -32,9 +37,16 @@ by_least key xs h = elim (cases_lt key (least_key xs)) [
   | inr le ↦ le-ltb key (least_key xs) le ∙ sym (from_least key xs le h)
 ]
 
-pub least_of_fork : (t l r : Tree) (x : Entry) → t ≡ Fork l x r → x.key < 2 ^ 23 → least_key (entries t) < 2 ^ 23
+least_of_fork : (t l r : Tree) (x : Entry) → t ≡ Fork l x r → x.key < 2 ^ 23 → least_key (entries t) < 2 ^ 23
 least_of_fork t l r x e h =
     rw e (omega (arith, least-fork (entries l) (entries r) x))
+
+pub least_small : (a : Store) (i : ℕ) → AreSound a.0 → i < length a.0 → least_key (entries (tree_in a (Some i))) < 2 ^ 23
+least_small a i s h = elim ((slice_get_cases a.0 i).1) [
+  | inl w ↦ let o = opened a i w.0 s w.2 in
+      least_of_fork (tree_in a (Some i)) (tree_in a w.0.left) (tree_in a w.0.right) w.0.entry o.tree o.small.1
+  | inr w ↦ absurd (omega (arith, w.0))
+]
 
 -- where each is passed
 passed_all : (key : ℕ) (last : Option ℕ) (xs : List Entry) → all_greater key xs ≡ true → passed key last xs ≡ last_of last xs

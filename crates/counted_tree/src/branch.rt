@@ -1,13 +1,17 @@
 //! A tree beside what a node over it has to know.
-ghost use Rattle.std.specs.Prelude.{◌≡◌, length};
+ghost use Rattle.std.specs.Prelude.{◌≡◌, ◌+◌, ◌≤◌, length, None};
 ghost use Rattle.counted_tree.specs.Arena.{IsLinkBelow, AreSound};
-ghost use Rattle.counted_tree.specs.Branch.{IsBranch};
+ghost use Rattle.counted_tree.specs.Branch.{IsBranchOf, IsBranch};
+ghost use Rattle.counted_tree.specs.Change.{tree_in};
+ghost use Rattle.counted_tree.specs.Table.{HasRow};
+ghost use Rattle.counted_tree.specs.Tree.Tree.{Leaf};
 
 use crate::entry::KEYS;
 use crate::nodes::Nodes;
+use crate::packed_row::PackedRow;
 use crate::steps::Steps;
 
-/// A tree by its link, and what a node over it and the table of parents take from it, so that the tree is looked at once.
+/// A tree by its link, and what a node over it and the newest tree's table take from it, so that the tree is looked at once.
 #[derive(Clone, Copy)]
 pub struct Branch {
     pub link: Option<u32>,
@@ -18,28 +22,40 @@ pub struct Branch {
     pub height: u8,
 }
 
-/// The tree that a link names. Looks at one node, or where the tree is empty at none.
-pub fn branch_of(nodes: &Nodes, link: Option<u32>, steps: &mut Steps) -> Branch
-    requires sound { AreSound nodes.now.0 }
-    requires link { IsLinkBelow (length nodes.now.0) link }
-    ensures link { result.link ≡ link }
-    ensures branch { IsBranch nodes.now result }
-{
-    match link {
-        None => Branch {
-            link,
+impl Branch {
+    /// The empty tree.
+    pub fn empty() -> Branch
+        ensures link { result.link ≡ None }
+        ensures tells { IsBranchOf result Leaf }
+    {
+        Branch {
+            link: None,
             elem: 0,
             least: KEYS,
             height: 0,
-        },
-        Some(at) => {
-            let node = nodes.look(at, steps);
-            Branch {
-                link,
-                elem: node.entry.elem,
-                least: node.least,
-                height: node.height,
-            }
         }
+    }
+}
+
+/// The part of the newest tree that a link names, of which the table has a row. Looks at one node, or where the tree is empty at
+/// none.
+pub fn branch_of(nodes: &Nodes, table: &[PackedRow], link: Option<u32>, steps: &mut Steps) -> Branch
+    requires sound { AreSound nodes.now.0 }
+    requires link { IsLinkBelow (length nodes.now.0) link }
+    requires row { HasRow table.now (tree_in nodes.now link) }
+    ensures link { result.link ≡ link }
+    ensures branch { IsBranch nodes.now result }
+    ensures cost { steps.new ≤ steps.old + 1 }
+{
+    let Some(at) = link else {
+        return Branch::empty();
+    };
+    let elem = nodes.look(at, steps).entry.elem;
+    let row = table[elem as usize].get();
+    Branch {
+        link,
+        elem,
+        least: row.least,
+        height: row.height,
     }
 }

@@ -5,22 +5,32 @@ ghost use Rattle.counted_tree.specs.Arena.{IsLinkBelow, AreSound};
 ghost use Rattle.counted_tree.specs.Change.{tree_in};
 ghost use Rattle.counted_tree.specs.Along.{entry_at, after_at, elem_at};
 ghost use Rattle.counted_tree.specs.Greater.{all_greater, passed, last_of, stop};
+ghost use Rattle.counted_tree.specs.Table.{HasRow, IsKept};
 
+use crate::branch::branch_of;
 use crate::build::open;
 use crate::nodes::Nodes;
+use crate::packed_row::PackedRow;
 use crate::side::Side;
 use crate::steps::Steps;
 
-/// Whether each entry of the tree has a greater key. One step.
-fn are_greater(nodes: &Nodes, link: Option<u32>, key: u32, steps: &mut Steps) -> bool
+/// Whether each entry of a part of the newest tree has a greater key. One step.
+fn are_greater(
+    nodes: &Nodes,
+    table: &[PackedRow],
+    link: Option<u32>,
+    key: u32,
+    steps: &mut Steps,
+) -> bool
     requires sound { AreSound nodes.now.0 }
     requires link { IsLinkBelow (length nodes.now.0) link }
+    requires row { HasRow table.now (tree_in nodes.now link) }
     ensures greater { result ≡ all_greater key (entries (tree_in nodes.now link)) }
     ensures cost { steps.new ≤ steps.old + 1 }
 {
     match link {
         None => true,
-        Some(at) => key < open(nodes, at, steps).least,
+        Some(_) => key < branch_of(nodes, table, link, steps).least,
     }
 }
 
@@ -41,10 +51,11 @@ pub fn last_in(
     last_in(nodes, node.right, Some(node.entry.elem), steps)
 }
 
-/// The last element that one passes in the tree, from its first entry on, as long as the keys are greater; the given one
+/// The last element that one passes in a part of the newest tree, from its first entry on, as long as the keys are greater; the given one
 /// where there is none.
 pub fn passed_in(
     nodes: &Nodes,
+    table: &[PackedRow],
     link: Option<u32>,
     key: u32,
     last: Option<u32>,
@@ -52,23 +63,25 @@ pub fn passed_in(
 ) -> Option<u32>
     requires sound { AreSound nodes.now.0 }
     requires link { IsLinkBelow (length nodes.now.0) link }
+    requires kept { IsKept table.now (tree_in nodes.now link) }
     ensures last { result ≡ passed key last (entries (tree_in nodes.now link)) }
     ensures cost { steps.new ≤ steps.old + 2 * height (tree_in nodes.now link) }
 {
     let Some(at) = link else { return last };
     let node = open(nodes, at, steps);
-    if !are_greater(nodes, node.left, key, steps) {
-        passed_in(nodes, node.left, key, last, steps)
+    if !are_greater(nodes, table, node.left, key, steps) {
+        passed_in(nodes, table, node.left, key, last, steps)
     } else if node.entry.key <= key {
         last_in(nodes, node.left, last, steps)
     } else {
-        passed_in(nodes, node.right, key, Some(node.entry.elem), steps)
+        passed_in(nodes, table, node.right, key, Some(node.entry.elem), steps)
     }
 }
 
 /// The last element that one passes in the tree before one stops there, if one does.
 fn stop_in(
     nodes: &Nodes,
+    table: &[PackedRow],
     link: Option<u32>,
     key: u32,
     last: Option<u32>,
@@ -76,20 +89,23 @@ fn stop_in(
 ) -> Option<u32>
     requires sound { AreSound nodes.now.0 }
     requires link { IsLinkBelow (length nodes.now.0) link }
+    requires row { HasRow table.now (tree_in nodes.now link) }
+    requires kept { IsKept table.now (tree_in nodes.now link) }
     ensures last { result ≡ stop key last (entries (tree_in nodes.now link)) }
     ensures cost { steps.new ≤ steps.old + 2 * height (tree_in nodes.now link) + 1 }
     ensures passed { all_greater key (entries (tree_in nodes.now link)) ≡ true → steps.new ≤ steps.old + 1 }
 {
-    if are_greater(nodes, link, key, steps) {
+    if are_greater(nodes, table, link, key, steps) {
         None
     } else {
-        passed_in(nodes, link, key, last, steps)
+        passed_in(nodes, table, link, key, last, steps)
     }
 }
 
 /// The last element that one passes from the entry on that the path leads to, before one stops in the tree, if one does.
 pub fn stop_at(
     nodes: &Nodes,
+    table: &[PackedRow],
     link: Option<u32>,
     path: &[Side],
     key: u32,
@@ -97,6 +113,7 @@ pub fn stop_at(
 ) -> Option<u32>
     requires sound { AreSound nodes.now.0 }
     requires link { IsLinkBelow (length nodes.now.0) link }
+    requires kept { IsKept table.now (tree_in nodes.now link) }
     requires there { IsSome (entry_at (tree_in nodes.now link) path.now) }
     ensures last { result ≡ stop key (elem_at (tree_in nodes.now link) path.now) (after_at (tree_in nodes.now link) path.now) }
     ensures cost { steps.new ≤ steps.old + 4 * height (tree_in nodes.now link) }
@@ -105,12 +122,12 @@ pub fn stop_at(
     let Some(at) = link else { unreachable!() };
     let node = open(nodes, at, steps);
     match path.split_first() {
-        None => stop_in(nodes, node.right, key, Some(node.entry.elem), steps),
-        Some((Side::Right, rest)) => stop_at(nodes, node.right, rest, key, steps),
-        Some((Side::Left, rest)) => match stop_at(nodes, node.left, rest, key, steps) {
+        None => stop_in(nodes, table, node.right, key, Some(node.entry.elem), steps),
+        Some((Side::Right, rest)) => stop_at(nodes, table, node.right, rest, key, steps),
+        Some((Side::Left, rest)) => match stop_at(nodes, table, node.left, rest, key, steps) {
             Some(last) => Some(last),
             None if node.entry.key <= key => last_in(nodes, node.left, None, steps),
-            None => stop_in(nodes, node.right, key, Some(node.entry.elem), steps),
+            None => stop_in(nodes, table, node.right, key, Some(node.entry.elem), steps),
         },
     }
 }

@@ -29,7 +29,7 @@ impl Model for Link {
 impl Link {
     /// The link, to be kept.
     pub fn new(link: Option<u32>) -> Link
-        requires { ForSome link (λ k. k + 1 < 2 ^ 23) }
+        requires { ForSome link (λ k. k + 1 < 2 ^ 22) }
         ensures { result ≡ link }
     {
         Link {
@@ -47,9 +47,9 @@ impl Link {
 
 /// The number that a link is kept as.
 pub fn kept_of(link: Option<u32>) -> u32
-    requires { ForSome link (λ k. k + 1 < 2 ^ 23) }
+    requires { ForSome link (λ k. k + 1 < 2 ^ 22) }
     ensures link { link_of result ≡ link }
-    ensures small { result < 2 ^ 23 }
+    ensures small { result < 2 ^ 22 }
 {
     match link {
         None => 0,

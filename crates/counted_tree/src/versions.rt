@@ -11,7 +11,7 @@ use crate::change::{hide, insert, last_greater_in, rank_in};
 use crate::entry::Entry;
 use crate::link::Link;
 use crate::nodes::Nodes;
-use crate::packed_above::PackedAbove;
+use crate::packed_row::PackedRow;
 use crate::root::Root;
 use crate::search::find_in;
 use crate::size::Size;
@@ -25,7 +25,7 @@ use std::marker::Model;
 #[derive(Drop)]
 pub struct VersionTree {
     nodes: Nodes,
-    table: Vec<PackedAbove>,
+    table: Vec<PackedRow>,
     roots: Vec<Root>,
     room: usize,
 }
@@ -61,7 +61,7 @@ impl VersionTree {
         }
     }
 
-    /// How many nodes stand for all versions, 16 bytes each. Constant time.
+    /// How many nodes stand for all versions, 12 bytes each. Constant time.
     pub fn nodes(&self) -> usize
         ensures value { result ≡ self.now.nodes }
         ensures few { result ≤ 40 * newest self.now }
@@ -214,8 +214,8 @@ impl VersionTree {
         )
     }
 
-    /// Reserves `n` versions, if fewer are reserved: for each 41 nodes of 16 bytes, a row of the table of 8, a root of 12, and 4 for
-    /// the element's key and width, 680 bytes of which only what is written comes into memory. Refused memory changes nothing.
+    /// Reserves `n` versions, if fewer are reserved: for each 31 nodes of 12 bytes, a row of the table of 8, a root of 12, and 4 for
+    /// the element's key and width, 396 bytes of which only what is written comes into memory. Refused memory changes nothing.
     pub fn reserve(&mut self, n: usize) -> Result<(), AllocError>
         requires { length self.old.lists + n ≤ 131073 }
         ensures lists { self.new.lists ≡ self.old.lists }
@@ -224,7 +224,7 @@ impl VersionTree {
         ensures err { OnErr result (self.new.room ≡ self.old.room) }
     {
         if self.room < n {
-            self.nodes.reserve(41 * n)?;
+            self.nodes.reserve(31 * n)?;
             self.nodes.reserve_elements(n)?;
             self.table.reserve(n)?;
             self.roots.reserve(n)?;

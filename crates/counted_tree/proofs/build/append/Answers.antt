@@ -2,7 +2,7 @@ use Rattle.std.proofs.Common.{arith}
 use Rattle.counted_tree.specs.Tree.{entries}
 use Rattle.counted_tree.specs.Change.{tree_in}
 use Rattle.counted_tree.proofs.Growth.{link_later, length-trees}
-use Rattle.counted_tree.proofs.Counts.{height_small, least-fork}
+use Rattle.counted_tree.proofs.Counts.{units_few}
 use Rattle.counted_tree.proofs.Sizes.{size_few}
 use Rattle.counted_tree.proofs.Adding.{adds_push, tree_pushed}
 use Rattle.counted_tree.proofs.build.append.Goals as goal
@@ -17,13 +17,6 @@ push-requires-clause-right c =
     let ns = c.args.nodes.now.0 in
     link_later _ _ c.args.node.right (omega (arith, length-trees ns)) c.requires.node.right_earlier
 
-pub push-requires-clause-least : goal.push-requires-clause-least
-push-requires-clause-least c =
-    let n = c.args.node in
-    let a = c.args.nodes.now in
-    let keys = least-fork (entries (tree_in a n.left)) (entries (tree_in a n.right)) n.entry in
-    omega (arith, c.requires.node.least_is, c.requires.node.small, keys)
-
 pub push-requires-clause-shown : goal.push-requires-clause-shown
 push-requires-clause-shown c =
     let n = c.args.node in
@@ -33,16 +26,15 @@ push-requires-clause-shown c =
 pub push-requires-clause-units : goal.push-requires-clause-units
 push-requires-clause-units c =
     let n = c.args.node in
-    let few = size_few n.left_size (entries (tree_in c.args.nodes.now n.left)) c.requires.node.left_size in
-    omega (arith, few.1, c.requires.few)
+    let some = units_few (entries (tree_in c.args.nodes.now n.left)) in
+    omega (arith, some.0, c.requires.node.left_size)
 
-pub push-requires-clause-height : goal.push-requires-clause-height
-push-requires-clause-height c =
+pub push-requires-clause-wide : goal.push-requires-clause-wide
+push-requires-clause-wide c =
     let n = c.args.node in
-    let a = c.args.nodes.now in
-    let l = height_small (tree_in a n.left) c.requires.node.balanced.0 (omega (arith, c.requires.few)) in
-    let r = height_small (tree_in a n.right) c.requires.node.balanced.1 (omega (arith, c.requires.few)) in
-    omega (arith, l, r, c.requires.node.height_is)
+    let few = size_few n.left_size (entries (tree_in c.args.nodes.now n.left)) c.requires.node.left_size in
+    let some = units_few (entries (tree_in c.args.nodes.now n.left)) in
+    omega (arith, few.0, some.1, c.requires.node.left_size, c.requires.few)
 
 pub returns-clause-adds : goal.returns-clause-adds
 returns-clause-adds c =
