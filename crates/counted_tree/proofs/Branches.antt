@@ -1,4 +1,4 @@
--- What a branch tells: as the nodes grow, of a fork, and of its row in the table of parents.
+-- What a branch tells of a fork, and of its row in the newest tree's table.
 use Rattle.std.proofs.Common.{◌≡◌, ℕ, ◌+◌, ◌<◌, ◌≤◌, List, length, get_or, Option, None, Some, max, min, refl, sym, ap, ◌∙◌, subst, arith}
 use Rattle.std.specs.Prelude.{◌^◌}
 use Rattle.std.proofs.lemmas.Option.{get_or_from_slice_get, slice_get_within}
