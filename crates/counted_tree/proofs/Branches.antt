@@ -40,12 +40,12 @@ row_of_branch b Leaf n h k = subst (λ o. IfSome o (λ _. b.elem < n)) (sym h.to
 row_of_branch b (Fork l x r) n h k = row_if b.link b.elem n (omega (arith, h.top.1, k))
 
 -- its numbers are small
-pub branch_small : (a : Store) (b : Branch) → AreSound a.0 → IsBranch a b → length (entries (tree_in a b.link)) ≤ 131072
+pub branch_small : (a : Store) (b : Branch) → AreSound a.nodes → IsBranch a b → length (entries (tree_in a b.link)) ≤ 131072
     → (b.least ≤ 2 ^ 23) × (b.height ≤ 25)
 branch_small a b sound h few =
     let t = tree_in a b.link in (
       omega (arith, h.tells.least, least_within (entries t)),
-      omega (arith, h.tells.height, height_small t (linked_balanced a.0 b.link sound h.link) few),
+      omega (arith, h.tells.height, height_small t (linked_balanced a.nodes b.link sound h.link) few),
     )
 
 -- the row of a fork that the table has is what is read of it

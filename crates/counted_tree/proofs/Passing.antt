@@ -41,8 +41,8 @@ least_of_fork : (t l r : Tree) (x : Entry) → t ≡ Fork l x r → x.key < 2 ^ 
 least_of_fork t l r x e h =
     rw e (omega (arith, least-fork (entries l) (entries r) x))
 
-pub least_small : (a : Store) (i : ℕ) → AreSound a.0 → i < length a.0 → least_key (entries (tree_in a (Some i))) < 2 ^ 23
-least_small a i s h = elim ((slice_get_cases a.0 i).1) [
+pub least_small : (a : Store) (i : ℕ) → AreSound a.nodes → i < length a.nodes → least_key (entries (tree_in a (Some i))) < 2 ^ 23
+least_small a i s h = elim ((slice_get_cases a.nodes i).1) [
   | inl w ↦ let o = opened a i w.0 s w.2 in
       least_of_fork (tree_in a (Some i)) (tree_in a w.0.left) (tree_in a w.0.right) w.0.entry o.tree o.small.1
   | inr w ↦ absurd (omega (arith, w.0))

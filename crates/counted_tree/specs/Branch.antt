@@ -21,5 +21,5 @@ pub record IsBranchOf (b : Branch) (t : Tree) : Type 0 where
 
 -- the link names a tree of the store, and the branch tells what is so of it
 pub record IsBranch (a : Store) (b : Branch) : Type 0 where
-  pub link : IsLinkBelow (length a.0) b.link
+  pub link : IsLinkBelow (length a.nodes) b.link
   pub tells : IsBranchOf b (tree_in a b.link)

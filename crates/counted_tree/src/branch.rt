@@ -40,8 +40,8 @@ impl Branch {
 /// The part of the newest tree that a link names, of which the table has a row. Looks at one node, or where the tree is empty at
 /// none.
 pub fn branch_of(nodes: &Nodes, table: &[PackedRow], link: Option<u32>, steps: &mut Steps) -> Branch
-    requires sound { AreSound nodes.now.0 }
-    requires link { IsLinkBelow (length nodes.now.0) link }
+    requires sound { AreSound nodes.now.nodes }
+    requires link { IsLinkBelow (length nodes.now.nodes) link }
     requires row { HasRow table.now (tree_in nodes.now link) }
     ensures link { result.link ≡ link }
     ensures branch { IsBranch nodes.now result }

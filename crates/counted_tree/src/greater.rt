@@ -22,8 +22,8 @@ fn are_greater(
     key: u32,
     steps: &mut Steps,
 ) -> bool
-    requires sound { AreSound nodes.now.0 }
-    requires link { IsLinkBelow (length nodes.now.0) link }
+    requires sound { AreSound nodes.now.nodes }
+    requires link { IsLinkBelow (length nodes.now.nodes) link }
     requires row { HasRow table.now (tree_in nodes.now link) }
     ensures greater { result ≡ all_greater key (entries (tree_in nodes.now link)) }
     ensures cost { steps.new ≤ steps.old + 1 }
@@ -41,8 +41,8 @@ pub fn last_in(
     last: Option<u32>,
     steps: &mut Steps,
 ) -> Option<u32>
-    requires sound { AreSound nodes.now.0 }
-    requires link { IsLinkBelow (length nodes.now.0) link }
+    requires sound { AreSound nodes.now.nodes }
+    requires link { IsLinkBelow (length nodes.now.nodes) link }
     ensures last { result ≡ last_of last (entries (tree_in nodes.now link)) }
     ensures cost { steps.new ≤ steps.old + height (tree_in nodes.now link) }
 {
@@ -61,8 +61,8 @@ pub fn passed_in(
     last: Option<u32>,
     steps: &mut Steps,
 ) -> Option<u32>
-    requires sound { AreSound nodes.now.0 }
-    requires link { IsLinkBelow (length nodes.now.0) link }
+    requires sound { AreSound nodes.now.nodes }
+    requires link { IsLinkBelow (length nodes.now.nodes) link }
     requires kept { IsKept table.now (tree_in nodes.now link) }
     ensures last { result ≡ passed key last (entries (tree_in nodes.now link)) }
     ensures cost { steps.new ≤ steps.old + 2 * height (tree_in nodes.now link) }
@@ -87,8 +87,8 @@ fn stop_in(
     last: Option<u32>,
     steps: &mut Steps,
 ) -> Option<u32>
-    requires sound { AreSound nodes.now.0 }
-    requires link { IsLinkBelow (length nodes.now.0) link }
+    requires sound { AreSound nodes.now.nodes }
+    requires link { IsLinkBelow (length nodes.now.nodes) link }
     requires row { HasRow table.now (tree_in nodes.now link) }
     requires kept { IsKept table.now (tree_in nodes.now link) }
     ensures last { result ≡ stop key last (entries (tree_in nodes.now link)) }
@@ -111,8 +111,8 @@ pub fn stop_at(
     key: u32,
     steps: &mut Steps,
 ) -> Option<u32>
-    requires sound { AreSound nodes.now.0 }
-    requires link { IsLinkBelow (length nodes.now.0) link }
+    requires sound { AreSound nodes.now.nodes }
+    requires link { IsLinkBelow (length nodes.now.nodes) link }
     requires kept { IsKept table.now (tree_in nodes.now link) }
     requires there { IsSome (entry_at (tree_in nodes.now link) path.now) }
     ensures last { result ≡ stop key (elem_at (tree_in nodes.now link) path.now) (after_at (tree_in nodes.now link) path.now) }

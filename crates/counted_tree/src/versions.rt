@@ -38,12 +38,12 @@ impl Model for VersionTree {
 
     ghost Value = { Versions };
 
-    ghost view = { λ a. record { lists = lists_of a.nodes.0 a.roots.items; nodes = length a.nodes.0; room = a.room } };
+    ghost view = { λ a. record { lists = lists_of a.nodes.nodes a.roots.items; nodes = length a.nodes.nodes; room = a.room } };
 
     ghost invariant = { λ a. AreVersions a.nodes a.roots.items a.room
         × IsNewest a.table.items (tree_in a.nodes (newest_root a.roots.items).link)
         × (vec_len a.roots + a.room ≤ vec_capacity a.roots) × (vec_len a.table + a.room ≤ vec_capacity a.table)
-        × (length a.nodes.2 ≡ vec_len a.table) × (a.room ≤ a.nodes.3) };
+        × (length a.nodes.elements ≡ vec_len a.table) × (a.room ≤ a.nodes.element_room) };
 }
 
 impl VersionTree {

@@ -9,12 +9,12 @@ use Rattle.counted_tree.proofs.build.append.Goals as goal
 
 pub push-requires-clause-left : goal.push-requires-clause-left
 push-requires-clause-left c =
-    let ns = c.args.nodes.now.0 in
+    let ns = c.args.nodes.now.nodes in
     link_later _ _ c.args.node.left (omega (arith, length-trees ns)) c.requires.node.left_earlier
 
 pub push-requires-clause-right : goal.push-requires-clause-right
 push-requires-clause-right c =
-    let ns = c.args.nodes.now.0 in
+    let ns = c.args.nodes.now.nodes in
     link_later _ _ c.args.node.right (omega (arith, length-trees ns)) c.requires.node.right_earlier
 
 pub push-requires-clause-shown : goal.push-requires-clause-shown
@@ -38,8 +38,8 @@ push-requires-clause-wide c =
 
 pub returns-clause-adds : goal.returns-clause-adds
 returns-clause-adds c =
-    adds_push c.args.nodes.now c.push.new.self c.args.node c.requires.sound c.requires.node c.push.ensures.rows c.push.ensures.spare
-    c.push.ensures.known c.push.ensures.free
+    adds_push c.args.nodes.now c.push.new.self c.args.node c.requires.sound c.requires.node c.push.ensures.nodes c.push.ensures.room
+    c.push.ensures.elements c.push.ensures.element_room
 
 pub returns-clause-tree : goal.returns-clause-tree
-returns-clause-tree c = tree_pushed c.args.nodes.now c.push.new.self _ c.push.result c.push.ensures.rows c.push.ensures.number
+returns-clause-tree c = tree_pushed c.args.nodes.now c.push.new.self _ c.push.result c.push.ensures.nodes c.push.ensures.number

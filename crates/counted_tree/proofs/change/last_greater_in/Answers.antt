@@ -17,7 +17,7 @@ pub returns-in_default-clause-cost : goal.returns-in_default-clause-cost
 returns-in_default-clause-cost c =
     let a = c.args.nodes.now in
     let t = tree_in a c.args.link in
-    omega (arith, c.passed_in.ensures.cost, height_bound t (linked_balanced a.0 c.args.link c.requires.sound c.requires.link))
+    omega (arith, c.passed_in.ensures.cost, height_bound t (linked_balanced a.nodes c.args.link c.requires.sound c.requires.link))
 
 pub way_to-path-requires : goal.way_to-path-requires
 way_to-path-requires c =
@@ -25,7 +25,7 @@ way_to-path-requires c =
     let t = tree_in a c.args.link in
     let listed = subst (λ o. IfSome o (λ e. Lists e (entries t))) c.in-Some.is c.requires.there in
     let w = way_there t c.in-Some.elem c.args.table.now listed c.requires.newest.kept c.requires.newest.top in
-    let small = height_small t (linked_balanced a.0 c.args.link c.requires.sound c.requires.link) c.requires.few in
+    let small = height_small t (linked_balanced a.nodes c.args.link c.requires.sound c.requires.link) c.requires.few in
     (w.0, omega (arith, w.1, small), w.2)
 
 pub stop_at-requires-clause-there : goal.stop_at-requires-clause-there
@@ -73,7 +73,7 @@ pub returns-in-Some-stop_at-clause-cost : goal.returns-in-Some-stop_at-clause-co
 returns-in-Some-stop_at-clause-cost c =
     let a = c.args.nodes.now in
     let t = tree_in a c.args.link in
-    omega (arith, c.stop_at.ensures.cost, height_bound t (linked_balanced a.0 c.args.link c.requires.sound c.requires.link))
+    omega (arith, c.stop_at.ensures.cost, height_bound t (linked_balanced a.nodes c.args.link c.requires.sound c.requires.link))
 
 pub returns-in-None-clause-cost : goal.returns-in-None-clause-cost
 returns-in-None-clause-cost c =
@@ -84,5 +84,5 @@ returns-in-None-clause-cost c =
       arith,
       passed,
       c.last_in.ensures.cost,
-      height_bound t (linked_balanced a.0 c.args.link c.requires.sound c.requires.link),
+      height_bound t (linked_balanced a.nodes c.args.link c.requires.sound c.requires.link),
     )

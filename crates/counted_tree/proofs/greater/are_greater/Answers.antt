@@ -11,7 +11,7 @@ pub returns-in-Some-clause-greater : goal.returns-in-Some-clause-greater
 returns-in-Some-clause-greater c =
     let a = c.args.nodes.now in
     let t = tree_in a c.args.link in
-    let below = subst (IsLinkBelow (length a.0)) c.in-Some.is c.requires.link in
+    let below = subst (IsLinkBelow (length a.nodes)) c.in-Some.is c.requires.link in
     let small : least_key (entries t) < 2 ^ 23 = subst (λ l. least_key (entries (tree_in a l)) < 2 ^ 23) (sym c.in-Some.is)
     (least_small a c.in-Some.field-0 c.requires.sound below) in
     let least : c.branch_of.result.least ≡ least_key (entries t) =

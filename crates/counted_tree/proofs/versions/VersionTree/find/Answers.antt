@@ -12,7 +12,7 @@ use Rattle.counted_tree.proofs.versions.VersionTree.find.Goals as goal
 
 pub returns-in_err-elem-clause-found : goal.returns-in_err-elem-clause-found
 returns-in_err-elem-clause-found c =
-    let ns = c.self.inside.nodes.0 in
+    let ns = c.self.inside.nodes.nodes in
     let roots = c.self.inside.roots.items in
     let root_is : c.root_of-root.result ≡ root_at roots c.args.version =
     c.root_of-root.ensures ∙ ap (λ rs. root_at rs c.args.version) c.as_slice.ensures.value in
@@ -27,7 +27,7 @@ returns-in_err-elem-clause-found c =
 
 pub returns-in_err-elem-clause-cost : goal.returns-in_err-elem-clause-cost
 returns-in_err-elem-clause-cost c =
-    let ns = c.self.inside.nodes.0 in
+    let ns = c.self.inside.nodes.nodes in
     let roots = c.self.inside.roots.items in
     let root_is : c.root_of-root.result ≡ root_at roots c.args.version =
     c.root_of-root.ensures ∙ ap (λ rs. root_at rs c.args.version) c.as_slice.ensures.value in
@@ -41,7 +41,7 @@ returns-in_err-elem-clause-cost c =
 
 pub returns-clause-found : goal.returns-clause-found
 returns-clause-found c =
-    let ns = c.self.inside.nodes.0 in
+    let ns = c.self.inside.nodes.nodes in
     let roots = c.self.inside.roots.items in
     let root_is : c.root_of-root.result ≡ root_at roots c.args.version =
     c.root_of-root.ensures ∙ ap (λ rs. root_at rs c.args.version) c.as_slice.ensures.value in
@@ -56,7 +56,7 @@ returns-clause-found c =
 
 pub returns-clause-cost : goal.returns-clause-cost
 returns-clause-cost c =
-    let ns = c.self.inside.nodes.0 in
+    let ns = c.self.inside.nodes.nodes in
     let roots = c.self.inside.roots.items in
     let root_is : c.root_of-root.result ≡ root_at roots c.args.version =
     c.root_of-root.ensures ∙ ap (λ rs. root_at rs c.args.version) c.as_slice.ensures.value in

@@ -10,7 +10,7 @@ use Rattle.counted_tree.proofs.versions.VersionTree.last_greater.Goals as goal
 
 pub returns-clause-last : goal.returns-clause-last
 returns-clause-last c =
-    let ns = c.self.inside.nodes.0 in
+    let ns = c.self.inside.nodes.nodes in
     let roots = c.self.inside.roots.items in
     let root_is : c.last_root-root.result ≡ newest_root roots = c.last_root-root.ensures ∙ ap newest_root c.as_slice.ensures.value in
     let newest : newest_list c.args.self.now ≡ list_of ns c.get.result =
@@ -20,7 +20,7 @@ returns-clause-last c =
 
 pub last_greater_in-requires-clause-there : goal.last_greater_in-requires-clause-there
 last_greater_in-requires-clause-there c =
-    let ns = c.self.inside.nodes.0 in
+    let ns = c.self.inside.nodes.nodes in
     let roots = c.self.inside.roots.items in
     let root_is : c.last_root-root.result ≡ newest_root roots = c.last_root-root.ensures ∙ ap newest_root c.as_slice.ensures.value in
     let newest : newest_list c.args.self.now ≡ list_of ns c.get.result =
@@ -30,7 +30,7 @@ last_greater_in-requires-clause-there c =
 
 pub returns-clause-cost : goal.returns-clause-cost
 returns-clause-cost c =
-    let ns = c.self.inside.nodes.0 in
+    let ns = c.self.inside.nodes.nodes in
     let roots = c.self.inside.roots.items in
     let root_is : c.last_root-root.result ≡ newest_root roots = c.last_root-root.ensures ∙ ap newest_root c.as_slice.ensures.value in
     let newest : newest_list c.args.self.now ≡ list_of ns c.get.result =

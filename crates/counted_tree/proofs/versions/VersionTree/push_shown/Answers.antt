@@ -16,7 +16,7 @@ use Rattle.counted_tree.proofs.versions.VersionTree.push_shown.Goals as goal
 
 pub push_shown_in-requires-clause-shown : goal.push_shown_in-requires-clause-shown
 push_shown_in-requires-clause-shown c =
-    let ns = c.self.inside.nodes.0 in
+    let ns = c.self.inside.nodes.nodes in
     let roots = c.self.inside.roots.items in
     let top = c.get.result in
     let root_is : c.root_of-root.result ≡ root_at roots c.args.version =
@@ -32,7 +32,7 @@ push_shown_in-requires-clause-shown c =
 
 pub returns-clause-few : goal.returns-clause-few
 returns-clause-few c =
-    let ns = c.self.inside.nodes.0 in
+    let ns = c.self.inside.nodes.nodes in
     let roots = c.self.inside.roots.items in
     let top = c.get.result in
     let root_is : c.root_of-root.result ≡ root_at roots c.args.version =

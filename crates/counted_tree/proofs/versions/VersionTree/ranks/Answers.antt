@@ -8,7 +8,7 @@ use Rattle.counted_tree.proofs.versions.VersionTree.ranks.Goals as goal
 
 pub returns-clause-shown : goal.returns-clause-shown
 returns-clause-shown c =
-    let ns = c.self.inside.nodes.0 in
+    let ns = c.self.inside.nodes.nodes in
     let roots = c.self.inside.roots.items in
     let root_is : c.last_root-root.result ≡ newest_root roots = c.last_root-root.ensures ∙ ap newest_root c.as_slice.ensures.value in
     let newest : newest_list c.args.self.now ≡ list_of ns c.get.result =
@@ -18,7 +18,7 @@ returns-clause-shown c =
 
 pub returns-clause-units : goal.returns-clause-units
 returns-clause-units c =
-    let ns = c.self.inside.nodes.0 in
+    let ns = c.self.inside.nodes.nodes in
     let roots = c.self.inside.roots.items in
     let root_is : c.last_root-root.result ≡ newest_root roots = c.last_root-root.ensures ∙ ap newest_root c.as_slice.ensures.value in
     let newest : newest_list c.args.self.now ≡ list_of ns c.get.result =

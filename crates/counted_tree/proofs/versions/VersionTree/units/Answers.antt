@@ -9,7 +9,7 @@ use Rattle.counted_tree.proofs.versions.VersionTree.units.Goals as goal
 
 pub returns : goal.returns
 returns c =
-    let ns = c.self.inside.nodes.0 in
+    let ns = c.self.inside.nodes.nodes in
     let roots = c.self.inside.roots.items in
     let root_is : c.root_of.result ≡ root_at roots c.args.version =
     c.root_of.ensures ∙ ap (λ rs. root_at rs c.args.version) c.as_slice.ensures.value in
