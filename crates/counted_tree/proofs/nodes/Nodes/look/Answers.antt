@@ -46,6 +46,7 @@ returns-clause-told c =
     let key_and_width : slice_get elements (elem_of packed) ≡ Some t =
     ap (slice_get elements) (sym c.elem_of.ensures)
     ∙ read_at elements c.elem_of.result t (omega (arith, told, c.elem_of.ensures)) c.index.ensures in
-    let stays : slice_get elements (elem_of packed) ≡ Some (key_and_width_of (node_of t packed).entry) = key_and_width ∙ ap Some (sym (key_and_width_back t)) in
+    let stays : slice_get elements (elem_of packed) ≡ Some (key_and_width_of (node_of t packed).entry) =
+    key_and_width ∙ ap Some (sym (key_and_width_back t)) in
     subst (λ (s : Store). slice_get s.elements c.unpack.result.entry.elem ≡ Some (key_and_width_of c.unpack.result.entry)) c.self.view_is
     (subst (λ (n : Node). slice_get elements n.entry.elem ≡ Some (key_and_width_of n.entry)) (sym c.unpack.ensures) stays)

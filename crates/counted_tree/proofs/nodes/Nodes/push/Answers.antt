@@ -17,8 +17,8 @@ invariant_of-self c =
       omega (arith, room),
       omega (arith, room),
       c.self.invariant.2,
-      subst (AreTold (length elements)) (sym c.push_reserved.ensures.items) (told_push (length elements) c.self.inside.nodes.items c.pack.result
-          c.self.invariant.3 (omega (arith, below, c.pack.ensures.elem))),
+      subst (AreTold (length elements)) (sym c.push_reserved.ensures.items) (told_push (length elements) c.self.inside.nodes.items
+          c.pack.result c.self.invariant.3 (omega (arith, below, c.pack.ensures.elem))),
     )
 
 pub returns-clause-nodes : goal.returns-clause-nodes

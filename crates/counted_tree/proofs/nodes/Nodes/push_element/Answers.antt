@@ -14,7 +14,8 @@ invariant_of-self c =
       c.self.invariant.0,
       c.self.invariant.1,
       omega (arith, room, c.requires.room),
-      told_more (length elements) (length c.push_reserved.new.self.items) c.self.inside.nodes.items (omega (arith, more)) c.self.invariant.3,
+      told_more (length elements) (length c.push_reserved.new.self.items) c.self.inside.nodes.items (omega (arith, more))
+          c.self.invariant.3,
     )
 
 pub returns : goal.returns
