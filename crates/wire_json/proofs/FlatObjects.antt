@@ -8,7 +8,7 @@ use Rattle.std.proofs.Math.Bool.{and-true}
 use Rattle.std.proofs.lemmas.Map.Text.{is_eq-slice_cmp}
 use Rattle.std.proofs.lemmas.Slice.Eq.{bytes_eq-Decides}
 use Rattle.std.specs.Prelude.{SomeIff, IfSome}
-use Rattle.std.specs.List.{list_any, list_all}
+use Rattle.std.specs.List.{list_all}
 use Rattle.std.specs.Cmp.Lexicographic.{slice_cmp}
 use Rattle.std.specs.Ordering.{match_ordering}
 use Rattle.fast_float.specs.Text.{scan, digits_of, IsInteger}
@@ -26,7 +26,7 @@ use Rattle.wire_json.specs.declared.flat.Primitive.{Primitive}
 use Rattle.wire_json.specs.declared.flat.Primitive.TheVariants.{Number, Text}
 use Rattle.wire_json.specs.declared.flat.Member.{Member}
 use Rattle.wire_json.specs.declared.flat.Next.TheVariants as nexts
-use Rattle.wire_json.specs.Members.{or_refuse, are_among, only_keys}
+use Rattle.wire_json.specs.Members.{or_refuse, is_known, are_among, only_keys}
 use Rattle.wire_json.specs.Operations.{items_told, list_at}
 use Rattle.wire_json.specs.Request.{json_of}
 use Rattle.wire_json.proofs.Steps.{json_read}
@@ -178,28 +178,25 @@ moved true false c = refl
 moved false true c = refl
 moved false false c = refl
 
--- a key is one of the row
-abbrev known : List (List ℕ) → List ℕ → Bool
-known row k = list_any (λ name. bytes_eq name k) row
-
 among_put_at : (o : Ordering) (row : List (List ℕ)) (k l : List ℕ) (d e : Data) (ms : Members) → slice_cmp nat_cmp k l ≡ o
-    → are_among row (put k d ms) ≡ known row k && are_among row ms
+    → are_among row (put k d ms) ≡ is_known row k && are_among row ms
     → are_among row (match_ordering o (member k d (member l e ms)) (member l d ms) (member l e (put k d ms)))
-    ≡ known row k && (known row l && are_among row ms)
+    ≡ is_known row k && (is_known row l && are_among row ms)
 among_put_at Less row k l d e ms is more = refl
 among_put_at Equal row k l d e ms is more =
     let same : k ≡ l = (bytes_eq-Decides k l).0 (sym (is_eq-slice_cmp k l) ∙ ap is_eq is) in
-    subst (λ x. known row l && are_among row ms ≡ known row x && (known row l && are_among row ms)) (sym same)
-    (twice (known row l) (are_among row ms))
-among_put_at Greater row k l d e ms is more = ap (λ b. known row l && b) more ∙ swapped (known row l) (known row k) (are_among row ms)
+    subst (λ x. is_known row l && are_among row ms ≡ is_known row x && (is_known row l && are_among row ms)) (sym same)
+    (twice (is_known row l) (are_among row ms))
+among_put_at Greater row k l d e ms is more =
+    ap (λ b. is_known row l && b) more ∙ swapped (is_known row l) (is_known row k) (are_among row ms)
 
-among_put : (row : List (List ℕ)) (k : List ℕ) (d : Data) (ms : Members) → are_among row (put k d ms) ≡ known row k && are_among row ms
+among_put : (row : List (List ℕ)) (k : List ℕ) (d : Data) (ms : Members) → are_among row (put k d ms) ≡ is_known row k && are_among row ms
 among_put row k d no_members = refl
 among_put row k d (member l e ms) = among_put_at _ row k l d e ms refl (among_put row k d ms)
 
 -- each key is one of the row
 abbrev pub all_known : List (List ℕ) → List Member → Bool
-all_known row ms = list_all (λ m. known row m.key.now) ms
+all_known row ms = list_all (λ m. is_known row m.key.now) ms
 
 keys_among : (row : List (List ℕ)) (ms : List Member) (old : Members)
     → are_among row (put_all ms old) ≡ all_known row ms && are_among row old
@@ -207,7 +204,7 @@ keys_among row [] old = refl
 keys_among row (m ∷ ms) old =
     keys_among row ms (put m.key.now (primitive_data m.value) old)
     ∙ ap (λ b. all_known row ms && b) (among_put row m.key.now (primitive_data m.value) old)
-    ∙ moved (all_known row ms) (known row m.key.now) (are_among row old)
+    ∙ moved (all_known row ms) (is_known row m.key.now) (are_among row old)
 
 kept_or_refused : (b : Bool) → or_refuse {A = Unit {0}} BadField (if b then Some tt else None) ≡ (if b then Ok tt else Err BadField)
 kept_or_refused true = refl

@@ -23,10 +23,14 @@ or_refuse e None = Err e
 
 -- ---- the members of a request
 
+-- the key is one of the row
+abbrev pub is_known : List (List ℕ) → List ℕ → Bool
+is_known row key = list_any (λ name. bytes_eq name key) row
+
 -- each key is one of the row
 abbrev pub are_among : List (List ℕ) → Members → Bool
 are_among row no_members = true
-are_among row (member key d ms) = list_any (λ name. bytes_eq name key) row && are_among row ms
+are_among row (member key d ms) = is_known row key && are_among row ms
 
 -- each key is one of the row, or there is no answer
 abbrev pub within : List (List ℕ) → Members → Option (Unit {0})

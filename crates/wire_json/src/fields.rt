@@ -1,11 +1,11 @@
 //! What a request tells by its keys: of an object that was read with no tree, or of any JSON value.
-ghost use Rattle.std.specs.Prelude.{◌≡◌, map, is_some, option_map, option_and_then, bytes_eq};
+ghost use Rattle.std.specs.Prelude.{◌≡◌, map, is_some, option_map, option_and_then};
 ghost use Rattle.serde_json.specs.Find.{get, as_number, as_u64, as_str};
 ghost use Rattle.serde_json.specs.View.{view};
-ghost use Rattle.std.specs.List.{list_any, list_all};
+ghost use Rattle.std.specs.List.{list_all};
 ghost use Rattle.wire_json.specs.Flat.{primitive_data, flat_data, fields_data};
 ghost use Rattle.wire_json.specs.PackedOperations.{operations_at};
-ghost use Rattle.wire_json.specs.Members.{only_keys, number_told, number_at, text_at};
+ghost use Rattle.wire_json.specs.Members.{is_known, only_keys, number_told, number_at, text_at};
 ghost use Rattle.wire_json.specs.Given.{Tells, Gives};
 
 use crate::flat::{Member, Primitive};
@@ -146,7 +146,7 @@ fn check_members(members: &[Member<'_>], row: &[&str]) -> Result<(), Refusal>
 }
 
 fn are_of(members: &[Member<'_>], row: &[&str]) -> bool
-    ensures { result ≡ list_all (λ m. list_any (λ name. bytes_eq name m.key.now) (map (λ name. name.now) row.now)) members.now }
+    ensures { result ≡ list_all (λ m. is_known (map (λ name. name.now) row.now) m.key.now) members.now }
 {
     members.iter().all(|member| is_among(member.key, row))
 }
