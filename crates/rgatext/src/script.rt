@@ -147,7 +147,7 @@ fn read_number(word: &[u8]) -> Option<u32>
     ensures some { IfSome result (λ n. word.now ≡ decimal n) }
     ensures none { IfNone result ((n : ℕ) → n < 2 ^ 32 → word.now ≡ decimal n → ⊥) }
 {
-    if !is_plain(word) {
+    if !is_plain_number(word) {
         return None;
     }
     match str::from_utf8(word) {
@@ -157,7 +157,7 @@ fn read_number(word: &[u8]) -> Option<u32>
 }
 
 // Whether a numeral of this form has neither a sign nor a leading zero.
-fn is_plain(word: &[u8]) -> bool
+fn is_plain_number(word: &[u8]) -> bool
     ensures { IsTrue result ↔ IsPlainNumber word.now }
 {
     match word.first() {

@@ -16,10 +16,10 @@ none_where_err : {E : Type 0} (P : Type 0) (r : Result ℕ E) (o : Option ℕ) �
 none_where_err P (Ok n) o e h = subst (λ (q : Option ℕ). IfNone q P) (sym e) tt
 none_where_err P (Err d) o e h = subst (λ (q : Option ℕ). IfNone q P) (sym e) h
 
-pub returns-then-not-is_plain-clause-none : goal.returns-then-not-is_plain-clause-none
-returns-then-not-is_plain-clause-none c = λ n fits is.
+pub returns-then-not-is_plain_number-clause-none : goal.returns-then-not-is_plain_number-clause-none
+returns-then-not-is_plain_number-clause-none c = λ n fits is.
     let plain : IsPlainNumber c.args.word.now = subst IsPlainNumber (sym is) (decimal_is_plain n fits) in
-    let apart : true ≡ false = sym (c.is_plain.ensures.1 plain) ∙ c.if-not-is_plain.true in cc
+    let apart : true ≡ false = sym (c.is_plain_number.ensures.1 plain) ∙ c.if-not-is_plain_number.true in cc
 
 pub returns-in-Ok-clause-some : goal.returns-in-Ok-clause-some
 returns-in-Ok-clause-some c =
@@ -27,7 +27,7 @@ returns-in-Ok-clause-some c =
     let same = c.in-Ok.ensures.cases.0 in
     let read : ParsesUnsigned 32 10 word c.parse.result =
     subst (λ (w : List ℕ). ParsesUnsigned 32 10 w c.parse.result) same c.parse.ensures.value.0 in
-    let plain : IsPlainNumber word = c.is_plain.ensures.0 c.if-not-is_plain.false in
+    let plain : IsPlainNumber word = c.is_plain_number.ensures.0 c.if-not-is_plain_number.false in
     some_where_ok (λ n. word ≡ decimal n) c.parse.result c.ok.result c.ok.ensures.value (number_read word c.parse.result plain read)
 
 pub returns-in-Ok-clause-none : goal.returns-in-Ok-clause-none
