@@ -1,10 +1,10 @@
-"""Scripts of a world that are too long to be written down, with the lines that are wanted of the program: those of random
-events are answered by the plain world, those of a full log by what is known of a text that was typed from its end on. And a
-random log."""
+"""Scripts that are too long to be written down, with the lines that are wanted of the program: those of random events and of
+operations that are handed over are answered by the plain world, those of a full log by what is known of a text that was typed
+from its end on. And a random log."""
 import json
 import random
 
-from plain_world import LIMIT, World, operation_of, places
+from plain_world import LIMIT, Room, World, object_of, operation_of, packed, places
 
 ALPHABET = "abcdefghijklmnopqrstuvwxyz"
 CHARACTERS = ALPHABET + ' é\u20ac"\\' + 4 * "\U0001f600\U00010000\U0010ffff"
@@ -160,6 +160,35 @@ def full_log():
     # The arrow's first stamp, (1,2), is below those of the heads of all runs but the first, (1,0).
     beside = full[:62] + full[64:-64] + "->" + full[-64:]
     script.end([(0, LIMIT, full), (1, LIMIT, full), (2, LIMIT, beside), (3, LIMIT, full)])
+    return script
+
+
+def handed_over(log):
+    """A room of site 31, with a session of either count, is handed over a log of others, forty operations after forty: in their
+    order, in the other one or in any, ten that came before once more, in puts of any size. Now and then it is asked for a part
+    of its log and for edits, and at last for all."""
+    dice = random.Random(33)
+    script, room = Script(), Room(31)
+    ask = lambda **request: script.event(compact(request), room.answer(request))
+    for counts in ({}, {"u": 16}):
+        ask(t="join", **counts)
+    have = 0
+    for first in range(0, len(log), 40):
+        window = log[first : first + 40]
+        dice.choice([lambda: None, window.reverse, lambda: dice.shuffle(window)])()
+        window += dice.sample(log[: first + 40], 10)
+        while window:
+            size = dice.randint(1, 64)
+            part, window = window[:size], window[size:]
+            request = {"t": "put", "ops": [object_of(run) for run in packed(part)]}
+            script.event(compact(request), {"os": [room.put(operation) for operation in part], "r": "put"})
+        ask(t="ops", after=dice.randint(0, len(room.log)), max=dice.randint(1, 64))
+        for s in (1, 2):
+            ask(t="pull", s=s, have=have, max=64)
+        have = min(have + 64, len(room.log))
+    for after in range(0, len(log), 64):
+        ask(t="ops", after=after, max=64)
+    ask(t="read")
     return script
 
 
