@@ -13,81 +13,107 @@ fn site(number: u8) -> Result<Site, Refusal> {
     Site::new(number)
 }
 
+/// Asks something of an empty log. (What a function owns costs its proof at each step, so all others borrow it.)
+fn of_an_empty_one<F: Fn(&mut OpLog) -> Result<bool, Refusal>>(
+    alloc: Global,
+    asked: F,
+) -> Result<bool, Refusal>
+    requires { F.IsAlwaysCallable asked }
+{
+    asked(&mut OpLog::new(alloc))
+}
+
+/// Whether the pairs tell no clock.
+fn tells_none(pairs: &[(Site, u32)]) -> bool {
+    Clock::from_pairs(pairs).err() == Some(Refusal::BadClock)
+}
+
+fn tell_none(zero: Site, one: Site) -> bool {
+    let mut all = tells_none(&[(one, 1), (zero, 1)]);
+    all &= tells_none(&[(zero, 0)]);
+    all &= tells_none(&[(zero, 131_072), (one, 1)]);
+    all &= tells_none(&[(one, 1), (one, 1)]);
+    all
+}
+
 #[test]
 fn pairs_that_tell_no_clock(rt: HostRuntime) -> Result<(), Fail> {
-    let (zero, one) = (site(0)?, site(1)?);
-    let falling = Clock::from_pairs(&[(one, 1), (zero, 1)]);
-    assert_eq!(rt; falling.err(), Some(Refusal::BadClock));
-    let none = Clock::from_pairs(&[(zero, 0)]);
-    assert_eq!(rt; none.err(), Some(Refusal::BadClock));
-    let beyond = Clock::from_pairs(&[(zero, 131_072), (one, 1)]);
-    assert_eq!(rt; beyond.err(), Some(Refusal::BadClock));
-    let twice = Clock::from_pairs(&[(one, 1), (one, 1)]);
-    assert_eq!(rt; twice.err(), Some(Refusal::BadClock));
+    assert!(rt; tell_none(site(0)?, site(1)?));
     Ok(())
+}
+
+/// Whether these pairs tell a clock of these counts of the first and the last site.
+fn tells(pairs: &[(Site, u32)], counts: (u32, u32)) -> Result<bool, Refusal> {
+    let clock = Clock::from_pairs(pairs)?;
+    let (first, last) = (clock.entry(site(0)?), clock.entry(site(31)?));
+    Ok((first, last) == counts && clock.sum() == first.saturating_add(last))
+}
+
+/// The clock with one more of the site, where there may be more.
+fn raised(clock: Clock, site: Site) -> Result<Clock, Refusal> {
+    if clock.sum() >= 131_072 {
+        return Err(Refusal::Full);
+    }
+    Ok(clock.raised(site))
+}
+
+fn tell_clocks(zero: Site, last: Site) -> Result<bool, Refusal> {
+    let mut all = tells(&[(zero, 131_072)], (131_072, 0))?;
+    all &= tells(&[(zero, 1), (last, 2)], (1, 2))?;
+    all &= Clock::from_pairs(&[])? == Clock::zero();
+    let two = Clock::from_pairs(&[(zero, 1), (last, 2)])?;
+    all &= raised(two, last)? == Clock::from_pairs(&[(zero, 1), (last, 3)])?;
+    Ok(all)
 }
 
 #[test]
 fn pairs_that_tell_a_clock(rt: HostRuntime) -> Result<(), Fail> {
-    let (zero, last) = (site(0)?, site(31)?);
-    let full = Clock::from_pairs(&[(zero, 131_072)])?;
-    assert_eq!(rt; full.sum(), 131_072);
-    assert_eq!(rt; full.entry(last), 0);
-    let none = Clock::from_pairs(&[])?;
-    assert!(rt; none == Clock::zero());
-    let two = Clock::from_pairs(&[(zero, 1), (last, 2)])?;
-    assert_eq!(rt; (two.entry(zero), two.entry(last), two.sum()), (1, 2, 3));
-    assert!(rt; two.raised(last) == Clock::from_pairs(&[(zero, 1), (last, 3)])?);
+    assert!(rt; tell_clocks(site(0)?, site(31)?)?);
     Ok(())
+}
+
+/// The first operation of site 0, and that of site 1 which knows of it.
+fn become_ready_in_turn(zero: Site, one: Site) -> Result<bool, Refusal> {
+    let empty = Clock::zero();
+    let first = typed(zero, Clock::from_pairs(&[(zero, 1)])?)?;
+    let second = typed(one, Clock::from_pairs(&[(zero, 1), (one, 1)])?)?;
+    let mut all = typed(zero, empty).err() == Some(Refusal::BadClock);
+    all &= empty.ready(&first) && !empty.ready(&second);
+    all &= first.clock().ready(&second) && !first.clock().ready(&first);
+    all &= second.stamp().sum == 2 && second.number() == (one, 1);
+    all &= first == first && first != second;
+    Ok(all && first.kind() == TYPED && second.site() == one)
 }
 
 #[test]
 fn an_operation_is_ready_after_its_past(rt: HostRuntime) -> Result<(), Fail> {
-    let (zero, one) = (site(0)?, site(1)?);
-    let kind = OpKind::Ins {
-        parent: None,
-        ch: 'a',
-    };
-    let empty = Clock::zero();
-    let refused = Op::new(zero, empty, kind);
-    assert_eq!(rt; refused.err(), Some(Refusal::BadClock));
-    let first = Op::new(zero, Clock::from_pairs(&[(zero, 1)])?, kind)?;
-    let second = Op::new(one, Clock::from_pairs(&[(zero, 1), (one, 1)])?, kind)?;
-    assert!(rt; empty.ready(&first));
-    assert!(rt; !empty.ready(&second));
-    assert!(rt; first.clock().ready(&second));
-    assert!(rt; !first.clock().ready(&first));
-    assert_eq!(rt; second.stamp().sum, 2);
-    assert_eq!(rt; second.number(), (one, 1));
-    assert!(rt; first == first && first != second && first.kind() == kind && second.site() == one);
+    assert!(rt; become_ready_in_turn(site(0)?, site(1)?)?);
     Ok(())
 }
 
-/// An operation of the site that inserts at the head, with this clock.
+/// The insertion of a character at the head.
+const TYPED: OpKind = OpKind::Ins {
+    parent: None,
+    ch: 'a',
+};
+
+/// The operation of the site that inserts at the head, with this clock.
 fn typed(site: Site, clock: Clock) -> Result<Op, Refusal> {
-    Op::new(
-        site,
-        clock,
-        OpKind::Ins {
-            parent: None,
-            ch: 'a',
-        },
-    )
+    Op::new(site, clock, TYPED)
+}
+
+/// Whether the log stores as many entries as the first and the last of 128 operations of a site, and their 64ths, tell.
+fn stores_190(log: &mut OpLog) -> Result<bool, Refusal> {
+    let zero = site(0)?;
+    for n in 1..129u32 {
+        log.push(typed(zero, Clock::from_pairs(&[(zero, n)])?)?)?;
+    }
+    Ok(log.len() == 128 && log.stored() == 190)
 }
 
 #[test]
 fn one_site_types_128_characters(rt: HostRuntime) -> Result<(), Fail> {
-    let zero = site(0)?;
-    let mut log = OpLog::new(rt.alloc());
-    let mut clock = Clock::zero();
-    for _ in 0..128u32 {
-        if clock.sum() < 131_072 {
-            clock = clock.raised(zero);
-        }
-        log.push(typed(zero, clock)?)?;
-    }
-    assert_eq!(rt; log.len(), 128);
-    assert_eq!(rt; log.stored(), 190);
+    assert!(rt; of_an_empty_one(rt.alloc(), stores_190)?);
     Ok(())
 }
 
@@ -102,15 +128,20 @@ fn falling() -> Result<[Op; 4], Refusal> {
     ])
 }
 
-#[test]
-fn an_entry_that_fell_is_stored(rt: HostRuntime) -> Result<(), Fail> {
-    let mut log = OpLog::new(rt.alloc());
-    let ops = falling()?;
-    for op in ops.iter() {
+fn keeps_each(log: &mut OpLog, ops: &[Op]) -> Result<bool, Refusal> {
+    for op in ops {
         log.push(*op)?;
     }
-    assert_eq!(rt; log.stored(), 7);
-    assert!(rt; is_log_of(&log, &ops));
+    Ok(is_log_of(log, ops))
+}
+
+fn stores_what_fell(log: &mut OpLog) -> Result<bool, Refusal> {
+    Ok(keeps_each(log, &falling()?)? && log.stored() == 7)
+}
+
+#[test]
+fn an_entry_that_fell_is_stored(rt: HostRuntime) -> Result<(), Fail> {
+    assert!(rt; of_an_empty_one(rt.alloc(), stores_what_fell)?);
     Ok(())
 }
 
@@ -155,17 +186,19 @@ fn is_rest(log: &OpLog, place: usize, ops: &[Op]) -> bool {
     rest.next().is_none()
 }
 
-/// An operation of one of five sites, whose clock has nothing to do with those before it.
-fn any_op(alloc: Global, dice: &mut Dice) -> Result<Op, Fail> {
-    let own = dice.roll(5) as u8;
-    let mut pairs = Vec::new(alloc);
-    for number in 0..5u8 {
-        let count = dice.roll(3) as u32;
-        let count = if number == own { count + 1 } else { count };
-        if count > 0 {
-            pairs.push((site(number)?, count))?;
-        }
+/// A clock that counts one of a site, and at most ten more of five sites.
+fn any_clock(own: Site, dice: &mut Dice) -> Result<Clock, Refusal> {
+    let mut clock = raised(Clock::zero(), own)?;
+    for _ in 0..dice.roll(11) {
+        clock = raised(clock, site(dice.roll(5) as u8)?)?;
     }
+    Ok(clock)
+}
+
+/// An operation of one of five sites, whose clock has nothing to do with those before it.
+fn any_op(dice: &mut Dice) -> Result<Op, Refusal> {
+    let own = site(dice.roll(5) as u8)?;
+    let clock = any_clock(own, dice)?;
     let stamp = Stamp {
         sum: dice.roll(100_000) as u32,
         site: site(dice.roll(32) as u8)?,
@@ -181,22 +214,33 @@ fn any_op(alloc: Global, dice: &mut Dice) -> Result<Op, Fail> {
         },
         _ => OpKind::Del { target: stamp },
     };
-    Ok(Op::new(site(own)?, Clock::from_pairs(pairs.as_slice())?, kind)?)
+    Op::new(own, clock, kind)
 }
 
-#[test]
-fn a_log_gives_back_what_was_pushed(rt: HostRuntime) -> Result<(), Fail> {
-    let mut dice = Dice::new(7);
-    let mut log = OpLog::new(rt.alloc());
-    let mut plain = Vec::new(rt.alloc());
+/// Pushes 2,000 operations, and notes them.
+fn push_many(log: &mut OpLog, noted: &mut Vec<Op>, dice: &mut Dice) -> Result<(), Refusal> {
     for k in 0..2_000usize {
         if k % 64 == 0 {
             log.reserve(64)?;
         }
-        let op = any_op(rt.alloc(), &mut dice)?;
+        let op = any_op(dice)?;
         log.push(op)?;
-        plain.push(op)?;
+        noted.push(op)?;
     }
-    assert!(rt; is_log_of(&log, plain.as_slice()));
+    Ok(())
+}
+
+fn gives_back(log: &mut OpLog, noted: &mut Vec<Op>) -> Result<bool, Refusal> {
+    push_many(log, noted, &mut Dice::new(7))?;
+    Ok(log.len() == 2_000 && is_log_of(log, noted))
+}
+
+fn an_empty_one_gives_back(alloc: Global) -> Result<bool, Refusal> {
+    gives_back(&mut OpLog::new(alloc), &mut Vec::new(alloc))
+}
+
+#[test]
+fn a_log_gives_back_what_was_pushed(rt: HostRuntime) -> Result<(), Fail> {
+    assert!(rt; an_empty_one_gives_back(rt.alloc())?);
     Ok(())
 }

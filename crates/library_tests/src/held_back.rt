@@ -2,7 +2,18 @@
 use causal_clock::{Clock, Op};
 use holdback::{Arrival, Held};
 use opid::{OpKind, Refusal, Site};
+use std::alloc::Global;
 use std::test::Fail;
+
+/// Asks something where nothing is held back. (What a function owns costs its proof at each step, so all others borrow it.)
+fn of_an_empty_one<F: Fn(&mut Held) -> Result<bool, Refusal>>(
+    alloc: Global,
+    asked: F,
+) -> Result<bool, Refusal>
+    requires { F.IsAlwaysCallable asked }
+{
+    asked(&mut Held::new(alloc))
+}
 
 /// The insertion of the character at the head by site 1, with this own entry.
 fn insertion(own: u32, ch: char) -> Result<Op, Refusal> {
@@ -22,50 +33,57 @@ fn kept(held: &mut Held, first: u32, last: u32) -> Result<u32, Refusal> {
     Ok(count)
 }
 
-#[test]
-fn the_same_comes_again(rt: HostRuntime) -> Result<(), Fail> {
-    let mut held = Held::new(rt.alloc());
+/// One operation, and another of its number.
+fn keeps_the_first(held: &mut Held) -> Result<bool, Refusal> {
     let (second, other) = (insertion(2, 'b')?, insertion(2, 'z')?);
-    assert_eq!(rt; held.look(&second)?, false);
-    assert_eq!(rt; held.offer(second)?, Arrival::Kept);
-    assert_eq!(rt; held.offer(second)?, Arrival::Again);
-    assert_eq!(rt; held.look(&second)?, true);
-    assert_eq!(rt; held.look(&other).err(), Some(Refusal::Conflict));
-    assert_eq!(rt; held.offer(other).err(), Some(Refusal::Conflict));
-    assert_eq!(rt; held.len(), 1);
-    Ok(())
+    let mut all = !held.look(&second)?;
+    all &= held.offer(second)? == Arrival::Kept;
+    all &= held.offer(second)? == Arrival::Again;
+    all &= held.look(&second)?;
+    all &= held.look(&other).err() == Some(Refusal::Conflict);
+    all &= held.offer(other).err() == Some(Refusal::Conflict);
+    Ok(all && held.len() == 1)
 }
 
 #[test]
-fn the_first_ready_one_leaves(rt: HostRuntime) -> Result<(), Fail> {
-    let mut held = Held::new(rt.alloc());
+fn the_same_comes_again(rt: HostRuntime) -> Result<(), Fail> {
+    assert!(rt; of_an_empty_one(rt.alloc(), keeps_the_first)?);
+    Ok(())
+}
+
+/// The third and the second operation of a site, and one that stays.
+fn leave_in_turn(held: &mut Held) -> Result<bool, Refusal> {
     held.reserve(3)?;
     let (third, second) = (insertion(3, 'c')?, insertion(2, 'b')?);
     held.offer(third)?;
     held.offer(second)?;
     held.offer(insertion(9, 'd')?)?;
-    let none = Clock::zero();
-    assert!(rt; held.take_first_ready(&none).is_none());
     let first = insertion(1, 'a')?.clock();
-    assert!(rt; held.take_first_ready(&first) == Some(second));
-    assert!(rt; held.take_first_ready(&first).is_none());
-    assert!(rt; held.take_first_ready(&second.clock()) == Some(third));
-    assert_eq!(rt; held.len(), 1);
+    let mut all = held.take_first_ready(&Clock::zero()).is_none();
+    all &= held.take_first_ready(&first) == Some(second);
+    all &= held.take_first_ready(&first).is_none();
+    all &= held.take_first_ready(&second.clock()) == Some(third);
+    Ok(all && held.len() == 1)
+}
+
+#[test]
+fn the_first_ready_one_leaves(rt: HostRuntime) -> Result<(), Fail> {
+    assert!(rt; of_an_empty_one(rt.alloc(), leave_in_turn)?);
     Ok(())
+}
+
+/// 1,024 operations, the same again, one more, and another of a number that is there.
+fn keeps_1024(held: &mut Held) -> Result<bool, Refusal> {
+    let mut all = kept(held, 2, 1026)? == 1024;
+    all &= kept(held, 2, 1026)? == 0;
+    all &= held.offer(insertion(1026, 'a')?).err() == Some(Refusal::HoldFull);
+    all &= held.offer(insertion(2, 'a')?)? == Arrival::Again;
+    all &= held.offer(insertion(2, 'z')?).err() == Some(Refusal::Conflict);
+    Ok(all)
 }
 
 #[test]
 fn at_most_1024_are_held(rt: HostRuntime) -> Result<(), Fail> {
-    let mut held = Held::new(rt.alloc());
-    assert_eq!(rt; kept(&mut held, 2, 1026)?, 1024);
-    assert_eq!(rt; kept(&mut held, 2, 1026)?, 0);
-    let (again, next, other) = (
-        insertion(2, 'a')?,
-        insertion(1026, 'a')?,
-        insertion(2, 'z')?,
-    );
-    assert_eq!(rt; held.offer(next).err(), Some(Refusal::HoldFull));
-    assert_eq!(rt; held.offer(again)?, Arrival::Again);
-    assert_eq!(rt; held.offer(other).err(), Some(Refusal::Conflict));
+    assert!(rt; of_an_empty_one(rt.alloc(), keeps_1024)?);
     Ok(())
 }

@@ -16,6 +16,16 @@ fn stamp(sum: u32, site: u8) -> Result<Stamp, Refusal> {
     })
 }
 
+/// Asks something of an empty list. (What a function owns costs its proof at each step, so all others borrow it.)
+fn of_an_empty_one<F: Fn(&mut Rga) -> Result<bool, Refusal>>(
+    alloc: Global,
+    asked: F,
+) -> Result<bool, Refusal>
+    requires { F.IsAlwaysCallable asked }
+{
+    asked(&mut Rga::new(alloc))
+}
+
 /// A stamp of the site that may be inserted, from this sum on.
 fn fresh(rga: &Rga, least: u32, site: Site) -> Option<Stamp>
     ensures { IfSome result (λ s. IsAboveItsSite rga.now.entries s) }
@@ -47,23 +57,22 @@ fn insert(
     }
 }
 
-/// The characters that are shown.
-fn text(alloc: Global, rga: &Rga) -> Result<String, AllocError> {
-    let mut shown = String::new(alloc);
+/// Whether the list has these characters, each of which is shown or not.
+fn lists(rga: &Rga, characters: &[(char, bool)]) -> bool {
     let mut at = None;
-    for _ in 0..rga.len() {
+    for want in characters {
         match rga.next(at) {
-            None => break,
+            None => return false,
             Some(elem) => {
-                let (_, ch, is_shown) = rga.get(elem);
-                if is_shown {
-                    shown.push(ch)?;
+                let (_, ch, shown) = rga.get(elem);
+                if (ch, shown) != *want {
+                    return false;
                 }
                 at = Some(elem);
             }
         }
     }
-    Ok(shown)
+    rga.next(at).is_none()
 }
 
 /// Whether the list is these elements of the plain program.
@@ -88,59 +97,63 @@ fn is_same(rga: &Rga, plain: &Plain, order: &[Insertion]) -> bool {
     rga.next(at).is_none() && rga.len() == order.len()
 }
 
+/// The text of the worked list, all of which is shown.
+const XZWY: [(char, bool); 4] = [('x', true), ('z', true), ('w', true), ('y', true)];
+
+/// `x`, and behind it first `y` and then the run `zw` of another site.
+fn takes_the_run_last(rga: &mut Rga) -> Result<bool, Refusal> {
+    let (x, z) = (stamp(1, 0)?, stamp(2, 1)?);
+    insert(rga, 1, 0, None, 'x')?;
+    insert(rga, 2, 0, Some(x), 'y')?;
+    insert(rga, 2, 1, Some(x), 'z')?;
+    insert(rga, 3, 1, Some(z), 'w')?;
+    Ok(lists(rga, &XZWY))
+}
+
+/// The same, where `y` arrives last.
+fn takes_the_run_first(rga: &mut Rga) -> Result<bool, Refusal> {
+    let (x, z) = (stamp(1, 0)?, stamp(2, 1)?);
+    insert(rga, 1, 0, None, 'x')?;
+    insert(rga, 2, 1, Some(x), 'z')?;
+    insert(rga, 3, 1, Some(z), 'w')?;
+    let last = insert(rga, 2, 0, Some(x), 'y')?;
+    let mut all = last.elem == 3 && last.before == Some(2);
+    all &= rga.next(Some(2)) == Some(3);
+    all &= rga.next(Some(3)).is_none() && rga.next(Some(4)).is_none();
+    Ok(all && lists(rga, &XZWY))
+}
+
 #[test]
 fn either_order_of_arrival_gives_one_list(rt: HostRuntime) -> Result<(), Fail> {
-    let (x, z) = (stamp(1, 0)?, stamp(2, 1)?);
-    let mut here = Rga::new(rt.alloc());
-    insert(&mut here, 1, 0, None, 'x')?;
-    insert(&mut here, 2, 0, Some(x), 'y')?;
-    insert(&mut here, 2, 1, Some(x), 'z')?;
-    insert(&mut here, 3, 1, Some(z), 'w')?;
-    assert_eq!(rt; text(rt.alloc(), &here)?.as_str(), "xzwy");
-
-    let mut there = Rga::new(rt.alloc());
-    insert(&mut there, 1, 0, None, 'x')?;
-    insert(&mut there, 2, 1, Some(x), 'z')?;
-    insert(&mut there, 3, 1, Some(z), 'w')?;
-    let last = insert(&mut there, 2, 0, Some(x), 'y')?;
-    assert_eq!(rt; text(rt.alloc(), &there)?.as_str(), "xzwy");
-    assert_eq!(rt; last.elem, 3);
-    assert_eq!(rt; last.before, Some(2));
-    assert_eq!(rt; there.next(Some(2)), Some(3));
-    assert_eq!(rt; there.next(Some(3)), None);
-    assert_eq!(rt; there.next(Some(4)), None);
+    assert!(rt; of_an_empty_one(rt.alloc(), takes_the_run_last)?);
+    assert!(rt; of_an_empty_one(rt.alloc(), takes_the_run_first)?);
     Ok(())
+}
+
+/// Whether the insertion of `b` as (2,1) behind this element is refused so.
+fn refuses_behind(rga: &mut Rga, parent: Stamp, why: Refusal) -> bool {
+    insert(rga, 2, 1, Some(parent), 'b').err() == Some(why)
+}
+
+/// In a list of one element, which is deleted twice.
+fn deletes_the_only_one(rga: &mut Rga) -> Result<bool, Refusal> {
+    let (only, unknown) = (stamp(3, 0)?, stamp(9, 9)?);
+    let mut all = rga.last_of(only.site).is_none();
+    let first = insert(rga, 3, 0, None, 'a')?;
+    all &= first.elem == 0 && first.before.is_none();
+    all &= refuses_behind(rga, only, Refusal::NotOlder);
+    all &= refuses_behind(rga, unknown, Refusal::UnknownElement);
+    all &= rga.integrate_del(only)? && !rga.integrate_del(only)?;
+    all &= rga.integrate_del(unknown).err() == Some(Refusal::UnknownElement);
+    all &= rga.elem_of(only) == Some(0) && rga.elem_of(unknown).is_none();
+    all &= rga.last_of(only.site) == Some(only);
+    all &= rga.len() == 1 && rga.next(None) == Some(0);
+    Ok(all && lists(rga, &[('a', false)]))
 }
 
 #[test]
 fn refused_and_deleted(rt: HostRuntime) -> Result<(), Fail> {
-    let (only, unknown) = (stamp(3, 0)?, stamp(9, 9)?);
-    let mut rga = Rga::new(rt.alloc());
-    assert!(rt; rga.last_of(only.site).is_none());
-    let first = insert(&mut rga, 3, 0, None, 'a')?;
-    assert_eq!(rt; (first.elem, first.before), (0, None));
-
-    assert_eq!(rt;
-        insert(&mut rga, 2, 1, Some(only), 'b').err(),
-        Some(Refusal::NotOlder)
-    );
-    assert_eq!(rt;
-        insert(&mut rga, 2, 1, Some(unknown), 'b').err(),
-        Some(Refusal::UnknownElement)
-    );
-    assert_eq!(rt; rga.integrate_del(only)?, true);
-    assert_eq!(rt; rga.integrate_del(only)?, false);
-    assert_eq!(rt;
-        rga.integrate_del(stamp(9, 0)?).err(),
-        Some(Refusal::UnknownElement)
-    );
-
-    assert_eq!(rt; rga.elem_of(only), Some(0));
-    assert_eq!(rt; rga.elem_of(unknown), None);
-    assert!(rt; rga.last_of(only.site) == Some(only));
-    assert_eq!(rt; rga.len(), 1);
-    assert_eq!(rt; rga.next(None), Some(0));
-    assert_eq!(rt; text(rt.alloc(), &rga)?.as_str(), "");
+    assert!(rt; of_an_empty_one(rt.alloc(), deletes_the_only_one)?);
     Ok(())
 }
 
@@ -161,39 +174,57 @@ fn picture(rga: &Rga) -> [(Elem, u32, char, bool); 16] {
     places
 }
 
+/// Whether an insertion that lacks memory leaves the list as it was, so that it can be asked for again.
+fn grows(rga: &mut Rga, n: u8) -> Result<bool, Refusal> {
+    let before = picture(rga);
+    let sum = u32::from(n) + 1;
+    let Err(refusal) = insert(rga, sum, n % 3, None, 'a') else {
+        return Ok(true);
+    };
+    let all = refusal == Refusal::Memory && picture(rga) == before && rga.len() == usize::from(n);
+    insert(rga, sum, n % 3, None, 'a')?;
+    Ok(all)
+}
+
+fn grows_to_14(rga: &mut Rga) -> Result<bool, Refusal> {
+    let mut all = true;
+    for n in 0..14u8 {
+        all &= grows(rga, n)?;
+    }
+    Ok(all && rga.len() == 14)
+}
+
 #[test]
 fn a_refused_growth_changes_nothing(rt: HostRuntime) -> Result<(), Fail> {
-    let mut rga = Rga::new(rt.alloc());
-    for n in 0..14u8 {
-        let before = picture(&rga);
-        let sum = u32::from(n) + 1;
-        if let Err(refusal) = insert(&mut rga, sum, n % 3, None, 'a') {
-            assert_eq!(rt; refusal, Refusal::Memory);
-            assert!(rt; picture(&rga) == before);
-            assert_eq!(rt; rga.len(), usize::from(n));
-            insert(&mut rga, sum, n % 3, None, 'a')?;
-        }
-    }
-    assert_eq!(rt; rga.len(), 14);
+    assert!(rt; of_an_empty_one(rt.alloc(), grows_to_14)?);
     Ok(())
+}
+
+/// Reserves in a list of one element, once more where memory was refused.
+fn reserves(rga: &mut Rga) -> Result<bool, Refusal> {
+    let Err(refusal) = rga.reserve(40) else {
+        return Ok(true);
+    };
+    let mut all = refusal == Refusal::Memory && rga.len() == 1;
+    all &= rga.next(None) == Some(0) && rga.next(Some(0)).is_none();
+    rga.reserve(40)?;
+    Ok(all)
+}
+
+fn fills_its_reserve(rga: &mut Rga) -> Result<bool, Refusal> {
+    if insert(rga, 1, 31, None, 'a').is_err() {
+        insert(rga, 1, 31, None, 'a')?;
+    }
+    let all = reserves(rga)?;
+    for n in 0..40u8 {
+        insert(rga, 2, n % 32, None, 'b')?;
+    }
+    Ok(all && rga.len() == 41)
 }
 
 #[test]
 fn a_reserve_is_enough(rt: HostRuntime) -> Result<(), Fail> {
-    let mut rga = Rga::new(rt.alloc());
-    insert(&mut rga, 1, 31, None, 'a').or_else(|_| insert(&mut rga, 1, 31, None, 'a'))?;
-    if let Err(refusal) = rga.reserve(40) {
-        assert_eq!(rt; refusal, Refusal::Memory);
-        assert_eq!(rt;
-            (rga.len(), rga.next(None), rga.next(Some(0))),
-            (1, Some(0), None)
-        );
-        rga.reserve(40)?;
-    }
-    for n in 0..40u8 {
-        insert(&mut rga, 2, n % 32, None, 'b')?;
-    }
-    assert_eq!(rt; rga.len(), 41);
+    assert!(rt; of_an_empty_one(rt.alloc(), fills_its_reserve)?);
     Ok(())
 }
 
@@ -230,20 +261,33 @@ fn step(alloc: Global, rga: &mut Rga, plain: &mut Plain, dice: &mut Dice) -> Res
     }
 }
 
+/// Whether the list is what the plain program has.
+fn is_as_defined(alloc: Global, rga: &Rga, plain: &Plain) -> Result<bool, AllocError> {
+    Ok(is_same(rga, plain, &plain.all(alloc)?))
+}
+
+/// Whether both answer the same, and have the same list, in 2,000 steps.
+fn run_alike(
+    alloc: Global,
+    rga: &mut Rga,
+    plain: &mut Plain,
+    dice: &mut Dice,
+) -> Result<bool, Refusal> {
+    let mut all = true;
+    for _ in 0..2_000u32 {
+        all &= step(alloc, rga, plain, dice)?;
+        all &= is_as_defined(alloc, rga, plain)?;
+    }
+    Ok(all && rga.len() > 1_000)
+}
+
+fn an_empty_one_runs_as_defined(alloc: Global) -> Result<bool, Refusal> {
+    let (mut rga, mut plain) = (Rga::new(alloc), Plain::new(alloc));
+    run_alike(alloc, &mut rga, &mut plain, &mut Dice::new(1))
+}
+
 #[test]
 fn a_long_run_is_as_defined(rt: HostRuntime) -> Result<(), Fail> {
-    let mut rga = Rga::new(rt.alloc());
-    let mut plain = Plain::new(rt.alloc())?;
-    let mut dice = Dice::new(1);
-    for n in 0..2_000u32 {
-        let answered = step(rt.alloc(), &mut rga, &mut plain, &mut dice)?;
-        assert!(rt; answered, "operation {n}");
-        let order = plain.all(rt.alloc())?;
-        assert!(rt;
-            is_same(&rga, &plain, order.as_slice()),
-            "after operation {n}"
-        );
-    }
-    assert!(rt; rga.len() > 1_000);
+    assert!(rt; an_empty_one_runs_as_defined(rt.alloc())?);
     Ok(())
 }

@@ -45,19 +45,28 @@ fn leaves_for_another(sessions: &mut Sessions) -> Result<bool, Fail>
     Ok(all)
 }
 
+fn are_64_at_a_time(sessions: &mut Sessions) -> Result<bool, Fail>
+    requires { sessions.old.next_number ≤ 1 }
+{
+    let all = joins_up_to_64(sessions)?;
+    Ok(all && refuses_the_65th(sessions))
+}
+
 #[test]
 fn sixty_four_at_a_time(rt: HostRuntime) -> Result<(), Fail> {
-    let mut sessions = Sessions::new(rt.alloc());
-    assert!(rt; joins_up_to_64(&mut sessions)?);
-    assert!(rt; refuses_the_65th(&mut sessions));
+    assert!(rt; are_64_at_a_time(&mut Sessions::new(rt.alloc()))?);
     Ok(())
+}
+
+fn makes_room(sessions: &mut Sessions) -> Result<bool, Fail>
+    requires { sessions.old.next_number ≤ 1 }
+{
+    Ok(joins_up_to_64(sessions)? && leaves_for_another(sessions)?)
 }
 
 #[test]
 fn one_that_leaves_makes_room(rt: HostRuntime) -> Result<(), Fail> {
-    let mut sessions = Sessions::new(rt.alloc());
-    let all = joins_up_to_64(&mut sessions)?;
-    assert!(rt; all && leaves_for_another(&mut sessions)?);
+    assert!(rt; makes_room(&mut Sessions::new(rt.alloc()))?);
     Ok(())
 }
 
@@ -95,8 +104,11 @@ fn answers(
     Ok(submit(sessions, 1, n, v, new)? == reply)
 }
 
-fn submits_in_turn(sessions: &mut Sessions) -> Result<bool, Fail> {
-    let mut all = refuses(sessions, 2, 1, 4, Refusal::NoSession);
+fn submits_in_turn(sessions: &mut Sessions) -> Result<bool, Fail>
+    requires { sessions.old.next_number ≤ 1 }
+{
+    let mut all = joins(sessions, 4, 1)?;
+    all &= refuses(sessions, 2, 1, 4, Refusal::NoSession);
     all &= refuses(sessions, 1, 0, 4, Refusal::BadNumber);
     all &= refuses(sessions, 1, 2, 9, Refusal::BadNumber);
     all &= refuses(sessions, 1, 1, 3, Refusal::BadVersion);
@@ -111,9 +123,7 @@ fn submits_in_turn(sessions: &mut Sessions) -> Result<bool, Fail> {
 
 #[test]
 fn a_repeat_gets_the_kept_reply(rt: HostRuntime) -> Result<(), Fail> {
-    let mut sessions = Sessions::new(rt.alloc());
-    let joined = joins(&mut sessions, 4, 1)?;
-    assert!(rt; joined && submits_in_turn(&mut sessions)?);
+    assert!(rt; submits_in_turn(&mut Sessions::new(rt.alloc()))?);
     Ok(())
 }
 
@@ -140,8 +150,11 @@ fn refuses_pull(
     sessions.pull(s, have, max, newest).err() == Some(why)
 }
 
-fn pulls_in_turn(sessions: &mut Sessions) -> Result<bool, Fail> {
-    let mut all = refuses_pull(sessions, 9, 0, 0, 5, Refusal::NoSession);
+fn pulls_in_turn(sessions: &mut Sessions) -> Result<bool, Fail>
+    requires { sessions.old.next_number ≤ 1 }
+{
+    let mut all = joins(sessions, 2, 1)?;
+    all &= refuses_pull(sessions, 9, 0, 0, 5, Refusal::NoSession);
     all &= refuses_pull(sessions, 1, 9, 0, 5, Refusal::BadCount);
     all &= refuses_pull(sessions, 1, 2, 65, 5, Refusal::BadCount);
     all &= refuses_pull(sessions, 1, 1, 64, 5, Refusal::BadHave);
@@ -156,17 +169,20 @@ fn pulls_in_turn(sessions: &mut Sessions) -> Result<bool, Fail> {
 
 #[test]
 fn a_pull_raises_what_was_sent(rt: HostRuntime) -> Result<(), Fail> {
-    let mut sessions = Sessions::new(rt.alloc());
-    let joined = joins(&mut sessions, 2, 1)?;
-    assert!(rt; joined && pulls_in_turn(&mut sessions)?);
+    assert!(rt; pulls_in_turn(&mut Sessions::new(rt.alloc()))?);
     Ok(())
+}
+
+fn pulls_at_the_last_version(sessions: &mut Sessions) -> Result<bool, Fail>
+    requires { sessions.old.next_number ≤ 1 }
+{
+    let last = u32::MAX;
+    Ok(joins(sessions, last, 1)? && pulls(sessions, last, 64, last, (last, last))?)
 }
 
 #[test]
 fn a_pull_at_the_last_version(rt: HostRuntime) -> Result<(), Fail> {
-    let mut sessions = Sessions::new(rt.alloc());
-    let joined = joins(&mut sessions, u32::MAX, 1)?;
-    assert!(rt; joined && pulls(&mut sessions, u32::MAX, 64, u32::MAX, (u32::MAX, u32::MAX))?);
+    assert!(rt; pulls_at_the_last_version(&mut Sessions::new(rt.alloc()))?);
     Ok(())
 }
 
@@ -190,7 +206,6 @@ fn keeps_its_count(sessions: &mut Sessions) -> Result<bool, Fail>
 
 #[test]
 fn a_session_keeps_its_way_of_counting(rt: HostRuntime) -> Result<(), Fail> {
-    let mut sessions = Sessions::new(rt.alloc());
-    assert!(rt; keeps_its_count(&mut sessions)?);
+    assert!(rt; keeps_its_count(&mut Sessions::new(rt.alloc()))?);
     Ok(())
 }

@@ -1,15 +1,52 @@
 //! A worked tree, and a random one beside a scan of all elements.
 mod plain;
 
+ghost use Rattle.std.specs.Prelude.{◌≤◌};
+
 use crate::dice::Dice;
 use crate::trees::plain::Plain;
 use counted_tree::{Steps, VersionTree};
-use std::alloc::AllocError;
+use std::alloc::{AllocError, Global};
 use std::test::Fail;
 
 const OPERATIONS: usize = 120;
 
 const ELEMENTS: usize = 400;
+
+/// An empty tree, with memory for so many versions.
+fn empty(alloc: Global, versions: usize) -> Result<VersionTree, AllocError>
+    requires { versions ≤ 131072 }
+{
+    let mut tree = VersionTree::new(alloc);
+    tree.reserve(versions)?;
+    Ok(tree)
+}
+
+/// Asks something of an empty tree. (What a function owns costs its proof at each step, so all others borrow it.)
+fn of_an_empty_one<F: Fn(&mut VersionTree) -> bool>(
+    alloc: Global,
+    versions: usize,
+    asked: F,
+) -> Result<bool, AllocError>
+    requires callable { F.IsAlwaysCallable asked }
+    requires most { versions ≤ 131072 }
+{
+    let mut tree = empty(alloc, versions)?;
+    Ok(asked(&mut tree))
+}
+
+/// Asks something of an empty tree and a scan of no elements.
+fn of_empty_ones<F: Fn(&mut VersionTree, &mut Plain) -> Result<bool, AllocError>>(
+    alloc: Global,
+    versions: usize,
+    asked: F,
+) -> Result<bool, AllocError>
+    requires callable { F.IsAlwaysCallable asked }
+    requires most { versions ≤ 131072 }
+{
+    let mut tree = empty(alloc, versions)?;
+    asked(&mut tree, &mut Plain::new(alloc))
+}
 
 /// A number below this one, or 0 where there is none.
 fn below(dice: &mut Dice, n: u32) -> u32 {
@@ -25,8 +62,7 @@ fn found(tree: &VersionTree, version: usize, k: usize) -> Option<u32> {
     if version > tree.newest() {
         return None;
     }
-    let mut steps = Steps::new();
-    tree.find(version, k, &mut steps)
+    tree.find(version, k, &mut Steps::new())
 }
 
 /// The element that has a unit of what a version shows, if there are both, and which of its units that is.
@@ -34,64 +70,94 @@ fn found_unit(tree: &VersionTree, version: usize, k: usize) -> Option<(u32, u8)>
     if version > tree.newest() {
         return None;
     }
-    let mut steps = Steps::new();
-    tree.find_units(version, k, &mut steps)
+    tree.find_units(version, k, &mut Steps::new())
 }
 
-/// How many units stand before an element in the newest version, if it is there.
-fn rank_units(tree: &VersionTree, elem: u32) -> usize {
+/// How many elements, and how many units, stand before an element in the newest version, if it is there.
+fn ranks(tree: &VersionTree, elem: u32) -> Option<(usize, usize)> {
     if elem as usize >= tree.elements() {
-        return 0;
+        return None;
     }
-    let mut steps = Steps::new();
-    tree.rank_units(elem, &mut steps)
+    let rank = tree.rank(elem, &mut Steps::new());
+    Some((rank, tree.rank_units(elem, &mut Steps::new())))
+}
+
+/// How many elements, and how many units, a version shows, if it is there.
+fn lengths(tree: &VersionTree, version: usize) -> Option<(usize, usize)> {
+    if version > tree.newest() {
+        return None;
+    }
+    Some((tree.shown(version), tree.units(version)))
 }
 
 /// The last element that one passes from one on, if it is there, or from before all others, as long as the keys are greater.
 fn last_greater(tree: &VersionTree, before: Option<u32>, key: u32) -> Option<u32> {
-    let mut steps = Steps::new();
     if let Some(e) = before {
         if e as usize >= tree.elements() {
             return None;
         }
-        tree.last_greater(Some(e), key, &mut steps)
+        tree.last_greater(Some(e), key, &mut Steps::new())
     } else {
-        tree.last_greater(None, key, &mut steps)
+        tree.last_greater(None, key, &mut Steps::new())
     }
 }
 
-/// Puts the next element in, if the one before is there.
-fn insert(
+/// Puts the next element in, before all others or after one that is there. Whether it did.
+fn put(tree: &mut VersionTree, before: Option<u32>, key: u16, wide: bool) -> bool {
+    let key = u32::from(key);
+    if tree.room() == 0 {
+        return false;
+    }
+    let n = tree.elements();
+    if let Some(e) = before {
+        if e as usize >= n {
+            return false;
+        }
+        tree.insert_after(Some(e), n as u32, key, wide);
+    } else {
+        tree.insert_after(None, n as u32, key, wide);
+    }
+    true
+}
+
+/// Hides the element at the place of the newest version, if there is one, and tells which.
+fn hide(tree: &mut VersionTree, k: usize) -> Option<u32> {
+    if tree.room() == 0 {
+        return None;
+    }
+    let mut steps = Steps::new();
+    if let Some(e) = tree.find(tree.newest(), k, &mut steps) {
+        tree.hide(e);
+        return Some(e);
+    }
+    None
+}
+
+/// Makes a version like the one before.
+fn mark(tree: &mut VersionTree) {
+    if tree.room() > 0 {
+        tree.mark();
+    }
+}
+
+/// The same in the tree and in the scan.
+fn put_in_both(
     tree: &mut VersionTree,
     plain: &mut Plain,
     before: Option<u32>,
     key: u16,
     wide: bool,
 ) -> Result<(), AllocError> {
-    let key = u32::from(key);
-    if tree.room() == 0 {
+    let n = tree.elements() as u32;
+    if !put(tree, before, key, wide) {
         return Ok(());
     }
-    let n = tree.elements();
-    if let Some(e) = before {
-        if e as usize >= n {
-            return Ok(());
-        }
-        tree.insert_after(Some(e), n as u32, key, wide);
-    } else {
-        tree.insert_after(None, n as u32, key, wide);
-    }
-    plain.insert_after(before, n as u32, key, wide, tree.newest())
+    plain.insert_after(before, n, u32::from(key), wide, tree.newest())
 }
 
-/// Hides the element at the place, if there is one.
-fn hide(tree: &mut VersionTree, plain: &mut Plain, k: usize) {
-    if tree.room() == 0 {
-        return;
-    }
-    let mut steps = Steps::new();
-    if let Some(e) = tree.find(tree.newest(), k, &mut steps) {
-        tree.hide(e);
+/// The same in the tree and in the scan.
+fn hide_in_both(tree: &mut VersionTree, plain: &mut Plain, k: usize) {
+    if let Some(e) = hide(tree, k) {
         plain.hide(e, tree.newest());
     }
 }
@@ -102,180 +168,237 @@ fn step(tree: &mut VersionTree, plain: &mut Plain, dice: &mut Dice) -> Result<()
     let wide = dice.roll(3) == 0;
     match dice.roll(10) {
         0 => {
-            if tree.room() > 0 {
-                tree.mark();
-            }
+            mark(tree);
             Ok(())
         }
-        1 => insert(tree, plain, None, key, wide),
+        1 => put_in_both(tree, plain, None, key, wide),
         2 | 3 | 4 => {
-            hide(tree, plain, below(dice, n) as usize);
+            hide_in_both(tree, plain, below(dice, n) as usize);
             Ok(())
         }
-        5 | 6 => insert(tree, plain, n.checked_sub(1), key, wide),
-        _ => insert(tree, plain, Some(below(dice, n)), key, wide),
+        5 | 6 => put_in_both(tree, plain, n.checked_sub(1), key, wide),
+        _ => put_in_both(tree, plain, Some(below(dice, n)), key, wide),
     }
+}
+
+/// Whether the tree and the scan find the same at each place of a version, in either count.
+fn find_the_same(tree: &VersionTree, plain: &Plain, version: usize) -> bool {
+    let mut all = true;
+    for k in 0..2 * OPERATIONS {
+        all &= found(tree, version, k) == plain.find(version, k);
+        all &= found_unit(tree, version, k) == plain.find_units(version, k);
+    }
+    all
+}
+
+/// Whether each element has the same rank in the tree and in the scan, in units.
+fn rank_the_same(tree: &VersionTree, plain: &Plain) -> bool {
+    let mut all = true;
+    for elem in 0..tree.elements() as u32 {
+        let units = plain.rank_units(tree.newest(), elem);
+        all &= ranks(tree, elem).map(|(_, before)| before) == Some(units);
+    }
+    all
+}
+
+/// Whether one passes as far in the tree as in the scan, past the elements with a greater key than this.
+fn pass_the_same(tree: &VersionTree, plain: &Plain, key: u32) -> bool {
+    let mut all = last_greater(tree, None, key) == plain.last_greater(None, key);
+    for elem in 0..tree.elements() as u32 {
+        all &= last_greater(tree, Some(elem), key) == plain.last_greater(Some(elem), key);
+    }
+    all
+}
+
+/// Random steps, of which each version is kept.
+fn grow(tree: &mut VersionTree, plain: &mut Plain, dice: &mut Dice) -> Result<(), AllocError> {
+    for _ in 0..OPERATIONS {
+        step(tree, plain, dice)?;
+    }
+    Ok(())
+}
+
+/// Whether a random tree and a scan tell the same.
+fn agrees(tree: &mut VersionTree, plain: &mut Plain) -> Result<bool, AllocError> {
+    grow(tree, plain, &mut Dice::new(11))?;
+    let mut all = tree.newest() > 90;
+    for version in 0..tree.newest() + 1 {
+        all &= find_the_same(tree, plain, version);
+    }
+    for key in 0..10 {
+        all &= pass_the_same(tree, plain, key);
+    }
+    Ok(all && rank_the_same(tree, plain))
 }
 
 #[test]
 fn agrees_with_a_scan(rt: HostRuntime) -> Result<(), Fail> {
-    let mut tree = VersionTree::new(rt.alloc());
-    let mut plain = Plain::new(rt.alloc());
-    tree.reserve(OPERATIONS)?;
-    let mut dice = Dice::new(11);
-    for _ in 0..OPERATIONS {
-        step(&mut tree, &mut plain, &mut dice)?;
-    }
-    assert!(rt; tree.newest() > 90);
-    for version in 0..tree.newest() + 1 {
-        for k in 0..OPERATIONS {
-            assert_eq!(rt; found(&tree, version, k), plain.find(version, k));
-        }
-        for k in 0..2 * OPERATIONS {
-            assert_eq!(rt; found_unit(&tree, version, k), plain.find_units(version, k));
-        }
-    }
-    for elem in 0..tree.elements() as u32 {
-        assert_eq!(rt;
-            rank_units(&tree, elem),
-            plain.rank_units(tree.newest(), elem)
-        );
-    }
-    for key in 0..10 {
-        assert_eq!(rt;
-            last_greater(&tree, None, key),
-            plain.last_greater(None, key)
-        );
-        for elem in 0..tree.elements() as u32 {
-            assert_eq!(rt;
-                last_greater(&tree, Some(elem), key),
-                plain.last_greater(Some(elem), key)
-            );
-        }
+    assert!(rt; of_empty_ones(rt.alloc(), OPERATIONS, agrees)?);
+    Ok(())
+}
+
+/// Elements of which few have small keys, so that ways are long.
+fn grow_long_ways(
+    tree: &mut VersionTree,
+    plain: &mut Plain,
+    dice: &mut Dice,
+) -> Result<(), AllocError> {
+    for n in 0..ELEMENTS as u32 {
+        let least = if dice.roll(40) == 0 { 0 } else { 1000 };
+        let key = least + dice.roll(1000) as u16;
+        let before = below(dice, n + 1).checked_sub(1);
+        put_in_both(tree, plain, before, key, false)?;
     }
     Ok(())
 }
 
-/// Few small keys among great ones, so that ways are long.
+/// Whether long ways are the same in the tree and in a scan.
+fn agrees_on_long_ways(tree: &mut VersionTree, plain: &mut Plain) -> Result<bool, AllocError> {
+    grow_long_ways(tree, plain, &mut Dice::new(5))?;
+    let mut all = tree.elements() == ELEMENTS;
+    for key in [0, 500, 999, 1000, 1998, 1999, 2000, u32::MAX] {
+        all &= pass_the_same(tree, plain, key);
+    }
+    Ok(all)
+}
+
 #[test]
 fn long_ways_agree_with_a_scan(rt: HostRuntime) -> Result<(), Fail> {
-    let mut tree = VersionTree::new(rt.alloc());
-    let mut plain = Plain::new(rt.alloc());
-    tree.reserve(ELEMENTS)?;
-    let mut dice = Dice::new(5);
-    for n in 0..ELEMENTS as u32 {
-        let least = if dice.roll(40) == 0 { 0 } else { 1000 };
-        let key = least + dice.roll(1000) as u16;
-        let before = below(&mut dice, n + 1).checked_sub(1);
-        insert(&mut tree, &mut plain, before, key, false)?;
-    }
-    for key in [0, 500, 999, 1000, 1998, 1999, 2000, u32::MAX] {
-        assert_eq!(rt;
-            last_greater(&tree, None, key),
-            plain.last_greater(None, key)
-        );
-        for elem in 0..ELEMENTS as u32 {
-            assert_eq!(rt;
-                last_greater(&tree, Some(elem), key),
-                plain.last_greater(Some(elem), key)
-            );
-        }
-    }
+    assert!(rt; of_empty_ones(rt.alloc(), ELEMENTS, agrees_on_long_ways)?);
     Ok(())
+}
+
+/// Two elements, of which the first is hidden, a version like that one, and a third element between the two.
+fn work(tree: &mut VersionTree) {
+    put(tree, None, 7, false);
+    put(tree, Some(0), 5, false);
+    hide(tree, 0);
+    mark(tree);
+    put(tree, Some(0), 6, false);
+}
+
+fn has_places(tree: &VersionTree) -> bool {
+    let mut all = lengths(tree, 0) == Some((0, 0)) && lengths(tree, 5) == Some((2, 2));
+    for (version, place, elem) in [
+        (2, 0, Some(0)),
+        (3, 0, Some(1)),
+        (4, 0, Some(1)),
+        (5, 0, Some(2)),
+        (5, 1, Some(1)),
+        (5, 2, None),
+    ] {
+        all &= found(tree, version, place) == elem;
+    }
+    all && ranks(tree, 2) == Some((0, 0)) && ranks(tree, 1) == Some((1, 1))
+}
+
+fn has_ways(tree: &VersionTree) -> bool {
+    let mut all = true;
+    for (before, key, last) in [
+        (None, 7, None),
+        (None, 6, Some(0)),
+        (Some(0), 6, Some(0)),
+        (Some(0), 5, Some(2)),
+        (Some(0), 4, Some(1)),
+        (Some(1), 0, Some(1)),
+    ] {
+        all &= last_greater(tree, before, key) == last;
+    }
+    all
+}
+
+fn works(tree: &mut VersionTree) -> bool {
+    work(tree);
+    has_places(tree) && has_ways(tree)
 }
 
 #[test]
 fn worked_versions(rt: HostRuntime) -> Result<(), Fail> {
-    let mut tree = VersionTree::new(rt.alloc());
-    tree.reserve(5)?;
-    tree.insert_after(None, 0, 7, false);
-    tree.insert_after(Some(0), 1, 5, false);
-    tree.hide(0);
-    tree.mark();
-    tree.insert_after(Some(0), 2, 6, false);
-    let mut steps = Steps::new();
-    assert_eq!(rt; tree.find(2, 0, &mut steps), Some(0));
-    assert_eq!(rt; tree.find(3, 0, &mut steps), Some(1));
-    assert_eq!(rt; tree.find(4, 0, &mut steps), Some(1));
-    assert_eq!(rt; tree.find(5, 0, &mut steps), Some(2));
-    assert_eq!(rt; tree.find(5, 1, &mut steps), Some(1));
-    assert_eq!(rt; tree.find(5, 2, &mut steps), None);
-    assert_eq!(rt; tree.rank(2, &mut steps), 0);
-    assert_eq!(rt; tree.rank(1, &mut steps), 1);
-    assert_eq!(rt; steps.count(), 13);
-    assert_eq!(rt; tree.last_greater(None, 7, &mut steps), None);
-    assert_eq!(rt; tree.last_greater(None, 6, &mut steps), Some(0));
-    assert_eq!(rt; tree.last_greater(Some(0), 6, &mut steps), Some(0));
-    assert_eq!(rt; tree.last_greater(Some(0), 5, &mut steps), Some(2));
-    assert_eq!(rt; tree.last_greater(Some(0), 4, &mut steps), Some(1));
-    assert_eq!(rt; tree.last_greater(Some(1), 0, &mut steps), Some(1));
-    assert_eq!(rt; tree.shown(0), 0);
-    assert_eq!(rt; tree.shown(5), 2);
+    assert!(rt; of_an_empty_one(rt.alloc(), 5, works)?);
     Ok(())
 }
 
 /// The first element and the last have two units; the first is hidden in version 4.
+fn work_with_pairs(tree: &mut VersionTree) {
+    put(tree, None, 1, true);
+    put(tree, Some(0), 2, false);
+    put(tree, Some(1), 3, true);
+    hide(tree, 0);
+}
+
+fn has_units(tree: &VersionTree) -> bool {
+    let mut all = true;
+    for (version, place, unit) in [
+        (3, 0, Some((0, 0))),
+        (3, 1, Some((0, 1))),
+        (3, 2, Some((1, 0))),
+        (3, 4, Some((2, 1))),
+        (3, 5, None),
+        (4, 1, Some((2, 0))),
+        (2, 2, Some((1, 0))),
+    ] {
+        all &= found_unit(tree, version, place) == unit;
+    }
+    all
+}
+
+fn has_lengths_in_units(tree: &VersionTree) -> bool {
+    let mut all = ranks(tree, 2) == Some((1, 1)) && ranks(tree, 0) == Some((0, 0));
+    for (version, lengths_there) in [(0, (0, 0)), (3, (3, 5)), (4, (2, 3))] {
+        all &= lengths(tree, version) == Some(lengths_there);
+    }
+    all
+}
+
+fn works_in_units(tree: &mut VersionTree) -> bool {
+    work_with_pairs(tree);
+    has_units(tree) && has_lengths_in_units(tree)
+}
+
 #[test]
 fn worked_units(rt: HostRuntime) -> Result<(), Fail> {
-    let mut tree = VersionTree::new(rt.alloc());
-    tree.reserve(4)?;
-    tree.insert_after(None, 0, 1, true);
-    tree.insert_after(Some(0), 1, 2, false);
-    tree.insert_after(Some(1), 2, 3, true);
-    tree.hide(0);
-    let mut steps = Steps::new();
-    assert_eq!(rt; tree.find_units(3, 0, &mut steps), Some((0, 0)));
-    assert_eq!(rt; tree.find_units(3, 1, &mut steps), Some((0, 1)));
-    assert_eq!(rt; tree.find_units(3, 2, &mut steps), Some((1, 0)));
-    assert_eq!(rt; tree.find_units(3, 4, &mut steps), Some((2, 1)));
-    assert_eq!(rt; tree.find_units(3, 5, &mut steps), None);
-    assert_eq!(rt; tree.find_units(4, 1, &mut steps), Some((2, 0)));
-    assert_eq!(rt; tree.find_units(2, 2, &mut steps), Some((1, 0)));
-    assert_eq!(rt; tree.rank_units(2, &mut steps), 1);
-    assert_eq!(rt; tree.rank(2, &mut steps), 1);
-    assert_eq!(rt; tree.rank_units(0, &mut steps), 0);
-    assert_eq!(rt; tree.units(0), 0);
-    assert_eq!(rt; tree.units(3), 5);
-    assert_eq!(rt; tree.shown(3), 3);
-    assert_eq!(rt; tree.units(4), 3);
+    assert!(rt; of_an_empty_one(rt.alloc(), 4, works_in_units)?);
     Ok(())
 }
 
-/// Puts the next element in, before all others or after the one that came before it.
-fn append(tree: &mut VersionTree, first: bool) {
-    if tree.room() == 0 {
-        return;
-    }
-    let n = tree.elements();
-    if first || n == 0 {
-        tree.insert_after(None, n as u32, n as u32, n % 3 == 0);
-    } else {
-        tree.insert_after(Some(n as u32 - 1), n as u32, n as u32, n % 3 == 0);
-    }
-}
-
-/// Whether the version has an element at the place, which is found in at most 36 steps.
+/// Whether the version has an element at the place, which is found in 1 to 36 steps.
 fn is_found_soon(tree: &VersionTree, version: usize, k: usize) -> bool {
     if version > tree.newest() {
         return false;
     }
     let mut steps = Steps::new();
-    tree.find(version, k, &mut steps).is_some() && steps.count() <= 36
+    tree.find(version, k, &mut steps).is_some() && (1..=36).contains(&steps.count())
+}
+
+/// Runs of 64 elements, each run before all others; the last two are one of their own.
+fn grow_longest(tree: &mut VersionTree) {
+    for n in 0..131_072u32 {
+        let before = if n % 64 == 0 || n == 131_070 {
+            None
+        } else {
+            n.checked_sub(1)
+        };
+        put(tree, before, (n % 1000) as u16, n % 3 == 0);
+    }
+}
+
+/// Whether a place of each version is found soon.
+fn finds_soon(tree: &VersionTree, dice: &mut Dice) -> bool {
+    let mut all = true;
+    for version in 1..131_073usize {
+        all &= is_found_soon(tree, version, dice.roll(version));
+    }
+    all
+}
+
+fn stays_within_its_bounds(tree: &mut VersionTree) -> bool {
+    grow_longest(tree);
+    let all = tree.newest() == 131_072 && tree.nodes() <= 5_242_880;
+    all && finds_soon(tree, &mut Dice::new(3))
 }
 
 #[test]
 fn the_longest_log_stays_within_its_bounds(rt: HostRuntime) -> Result<(), Fail> {
-    let mut tree = VersionTree::new(rt.alloc());
-    tree.reserve(131_072)?;
-    for n in 0..131_072u32 {
-        append(&mut tree, n % 64 == 0 || n == 131_070);
-    }
-    assert_eq!(rt; tree.newest(), 131_072);
-    assert!(rt; tree.nodes() <= 5_242_880);
-    let mut dice = Dice::new(3);
-    for version in 1..131_073u32 {
-        let place = dice.roll(version as usize);
-        assert!(rt; is_found_soon(&tree, version as usize, place));
-    }
+    assert!(rt; of_an_empty_one(rt.alloc(), 131_072, stays_within_its_bounds)?);
     Ok(())
 }

@@ -1,12 +1,11 @@
-//! A log of 2,000 operations of five sites beside the plain program of the definitions, at each of its versions. (Who
-//! asks borrows the documents, since what a function owns costs its proof at each step.)
+//! A log of 2,000 operations of five sites beside the plain program of the definitions, at each of its versions.
 use crate::dice::Dice;
 use crate::documents::checked::{
     edit_at, edit_units_at, element_at, integrate, len_at, next_op, op_at, unit_at, units_at,
 };
 use crate::documents::lives::Lives;
 use crate::plain::{Insertion, Plain, edit_of, edit_units_of};
-use causal_clock::Clock;
+use causal_clock::{Clock, Op};
 use opid::{OpKind, Refusal, Site, Stamp};
 use std::alloc::{AllocError, Global};
 use std::test::Fail;
@@ -82,20 +81,17 @@ fn step(
 }
 
 /// Fills the document, and the plain program beside it.
-fn fill(alloc: Global, doc: &mut Doc, plain: &mut Plain) -> Result<(), Refusal> {
+fn fill(alloc: Global, doc: &mut Doc, plain: &mut Plain, dice: &mut Dice) -> Result<(), Refusal> {
     let mut clocks = [Clock::zero(); 5];
-    let mut dice = Dice::new(1);
     for _ in 0..MANY {
-        step(alloc, doc, plain, &mut clocks, &mut dice)?;
+        step(alloc, doc, plain, &mut clocks, dice)?;
     }
     Ok(())
 }
 
-/// The document of the operations.
-fn long(alloc: Global) -> Result<Doc, Refusal> {
-    let mut doc = Doc::new(alloc);
-    fill(alloc, &mut doc, &mut Plain::new(alloc)?)?;
-    Ok(doc)
+/// Fills the document.
+fn fill_alone(alloc: Global, doc: &mut Doc) -> Result<(), Refusal> {
+    fill(alloc, doc, &mut Plain::new(alloc), &mut Dice::new(1))
 }
 
 /// Whether the text is that of these elements.
@@ -156,64 +152,92 @@ fn has_units(
     Ok(true)
 }
 
-/// Whether the operation made the edit and the version that the plain program has after it; and what that one shows.
+/// Whether the operation made the edit between what was visible before it and what is visible after it, in either count.
+fn made(doc: &Doc, version: u32, op: &Op, before: &[Insertion], after: &[Insertion]) -> bool {
+    let edit = edit_of(op.stamp(), op.kind(), before, after);
+    let edit_units = edit_units_of(op.stamp(), op.kind(), before, after);
+    edit_at(doc, version) == Some(edit) && edit_units_at(doc, version) == Some(edit_units)
+}
+
+/// Whether the version shows these elements, in either count.
+fn shows_in_both(
+    alloc: Global,
+    doc: &Doc,
+    version: u32,
+    visible: &[Insertion],
+    dice: &mut Dice,
+) -> Result<bool, Refusal> {
+    let all = shows(doc, version, visible, dice)?;
+    Ok(has_units(alloc, doc, version, visible, dice)? && all)
+}
+
+/// Whether the operation behind the version made the edit and the version that the plain program has after it, which is then
+/// shown.
 fn is_next(
     alloc: Global,
     doc: &Doc,
     plain: &mut Plain,
     version: u32,
-    before: &[Insertion],
+    shown: &mut Vec<Insertion>,
     dice: &mut Dice,
-) -> Result<(bool, Vec<Insertion>), Fail> {
-    let op = op_at(doc, version).ok_or("operation")?;
+) -> Result<bool, Refusal> {
+    let op = op_at(doc, version).ok_or(Refusal::BadVersion)?;
     plain.add(alloc, op.stamp(), op.kind())?;
-    let after = plain.visible(alloc)?;
     let next = version.saturating_add(1);
-    let edit = edit_of(op.stamp(), op.kind(), before, &after);
-    let edit_units = edit_units_of(op.stamp(), op.kind(), before, &after);
-    let all = edit_at(doc, next) == Some(edit)
-        && edit_units_at(doc, next) == Some(edit_units)
-        && shows(doc, next, &after, dice)?
-        && has_units(alloc, doc, next, &after, dice)?;
-    Ok((all, after))
+    let after = plain.visible(alloc)?;
+    let all = made(doc, next, &op, shown, &after);
+    *shown = after;
+    Ok(shows_in_both(alloc, doc, next, shown, dice)? && all)
 }
 
 /// Whether each version is what the plain program has, and the last of them is long.
-fn is_as_defined(alloc: Global, doc: &Doc, plain: &mut Plain) -> Result<bool, Fail> {
-    let mut dice = Dice::new(2);
-    let mut before = plain.visible(alloc)?;
+fn is_as_defined(
+    alloc: Global,
+    doc: &Doc,
+    plain: &mut Plain,
+    shown: &mut Vec<Insertion>,
+    dice: &mut Dice,
+) -> Result<bool, Refusal> {
     let mut all = true;
     for version in 0..MANY {
-        let (here, after) = is_next(alloc, doc, plain, version, &before, &mut dice)?;
-        all &= here;
-        before = after;
+        all &= is_next(alloc, doc, plain, version, shown, dice)?;
     }
-    Ok(all && before.len() > 500)
+    Ok(all && shown.len() > 500)
+}
+
+fn is_as_the_plain_program(alloc: Global, doc: &Doc) -> Result<bool, Refusal> {
+    let (mut plain, mut shown) = (Plain::new(alloc), Vec::new(alloc));
+    is_as_defined(alloc, doc, &mut plain, &mut shown, &mut Dice::new(2))
+}
+
+fn a_long_one_is_as_defined(alloc: Global, doc: &mut Doc) -> Result<bool, Refusal> {
+    fill_alone(alloc, doc)?;
+    is_as_the_plain_program(alloc, doc)
+}
+
+fn each_is_as_defined(alloc: Global) -> Result<bool, Refusal> {
+    a_long_one_is_as_defined(alloc, &mut Doc::new(alloc))
 }
 
 #[test]
 fn each_version_is_as_defined(rt: HostRuntime) -> Result<(), Fail> {
-    let doc = long(rt.alloc())?;
-    assert!(rt; is_as_defined(rt.alloc(), &doc, &mut Plain::new(rt.alloc())?)?);
+    assert!(rt; each_is_as_defined(rt.alloc())?);
     Ok(())
 }
 
 /// Puts the log into the plain program and into the elements' lives, in the one order.
-fn live(alloc: Global, doc: &Doc, plain: &mut Plain, lives: &mut Lives) -> Result<(), Fail> {
+fn live(alloc: Global, doc: &Doc, plain: &mut Plain, lives: &mut Lives) -> Result<(), Refusal> {
     for version in 0..MANY {
-        let op = op_at(doc, version).ok_or("operation")?;
+        let op = op_at(doc, version).ok_or(Refusal::BadVersion)?;
         plain.add(alloc, op.stamp(), op.kind())?;
         lives.add(&op, version.saturating_add(1))?;
     }
-    lives.order(alloc, plain)?;
-    Ok(())
+    Ok(lives.order(alloc, plain)?)
 }
 
-/// The lives of the log's elements.
-fn lives_of(alloc: Global, doc: &Doc) -> Result<Lives, Fail> {
-    let mut lives = Lives::new(alloc);
-    live(alloc, doc, &mut Plain::new(alloc)?, &mut lives)?;
-    Ok(lives)
+/// Puts the log into the elements' lives.
+fn live_alone(alloc: Global, doc: &Doc, lives: &mut Lives) -> Result<(), Refusal> {
+    live(alloc, doc, &mut Plain::new(alloc), lives)
 }
 
 /// Whether the version has these elements, each at its place, and none behind them.
@@ -226,19 +250,32 @@ fn has_elements(doc: &Doc, version: u32, stamps: &[Stamp]) -> bool {
     element_at(doc, version, stamps.len()).is_none()
 }
 
-/// Whether each version has the elements that a scan of the lives finds.
-fn are_found(alloc: Global, doc: &Doc, lives: &Lives) -> Result<bool, Fail> {
+/// Whether the version has the elements that a scan of the lives finds.
+fn is_found(alloc: Global, doc: &Doc, lives: &Lives, version: u32) -> Result<bool, AllocError> {
+    Ok(has_elements(doc, version, &lives.visible(alloc, version)?))
+}
+
+/// Whether each version of a long document has the elements that a scan of the lives finds.
+fn each_of_a_long_one_is_found(
+    alloc: Global,
+    doc: &mut Doc,
+    lives: &mut Lives,
+) -> Result<bool, Refusal> {
+    fill_alone(alloc, doc)?;
+    live_alone(alloc, doc, lives)?;
     let mut all = true;
     for version in 0..MANY + 1 {
-        all &= has_elements(doc, version, &lives.visible(alloc, version)?);
+        all &= is_found(alloc, doc, lives, version)?;
     }
     Ok(all)
 }
 
+fn each_is_found(alloc: Global) -> Result<bool, Refusal> {
+    each_of_a_long_one_is_found(alloc, &mut Doc::new(alloc), &mut Lives::new(alloc))
+}
+
 #[test]
 fn each_place_of_each_version_is_found_as_by_a_scan(rt: HostRuntime) -> Result<(), Fail> {
-    let doc = long(rt.alloc())?;
-    let lives = lives_of(rt.alloc(), &doc)?;
-    assert!(rt; are_found(rt.alloc(), &doc, &lives)?);
+    assert!(rt; each_is_found(rt.alloc())?);
     Ok(())
 }
