@@ -1,24 +1,35 @@
-//! Runs as JSON shows them.
-ghost use Rattle.std.specs.Prelude.{◌<◌};
+//! Lists of operations, packed into runs as a reply tells them, and read back as a request hands them over.
+ghost use Rattle.std.specs.Prelude.{◌<◌, ◌≤◌};
 
-use crate::operation_objects::{ops_of, packed};
 use causal_clock::{Clock, MAX_SUM, Op};
-use library_tests::dice::Dice;
 use opid::{OpKind, Refusal, Site, Stamp};
+use room::{Call, Operations, Reply};
 use std::alloc::Global;
 use std::ops::Range;
 use std::test::Fail;
+use wire_json::{read_request, write_reply};
 
-const ABC: &str = "[{\"c\":[[1,1]],\"k\":\"r\",\"p\":null,\"s\":1,\"x\":\"abc\"}]";
+// The list of operations, packed, as a reply tells it.
+fn packed(alloc: Global, ops: &[Op]) -> Result<String, Refusal> {
+    let ops = Operations::new(ops.to_vec(alloc)?);
+    let reply = write_reply(alloc, &Reply::Ops { from: 0, ops })?;
+    let list = reply
+        .as_str()
+        .strip_prefix("{\"from\":0,\"ops\":")
+        .and_then(|rest| rest.strip_suffix(",\"r\":\"ops\"}"));
+    match list {
+        Some(list) => Ok(String::from_str(alloc, list)?),
+        None => Err(Refusal::BadJson),
+    }
+}
 
-const A_B_C: &str =
-    "[{\"c\":[[1,1]],\"k\":\"i\",\"p\":null,\"s\":1,\"x\":\"a\"},{\"c\":[[1,2]],\"k\":\"i\",\"p\":[1,1],\"s\":1,\"x\":\"b\"},\
-    {\"c\":[[1,3]],\"k\":\"i\",\"p\":[2,1],\"s\":1,\"x\":\"c\"}]";
-
-// The text of the operations that a text tells, packed.
-fn packed_again(alloc: Global, text: &str) -> Result<String, Refusal> {
-    let ops = ops_of(alloc, text)?;
-    packed(alloc, ops.as_slice())
+// The operations that a list tells, as a request hands them over.
+fn ops_of(alloc: Global, list: &str) -> Result<Vec<Op>, Refusal> {
+    let request = format!(in alloc; "{{\"ops\":{list},\"t\":\"put\"}}")?;
+    match read_request(alloc, request.as_bytes())? {
+        Call::Put(ops) => Ok(ops.into_vec()),
+        _ => Err(Refusal::UnknownKind),
+    }
 }
 
 // Whether operations are those that their packed text tells.
@@ -36,47 +47,56 @@ fn raised(clock: &Clock, site: Site) -> Result<Clock, Refusal> {
     Ok(clock.raised(site))
 }
 
-// One operation more, with this clock, and its stamp.
-fn push(ops: &mut Vec<Op>, site: Site, clock: Clock, kind: OpKind) -> Result<Stamp, Refusal> {
-    let op = Op::new(site, clock, kind)?;
-    ops.push(op)?;
-    Ok(op.stamp())
+// How many elements the operations put in, of which five stand before the last of six.
+fn elements(ops: &[Op]) -> usize
+    ensures { result ≤ 5 }
+{
+    let mut count: usize = 0;
+    for op in ops {
+        if matches!(op.kind(), OpKind::Ins { .. }) {
+            count = count.wrapping_add(1);
+        }
+    }
+    count.min(5)
 }
 
-// One operation more, of a site that knows all before it, and its stamp.
-fn grow(ops: &mut Vec<Op>, site: Site, kind: OpKind) -> Result<Stamp, Refusal> {
-    let known = match ops.last() {
-        Some(op) => op.clock(),
-        None => Clock::zero(),
+// The element that was put in after so many.
+fn element(ops: &[Op], before: usize) -> Option<Stamp> {
+    let mut left = before;
+    for op in ops {
+        if matches!(op.kind(), OpKind::Ins { .. }) {
+            if left == 0 {
+                return Some(op.stamp());
+            }
+            left -= 1;
+        }
+    }
+    None
+}
+
+// One of all insertions and deletions over the elements of these operations: 0 is an insertion at the head, then come those behind
+// an element, and then the deletions.
+fn kind_of(what: usize, ops: &[Op], ch: char) -> OpKind {
+    let parents = elements(ops) + 1;
+    if what >= parents {
+        if let Some(target) = element(ops, what - parents) {
+            return OpKind::Del { target };
+        }
+    }
+    let parent = match what.checked_sub(1) {
+        Some(before) => element(ops, before),
+        None => None,
     };
-    push(ops, site, raised(&known, site)?, kind)
+    OpKind::Ins { parent, ch }
 }
 
-// One of all insertions and deletions over these elements: 0 is an insertion at the head, then come those behind an element,
-// and then the deletions.
-fn kind_of(what: usize, elements: &[Stamp], ch: char) -> OpKind {
-    if what == 0 {
-        return OpKind::Ins { parent: None, ch };
-    }
-    match elements.get(what - 1) {
-        Some(parent) => OpKind::Ins {
-            parent: Some(*parent),
-            ch,
-        },
-        None => match elements.get(what - 1 - elements.len()) {
-            Some(target) => OpKind::Del { target: *target },
-            None => OpKind::Ins { parent: None, ch },
-        },
-    }
-}
-
-// One of all insertions of an a or a b and deletions over these elements: first come the insertions, an a and a b of each.
-fn lettered(what: usize, elements: &[Stamp]) -> OpKind {
-    let parents = elements.len() + 1;
+// One of all insertions of an a or a b and deletions over these: first come the insertions, an a and a b of each.
+fn lettered(what: usize, ops: &[Op]) -> OpKind {
+    let parents = elements(ops) + 1;
     if what >= parents + parents {
-        return kind_of(what - parents, elements, 'a');
+        return kind_of(what - parents, ops, 'a');
     }
-    kind_of(what / 2, elements, if what % 2 == 0 { 'a' } else { 'b' })
+    kind_of(what / 2, ops, if what % 2 == 0 { 'a' } else { 'b' })
 }
 
 // In what the operations of logs differ besides their sites and kinds.
@@ -88,55 +108,52 @@ enum Also {
     Knowledge,
 }
 
-// The lowest binary digit of a number, which is taken off it.
-fn take_digit(left: &mut usize) -> usize
-    ensures { result < 2 }
+// The lowest digit of a number, over so many digits, which is taken off it.
+fn take_digit(left: &mut usize, digits: usize) -> usize
+    requires { 0 < digits }
+    ensures { result < digits }
 {
-    let digit = *left % 2;
-    *left /= 2;
+    let digit = *left % digits;
+    *left /= digits;
     digit
 }
 
 // The log that a number's digits tell. Each says whose the next operation is, in what else it differs, and which it is of all
 // insertions and deletions over the elements so far, whether it knows them or not.
 fn log_of(alloc: Global, number: usize, length: usize, also: Also) -> Result<Vec<Op>, Refusal> {
-    let mut ops = Vec::new(alloc);
-    let mut elements: Vec<Stamp> = Vec::new(alloc);
+    let mut ops: Vec<Op> = Vec::new(alloc);
     let mut all = Clock::zero();
     let mut own = [Clock::zero(); 2];
     let mut left = number;
     for _ in 0..length {
-        let place = take_digit(&mut left);
-        let site = Site::new(place as u8)?;
-        let is_apart = also == Also::Knowledge && take_digit(&mut left) == 1;
-        let targets = elements.len().min(5); // that many stand before the last of six
+        let place = take_digit(&mut left, 2);
+        let is_apart = also == Also::Knowledge && take_digit(&mut left, 2) == 1;
+        let named = elements(ops.as_slice());
         let kind = if also == Also::Letters {
-            let choices = targets + targets + targets + 2;
-            let what = left % choices;
-            left /= choices;
-            lettered(what, elements.as_slice())
+            lettered(
+                take_digit(&mut left, named + named + named + 2),
+                ops.as_slice(),
+            )
         } else {
-            let choices = targets + targets + 1;
-            let what = left % choices;
-            left /= choices;
-            kind_of(what, elements.as_slice(), 'a')
+            kind_of(
+                take_digit(&mut left, named + named + 1),
+                ops.as_slice(),
+                'a',
+            )
         };
+        let site = Site::new(place as u8)?;
         let known = if is_apart { own[place] } else { all };
         let clock = raised(&known, site)?;
-        let stamp = push(&mut ops, site, clock, kind)?;
+        ops.push(Op::new(site, clock, kind)?)?;
         own[place] = clock;
         all = raised(&all, site)?;
-        match &kind {
-            OpKind::Ins { parent: _, ch: _ } => elements.push(stamp)?,
-            OpKind::Del { target: _ } => {}
-        }
     }
     Ok(ops)
 }
 
 // Whether each of so many logs of a length is read back, from the one with this number on. The first operation is site 0's
 // insertion of an a: the other site and letter have the same logs, and it has nothing to know.
-fn logs_are_read_back(
+fn are_all_read_back(
     alloc: Global,
     length: usize,
     also: Also,
@@ -150,130 +167,10 @@ fn logs_are_read_back(
     Ok(all)
 }
 
-// A log of 2,000 operations of four sites, most of them typed behind the one before.
-fn random_log(alloc: Global) -> Result<Vec<Op>, Refusal> {
-    let mut ops: Vec<Op> = Vec::new(alloc);
-    let mut site = Site::new(0)?;
-    let mut dice = Dice::new(24);
-    for _ in 0..2_000 {
-        if dice.roll(40) == 0 {
-            site = Site::new(dice.roll(4) as u8)?;
-        }
-        let newest = ops.last().map(|op| op.stamp());
-        let kind = match (dice.roll(80), newest) {
-            (0, _) => OpKind::Ins {
-                parent: None,
-                ch: 'é',
-            },
-            (1, Some(target)) => OpKind::Del { target },
-            _ => OpKind::Ins {
-                parent: newest,
-                ch: 'é',
-            },
-        };
-        grow(&mut ops, site, kind)?;
-    }
-    Ok(ops)
-}
-
-#[test]
-fn a_run_is_its_insertions(rt: HostRuntime) -> Result<(), Fail> {
-    let alloc = rt.alloc();
-    let run = ops_of(alloc, ABC)?;
-    let each = ops_of(alloc, A_B_C)?;
-    assert!(rt; run.as_slice() == each.as_slice());
-    assert!(rt; packed_again(alloc, A_B_C)?.as_str() == ABC);
-    assert!(rt; packed_again(alloc, ABC)?.as_str() == ABC);
-    let rest = packed(alloc, each.as_slice().get(1..).unwrap_or(&[]))?;
-    let wanted = "[{\"c\":[[1,2]],\"k\":\"r\",\"p\":[1,1],\"s\":1,\"x\":\"bc\"}]";
-    assert!(rt; rest.as_str() == wanted);
-    let empty: [Op; 0] = [];
-    assert!(rt; packed(alloc, &empty)?.as_str() == "[]");
-    Ok(())
-}
-
-#[test]
-fn a_run_has_at_most_64_characters(rt: HostRuntime) -> Result<(), Fail> {
-    let alloc = rt.alloc();
-    let mut ops = Vec::new(alloc);
-    let mut parent = None;
-    for _ in 0..65 {
-        let typed = OpKind::Ins { parent, ch: 'a' };
-        parent = Some(grow(&mut ops, Site::new(0)?, typed)?);
-    }
-    let wanted =
-        "[{\"c\":[[0,1]],\"k\":\"r\",\"p\":null,\"s\":0,\"x\":\"aaaaaaaaaaaaaaaaaaaaaaaaaaaaaaaaaaaaaaaaaaaaaaaaaaaaaaaaaaaaaaaa\"},\
-        {\"c\":[[0,65]],\"k\":\"i\",\"p\":[64,0],\"s\":0,\"x\":\"a\"}]";
-    assert!(rt; packed(alloc, ops.as_slice())?.as_str() == wanted);
-    assert!(rt; packed_again(alloc, wanted)?.as_str() == wanted);
-    Ok(())
-}
-
-// Over a deletion, of two sites, behind another element, with a clock that counts another's operation, at the limit.
-#[test]
-fn what_does_not_follow_stands_apart(rt: HostRuntime) -> Result<(), Fail> {
-    let alloc = rt.alloc();
-    for text in [
-        "[{\"c\":[[0,1]],\"k\":\"i\",\"p\":null,\"s\":0,\"x\":\"a\"},{\"c\":[[0,2]],\"k\":\"d\",\"s\":0,\"t\":[1,0]},\
-        {\"c\":[[0,3]],\"k\":\"i\",\"p\":[1,0],\"s\":0,\"x\":\"b\"},{\"c\":[[0,4]],\"k\":\"d\",\"s\":0,\"t\":[3,0]}]",
-        "[{\"c\":[[0,1]],\"k\":\"i\",\"p\":null,\"s\":0,\"x\":\"a\"},{\"c\":[[0,1],[1,1]],\"k\":\"i\",\"p\":[1,0],\"s\":1,\"x\":\"b\"}]",
-        "[{\"c\":[[0,1]],\"k\":\"i\",\"p\":null,\"s\":0,\"x\":\"a\"},{\"c\":[[0,2]],\"k\":\"i\",\"p\":null,\"s\":0,\"x\":\"b\"}]",
-        "[{\"c\":[[0,1]],\"k\":\"i\",\"p\":null,\"s\":0,\"x\":\"a\"},{\"c\":[[0,2],[1,1]],\"k\":\"i\",\"p\":[1,0],\"s\":0,\"x\":\"b\"}]",
-        "[{\"c\":[[0,131072]],\"k\":\"i\",\"p\":null,\"s\":0,\"x\":\"a\"},{\"c\":[[0,1]],\"k\":\"i\",\"p\":[131072,0],\"s\":0,\"x\":\"b\"}]",
-    ] {
-        assert!(rt; packed_again(alloc, text)?.as_str() == text);
-    }
-    Ok(())
-}
-
-#[test]
-fn tells_what_is_wrong_with_a_run(rt: HostRuntime) -> Result<(), Fail> {
-    let alloc = rt.alloc();
-    for (text, fault) in [
-        (
-            "[{\"c\":[[1,1]],\"k\":\"r\",\"p\":null,\"s\":1,\"x\":\"\"}]",
-            Refusal::BadField,
-        ),
-        (
-            "[{\"c\":[[1,1]],\"k\":\"r\",\"p\":null,\"s\":1,\"x\":\"a\"}]",
-            Refusal::BadField,
-        ),
-        (
-            "[{\"c\":[[1,1]],\"k\":\"r\",\"p\":null,\"s\":1,\"x\":\"aaaaaaaaaaaaaaaaaaaaaaaaaaaaaaaaaaaaaaaaaaaaaaaaaaaaaaaaaaaaaaaaa\"}]",
-            Refusal::BadField,
-        ),
-        (
-            "[{\"c\":[[1,1]],\"k\":\"r\",\"s\":1,\"t\":[1,0],\"x\":\"ab\"}]",
-            Refusal::BadField,
-        ),
-        (
-            "[{\"c\":[[1,1]],\"k\":\"r\",\"p\":[1,32],\"s\":1,\"x\":\"ab\"}]",
-            Refusal::BadSite,
-        ),
-        (
-            "[{\"c\":[[2,1]],\"k\":\"r\",\"p\":null,\"s\":1,\"x\":\"ab\"}]",
-            Refusal::BadClock,
-        ),
-        (
-            "[{\"c\":[[1,131072]],\"k\":\"r\",\"p\":null,\"s\":1,\"x\":\"ab\"}]",
-            Refusal::BadClock,
-        ),
-        (
-            "[{\"c\":[[1,0]],\"k\":\"d\",\"s\":1,\"t\":[1,0]},{\"c\":[[1,1]],\"k\":\"r\",\"p\":null,\"s\":1,\"x\":\"a\"}]",
-            Refusal::BadField,
-        ),
-    ] {
-        assert_eq!(rt; ops_of(alloc, text).err(), Some(fault));
-    }
-    let last = "[{\"c\":[[1,131071]],\"k\":\"r\",\"p\":null,\"s\":1,\"x\":\"ab\"}]";
-    assert!(rt; packed_again(alloc, last)?.as_str() == last);
-    Ok(())
-}
-
 // Up to five operations with two letters.
 #[test]
 fn every_short_log_is_read_back(rt: HostRuntime) -> Result<(), Fail> {
-    let alloc = rt.alloc();
+    let mut all = true;
     for (length, logs) in [
         (1, 1),
         (2, 10),
@@ -281,8 +178,26 @@ fn every_short_log_is_read_back(rt: HostRuntime) -> Result<(), Fail> {
         (4, 10 * 16 * 22),
         (5, 10 * 16 * 22 * 28),
     ] {
-        assert!(rt; logs_are_read_back(alloc, length, Also::Letters, 0..logs)?);
+        all &= are_all_read_back(rt.alloc(), length, Also::Letters, 0..logs)?;
     }
+    assert!(rt; all);
+    Ok(())
+}
+
+// Up to five operations with one letter, where an operation may not know those of the other site before it.
+#[test]
+fn every_short_log_of_sites_apart_is_read_back(rt: HostRuntime) -> Result<(), Fail> {
+    let mut all = true;
+    for (length, logs) in [
+        (1, 1),
+        (2, 4 * 3),
+        (3, 4 * 3 * 4 * 5),
+        (4, 4 * 3 * 4 * 5 * 4 * 7),
+        (5, 4 * 3 * 4 * 5 * 4 * 7 * 4 * 9),
+    ] {
+        all &= are_all_read_back(rt.alloc(), length, Also::Knowledge, 0..logs)?;
+    }
+    assert!(rt; all);
     Ok(())
 }
 
@@ -291,7 +206,7 @@ fn logs_of_six_are_read_back(alloc: Global, part: u32) -> Result<bool, Refusal>
     requires { part < 8 }
 {
     let logs = 10 * 16 * 22 * 28 * 34 / 8;
-    logs_are_read_back(alloc, 6, Also::Letters, part * logs..part * logs + logs)
+    are_all_read_back(alloc, 6, Also::Letters, part * logs..part * logs + logs)
 }
 
 #[test]
@@ -339,34 +254,5 @@ fn every_log_of_six_seventh(rt: HostRuntime) -> Result<(), Fail> {
 #[test]
 fn every_log_of_six_eighth(rt: HostRuntime) -> Result<(), Fail> {
     assert!(rt; logs_of_six_are_read_back(rt.alloc(), 7)?);
-    Ok(())
-}
-
-// Up to five operations with one letter, where an operation may not know those of the other site before it.
-#[test]
-fn every_short_log_of_sites_apart_is_read_back(rt: HostRuntime) -> Result<(), Fail> {
-    let alloc = rt.alloc();
-    for (length, logs) in [
-        (1, 1),
-        (2, 4 * 3),
-        (3, 4 * 3 * 4 * 5),
-        (4, 4 * 3 * 4 * 5 * 4 * 7),
-        (5, 4 * 3 * 4 * 5 * 4 * 7 * 4 * 9),
-    ] {
-        assert!(rt; logs_are_read_back(alloc, length, Also::Knowledge, 0..logs)?);
-    }
-    Ok(())
-}
-
-#[test]
-fn a_long_log_is_read_back(rt: HostRuntime) -> Result<(), Fail> {
-    let alloc = rt.alloc();
-    let ops = random_log(alloc)?;
-    assert_eq!(rt; ops.len(), 2_000);
-    let mut all = true;
-    for put in ops.as_slice().chunks(64) {
-        all &= are_read_back(alloc, put)?;
-    }
-    assert!(rt; all);
     Ok(())
 }
