@@ -22,6 +22,3 @@ pub use lock::{Hold, Ticket, TicketLock, TryFault, Worn};
 pub use pass::{Pass, Sight, Stage};
 pub use plays::Served;
 pub use trailed::Trailed;
-
-#[cfg(test)]
-mod tests;

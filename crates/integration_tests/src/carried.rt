@@ -1,10 +1,10 @@
 //! Rooms that carry operations to each other, typed in meanwhile, and whether they have one order of elements then.
-ghost use Rattle.std.specs.Prelude.{◌≡◌, IfOk, IfSome};
+ghost use Rattle.std.specs.Prelude.{◌≡◌, IfSome};
 ghost use Rattle.std.specs.Thread.{IsSync};
 ghost use Rattle.shared_room.specs.Views.{IsPassOf};
 
 use crate::desks::insertion;
-use opid::Site;
+use crate::shared::{closed, shared};
 use replica_world::one_order;
 use room::{Call, DeskFault, Reply, Room};
 use shared_room::{Pass, PassDesk, SharedRoom};
@@ -14,12 +14,6 @@ use std::test::Fail;
 use std::thread::{Threads, join, sleep};
 use std::time::{Clock, Duration};
 use ws_server::carry;
-
-fn shared(alloc: Global, site: u8) -> Result<(SharedRoom, Pass), Fail>
-    ensures { IfOk result (λ r. IsPassOf r.0 r.1) }
-{
-    Ok(SharedRoom::new(alloc, Room::new(alloc, Site::new(site)?))?)
-}
 
 // How many characters each thread types.
 const TYPED: u32 = 99;
@@ -53,31 +47,22 @@ fn finds<R: Wait + Clock>(rt: &R, room: &SharedRoom, pass: &mut Pass, letter: &s
     false
 }
 
-// Types its letter in the session that has joined, each time at the beginning of version 0. After the first one it waits until
-// one of the other's was carried here, so that there is carrying while it types.
-fn types<R: Wait + Clock>(
+// Whether the session's `n`-th letter is accepted.
+fn types<R: Wait>(
     rt: &R,
     alloc: Global,
     room: &SharedRoom,
-    mut pass: Pass,
+    pass: &mut Pass,
+    n: u32,
     letter: &str,
-    other: &str,
 ) -> bool
-    requires { IsPassOf room.now pass }
+    requires { IsPassOf room.now pass.old }
+    ensures { IsPassOf room.now pass.new }
 {
-    let mut all = true;
-    for n in 1..TYPED + 1 {
-        match insertion(alloc, n, letter) {
-            Ok(typed) => {
-                all &= matches!(&room.call(rt, &mut pass, typed), Ok(Reply::Ok { .. }));
-            }
-            Err(_) => return false,
-        }
-        if n == 1 {
-            all &= finds(rt, room, &mut pass, other);
-        }
+    match insertion(alloc, n, letter) {
+        Ok(typed) => matches!(&room.call(rt, pass, typed), Ok(Reply::Ok { .. })),
+        Err(_) => false,
     }
-    all
 }
 
 // One carry over desks that are lent their passes.
@@ -112,37 +97,17 @@ fn carry_once<R: Wait>(
     carry_lent(&mut from, &mut to, after)
 }
 
-// Carries until all that both type was carried. A fault ends it.
-fn carry_all<R: Wait + Clock>(rt: &R, ends: &Ends<'_>, mut a: Pass, mut b: Pass) -> bool
-    requires { IsPassOf ends.now.from.now a × IsPassOf ends.now.to.now b }
-{
-    let mut after = 0;
-    for _ in 0..TURNS {
-        match carry_once(rt, ends, &mut a, &mut b, after) {
-            Ok(next) => after = next,
-            Err(_) => return false,
-        }
-        if after == 2 * TYPED {
-            return true;
-        }
-        sleep(rt, Duration::from_micros(10));
-    }
-    false
-}
-
-// Carries once more from the first operation on, until the number is that of all operations.
-fn carry_on<R: Wait>(rt: &R, ends: &Ends<'_>, a: &mut Pass, b: &mut Pass) -> bool
+// Whether all is carried that is there, from the first operation on.
+fn carry_all<R: Wait>(rt: &R, ends: &Ends<'_>, a: &mut Pass, b: &mut Pass) -> bool
     requires { IsPassOf ends.now.from.now a.old × IsPassOf ends.now.to.now b.old }
     ensures { IsPassOf ends.now.from.now a.new × IsPassOf ends.now.to.now b.new }
 {
     let mut after = 0;
     for _ in 0..2 * TYPED {
         match carry_once(rt, ends, a, b, after) {
+            Ok(next) if next == after => return true,
             Ok(next) => after = next,
             Err(_) => return false,
-        }
-        if after == 2 * TYPED {
-            return true;
         }
     }
     false
@@ -155,12 +120,13 @@ struct Pair {
     b: Pass,
 }
 
-// So many draws of each.
-fn pair_of(ends: &Ends<'_>, a: &mut Pass, b: &mut Pass, draws: u64) -> Option<Pair>
+// So many draws of each that a thread doesn't use them up.
+fn pair_of(ends: &Ends<'_>, a: &mut Pass, b: &mut Pass) -> Option<Pair>
     requires { IsPassOf ends.now.from.now a.old × IsPassOf ends.now.to.now b.old }
     ensures passes { IsPassOf ends.now.from.now a.new × IsPassOf ends.now.to.now b.new }
     ensures pair { IfSome result (λ p. IsPassOf ends.now.from.now p.a × IsPassOf ends.now.to.now p.b) }
 {
+    let draws = 2 * u64::from(TURNS);
     let Ok(one) = ends.from.split(a, draws) else {
         return None;
     };
@@ -170,89 +136,82 @@ fn pair_of(ends: &Ends<'_>, a: &mut Pass, b: &mut Pass, draws: u64) -> Option<Pa
     Some(Pair { a: one, b: other })
 }
 
-fn type_in_both<R: Threads + Wait + Clock + Sync>(
+// Types its letter in the session that has joined, each time at the beginning of version 0, and carries what is there. After
+// the first one it waits until one of the other's was carried here, so that there is carrying while it types.
+fn type_and_carry<R: Wait + Clock>(
     rt: &R,
     alloc: Global,
     ends: &Ends<'_>,
-    pair: Pair,
+    mut pair: Pair,
+    letter: &str,
+    other: &str,
 ) -> bool
     requires { IsPassOf ends.now.from.now pair.a × IsPassOf ends.now.to.now pair.b }
 {
-    let Pair { a, b } = pair;
-    let both = join(
-        rt,
-        || -> bool
-            requires { IsSync R.row × IsPassOf ends.now.from.now a }
-        { types(rt, alloc, ends.from, a, "a", "b") },
-        || -> bool
-            requires { IsSync R.row × IsPassOf ends.now.to.now b }
-        { types(rt, alloc, ends.to, b, "b", "a") },
-    );
-    both.0 && both.1
+    let mut after = 0;
+    let mut all = true;
+    for n in 1..TYPED + 1 {
+        all &= types(rt, alloc, ends.from, &mut pair.a, n, letter);
+        match carry_once(rt, ends, &mut pair.a, &mut pair.b, after) {
+            Ok(next) => after = next,
+            Err(_) => return false,
+        }
+        if n == 1 {
+            all &= finds(rt, ends.from, &mut pair.a, other);
+        }
+    }
+    all
 }
 
-fn carry_each_way<R: Threads + Wait + Clock + Sync>(
+// Two threads, each at its end.
+fn work_at_both<R: Threads + Wait + Clock + Sync>(
     rt: &R,
+    alloc: Global,
     ends: &Ends<'_>,
+    turned: &Ends<'_>,
     there: Pair,
     back: Pair,
 ) -> bool
     requires there { IsPassOf ends.now.from.now there.a × IsPassOf ends.now.to.now there.b }
-    requires back { IsPassOf ends.now.from.now back.a × IsPassOf ends.now.to.now back.b }
+    requires back { IsPassOf turned.now.from.now back.a × IsPassOf turned.now.to.now back.b }
 {
-    let turned = Ends {
-        from: ends.to,
-        to: ends.from,
-    };
     let both = join(
         rt,
         || -> bool
             requires { IsSync R.row × IsPassOf ends.now.from.now there.a × IsPassOf ends.now.to.now there.b }
-        { carry_all(rt, ends, there.a, there.b) },
+        { type_and_carry(rt, alloc, ends, there, "a", "b") },
         || -> bool
-            requires { IsSync R.row × IsPassOf turned.from.now back.b × IsPassOf turned.to.now back.a }
-        { carry_all(rt, &turned, back.b, back.a) },
+            requires { IsSync R.row × IsPassOf turned.now.from.now back.a × IsPassOf turned.now.to.now back.b }
+        { type_and_carry(rt, alloc, turned, back, "b", "a") },
     );
     both.0 && both.1
 }
 
-// A session joins each room. Then two threads type, and two carry meanwhile, each with so many draws of its own.
-fn work<R: Threads + Wait + Clock + Sync>(
+// A session joins each room. Then the threads work, and what they left is carried.
+fn come_together<R: Threads + Wait + Clock + Sync>(
     rt: &R,
     alloc: Global,
     ends: &Ends<'_>,
     a: &mut Pass,
     b: &mut Pass,
-    draws: u64,
 ) -> bool
     requires { IsPassOf ends.now.from.now a.old × IsPassOf ends.now.to.now b.old }
     ensures { IsPassOf ends.now.from.now a.new × IsPassOf ends.now.to.now b.new }
 {
-    if ends.from.call(rt, a, Call::Join { units: false }).is_err()
-        || ends.to.call(rt, b, Call::Join { units: false }).is_err()
-    {
-        return false;
-    }
-    let Some(typing) = pair_of(ends, a, b, draws) else {
+    let turned = Ends {
+        from: ends.to,
+        to: ends.from,
+    };
+    let mut all = ends.from.call(rt, a, Call::Join { units: false }).is_ok();
+    all &= ends.to.call(rt, b, Call::Join { units: false }).is_ok();
+    let Some(there) = pair_of(ends, a, b) else {
         return false;
     };
-    let Some(there) = pair_of(ends, a, b, draws) else {
+    let Some(back) = pair_of(&turned, b, a) else {
         return false;
     };
-    let Some(back) = pair_of(ends, a, b, draws) else {
-        return false;
-    };
-    let both = join(
-        rt,
-        || -> bool
-            requires { IsSync R.row × IsPassOf ends.now.from.now typing.a × IsPassOf ends.now.to.now typing.b }
-        { type_in_both(rt, alloc, ends, typing) },
-        || -> bool
-            requires there { IsSync R.row × IsPassOf ends.now.from.now there.a × IsPassOf ends.now.to.now there.b }
-            requires back { IsPassOf ends.now.from.now back.a × IsPassOf ends.now.to.now back.b }
-        { carry_each_way(rt, ends, there, back) },
-    );
-    both.0 && both.1
+    all &= work_at_both(rt, alloc, ends, &turned, there, back);
+    all && carry_all(rt, ends, a, b) && carry_all(rt, &turned, b, a)
 }
 
 fn count(text: &str, letter: char) -> usize {
@@ -271,32 +230,15 @@ fn read_the_same(one: &Room, other: &Room) -> Result<bool, Fail> {
     )
 }
 
-// Whether the rooms, closed, read the same and have one order of elements.
-fn closed_in_one_order(
-    alloc: Global,
-    one: SharedRoom,
-    other: SharedRoom,
-    a: Pass,
-    b: Pass,
-) -> Result<bool, Fail>
-    requires { IsPassOf one a × IsPassOf other b }
-{
-    if a.left() == 0 || b.left() == 0 {
-        return Err(Fail::from("draws"));
-    }
-    let Ok(one) = one.close(a) else {
-        return Err(Fail::from("closed"));
-    };
-    let Ok(other) = other.close(b) else {
-        return Err(Fail::from("closed"));
-    };
-    Ok(read_the_same(&one, &other)? && have_one_order(alloc, one, other)?)
-}
-
 // Whether these two rooms have one order of elements.
 pub(crate) fn have_one_order(alloc: Global, one: Room, other: Room) -> Result<bool, Fail> {
     let rooms = vec![in alloc; one, other]?;
     Ok(one_order(&rooms))
+}
+
+// Whether these two rooms read the same and have one order of elements.
+fn agree(alloc: Global, one: Room, other: Room) -> Result<bool, Fail> {
+    Ok(read_the_same(&one, &other)? && have_one_order(alloc, one, other)?)
 }
 
 #[test]
@@ -308,13 +250,11 @@ fn rooms_that_are_typed_in_come_to_one_order(rt: HostRuntime) -> Result<(), Fail
         from: &one,
         to: &other,
     };
-    assert!(rt; work(&rt, alloc, &ends, &mut a, &mut b, 2 * u64::from(TURNS)));
-    assert!(rt; carry_on(&rt, &ends, &mut a, &mut b));
-    let turned = Ends {
-        from: &other,
-        to: &one,
+    let all = come_together(&rt, alloc, &ends, &mut a, &mut b);
+    let (Some(one), Some(other)) = (closed(one, a), closed(other, b)) else {
+        return Err(Fail::from("closed"));
     };
-    assert!(rt; carry_on(&rt, &turned, &mut b, &mut a));
-    assert!(rt; closed_in_one_order(alloc, one, other, a, b)?);
+    let is_one = agree(alloc, one, other)?;
+    assert!(rt; all && is_one);
     Ok(())
 }

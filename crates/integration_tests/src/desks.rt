@@ -1,6 +1,6 @@
-//! Two rooms of two sites that carry operations to each other, each over a desk of its own.
+//! Two rooms, of which the one carries operations to the other, each over a desk of its own.
 use opid::Site;
-use room::{Call, Characters, Desk, DeskFault, Reply, Room, RoomDesk};
+use room::{Call, Characters, Desk, Reply, Room, RoomDesk};
 use std::alloc::{AllocError, Global};
 use std::test::Fail;
 use ws_server::carry;
@@ -21,13 +21,10 @@ pub(crate) fn insertion(alloc: Global, n: u32, text: &str) -> Result<Call, Alloc
     })
 }
 
-fn is_accepted(answer: &Result<Reply, DeskFault>) -> bool {
-    matches!(answer, Ok(Reply::Ok { .. }))
-}
-
-fn types(alloc: Global, desk: &mut RoomDesk, n: u32, text: &str) -> bool {
+// Whether the `n`-th submission is accepted.
+pub(crate) fn types(alloc: Global, desk: &mut RoomDesk, n: u32, text: &str) -> bool {
     match insertion(alloc, n, text) {
-        Ok(typed) => is_accepted(&desk.call(typed)),
+        Ok(typed) => matches!(&desk.call(typed), Ok(Reply::Ok { .. })),
         Err(_) => false,
     }
 }
@@ -44,53 +41,25 @@ fn reads(desk: &mut RoomDesk, want: &str) -> bool {
     }
 }
 
-fn carry_each_way(alloc: Global, a: &mut RoomDesk, b: &mut RoomDesk, want: &str) -> bool {
-    let mut all = begins(alloc, a, "a") && begins(alloc, b, "b");
-    all &= carry(a, b, 0) == Ok(1);
-    all &= carry(b, a, 0) == Ok(2);
-    all && reads(a, want) && reads(b, want)
-}
-
-// Two rooms of these sites, of which the first is carried from first.
-fn rooms_carry(alloc: Global, first: u8, second: u8, want: &str) -> Result<bool, Fail> {
-    let mut a = desk_of(alloc, first)?;
-    let mut b = desk_of(alloc, second)?;
-    Ok(carry_each_way(alloc, &mut a, &mut b, want))
-}
-
-#[test]
-fn two_rooms_carry_to_each_other(rt: HostRuntime) -> Result<(), Fail> {
-    let mut all = rooms_carry(rt.alloc(), 0, 1, "ba")?;
-    all &= rooms_carry(rt.alloc(), 1, 0, "ab")?;
-    assert!(rt; all);
-    Ok(())
-}
-
 // 64 characters, and 6 more before them.
-const MANY: &str = "cccccccccccccccccccccccccccccccccccccccccccccccccccccccccccccccc";
+pub(crate) const MANY: &str = "cccccccccccccccccccccccccccccccccccccccccccccccccccccccccccccccc";
 
 const MORE: &str = "dddddd";
 
 const ALL: &str = "ddddddcccccccccccccccccccccccccccccccccccccccccccccccccccccccccccccccc";
 
-fn carry_seventy(alloc: Global, a: &mut RoomDesk, b: &mut RoomDesk) -> bool {
-    let mut all = begins(alloc, a, MANY) && types(alloc, a, 2, MORE);
+fn carry_seventy(alloc: Global, from: &mut RoomDesk, to: &mut RoomDesk) -> bool {
+    let mut all = begins(alloc, from, MANY) && types(alloc, from, 2, MORE);
     for (after, next) in [(0, 64), (64, 70), (70, 70), (71, 71)] {
-        all &= carry(a, b, after) == Ok(next);
+        all &= carry(from, to, after) == Ok(next);
     }
-    all && reads(b, ALL)
-}
-
-fn rooms_carry_seventy(alloc: Global, first: u8, second: u8) -> Result<bool, Fail> {
-    let mut a = desk_of(alloc, first)?;
-    let mut b = desk_of(alloc, second)?;
-    Ok(carry_seventy(alloc, &mut a, &mut b))
+    all && reads(to, ALL)
 }
 
 #[test]
 fn a_carry_takes_at_most_64(rt: HostRuntime) -> Result<(), Fail> {
-    let mut all = rooms_carry_seventy(rt.alloc(), 0, 1)?;
-    all &= rooms_carry_seventy(rt.alloc(), 1, 0)?;
-    assert!(rt; all);
+    let mut from = desk_of(rt.alloc(), 0)?;
+    let mut to = desk_of(rt.alloc(), 1)?;
+    assert!(rt; carry_seventy(rt.alloc(), &mut from, &mut to));
     Ok(())
 }

@@ -1,11 +1,9 @@
-//! Tests of the line engine, of the server and of rooms that carry to each other, over public calls of several crates. They stand
-//! apart from those crates, which would be proved once more for tests of their own.
+//! Tests of the line engine, of the server, of the lock and of rooms that carry to each other, over public calls of several
+//! crates. They stand apart from those crates, which would be proved once more for tests of their own.
 #![tactic(auto)]
 
 #[cfg(test)]
 mod carried;
-#[cfg(test)]
-mod clients;
 #[cfg(test)]
 mod desks;
 #[cfg(test)]
@@ -17,8 +15,10 @@ mod halls;
 #[cfg(test)]
 mod lines;
 #[cfg(test)]
+mod locks;
+#[cfg(test)]
 mod memory;
 #[cfg(test)]
-mod passes;
+mod shared;
 #[cfg(test)]
 mod streams;

@@ -1,6 +1,6 @@
 //! The engine over a room, and over readers and writers that give little at a time, or fail.
-use opid::Site;
-use room::{Room, RoomDesk};
+use crate::desks::{MANY, begins, desk_of, types};
+use room::RoomDesk;
 use std::alloc::Global;
 use std::cell::Cell;
 use std::io::{Error, ErrorKind, Read, Result, Write};
@@ -9,7 +9,7 @@ use ws_server::{Counted, ServeFault, serve_lines};
 
 // Gives at most `step` bytes a read, counts the reads, and fails at the read number `fails_at`, from 1 on.
 #[derive(Drop)]
-pub(crate) struct Slow<'a> {
+struct Slow<'a> {
     bytes: &'a [u8],
     step: usize,
     reads: usize,
@@ -30,31 +30,30 @@ impl Read for Slow<'_> {
     }
 }
 
-// Takes at most `step` bytes a write, counts the writes, and from the write number `fails_at` on takes none, or fails.
+// Takes at most `step` bytes a write, of what it wants alone, and counts the writes. From the write number `fails_at` on it
+// takes none, or fails.
 #[derive(Drop)]
-pub(crate) struct Short {
-    pub(crate) taken: Vec<u8>,
+struct Short<'a> {
+    wanted: &'a [u8],
     step: usize,
     writes: usize,
     fails_at: usize,
     tells: bool,
 }
 
-impl Write for Short {
+impl Write for Short<'_> {
     fn write(&mut self, buf: &[u8]) -> Result<usize> {
         self.writes = self.writes.saturating_add(1);
-        if self.writes >= self.fails_at {
-            return if self.tells {
-                Err(Error::from(ErrorKind::Other))
-            } else {
-                Ok(0)
-            };
+        if self.writes >= self.fails_at && !self.tells {
+            return Ok(0);
         }
         let n = buf.len().min(self.step);
-        match self.taken.extend_from_slice(&buf[..n]) {
-            Ok(()) => Ok(n),
-            Err(_) => Err(Error::from(ErrorKind::OutOfMemory)),
+        let (now, later) = self.wanted.split_at(n.min(self.wanted.len()));
+        if self.writes >= self.fails_at || now != &buf[..n] {
+            return Err(Error::from(ErrorKind::Other));
         }
+        self.wanted = later;
+        Ok(n)
     }
 
     fn flush(&mut self) -> Result<()> {
@@ -62,27 +61,18 @@ impl Write for Short {
     }
 }
 
-#[derive(Drop)]
-struct Told<'a> {
-    end: std::result::Result<(), ServeFault>,
-    reader: Slow<'a>,
-    writer: Short,
-    // How many reads and writes failed, as they were counted.
-    failed: (u64, u64),
-}
-
-pub(crate) fn slow_reader(bytes: &[u8], step: usize) -> Slow<'_> {
+fn slow_reader(bytes: &[u8], step: usize, fails_at: usize) -> Slow<'_> {
     Slow {
         bytes,
         step,
         reads: 0,
-        fails_at: 0,
+        fails_at,
     }
 }
 
-pub(crate) fn short_writer(alloc: Global, step: usize) -> Short {
+fn short_writer(wanted: &[u8], step: usize) -> Short<'_> {
     Short {
-        taken: Vec::new(alloc),
+        wanted,
         step,
         writes: 0,
         fails_at: usize::MAX,
@@ -90,21 +80,31 @@ pub(crate) fn short_writer(alloc: Global, step: usize) -> Short {
     }
 }
 
-fn empty_desk(alloc: Global) -> std::result::Result<RoomDesk, Fail> {
-    Ok(RoomDesk::new(Room::new(alloc, Site::new(0)?)))
+// How a run went: its end, how often it read and wrote, how many of these calls failed, as they were counted, and how many
+// bytes are still wanted.
+#[derive(Clone, Copy, PartialEq, Eq)]
+struct Course {
+    end: std::result::Result<(), ServeFault>,
+    reads: usize,
+    writes: usize,
+    failed: (u64, u64),
+    left: usize,
 }
 
-fn run(alloc: Global, reader: Slow<'_>, writer: Short) -> std::result::Result<Told<'_>, Fail> {
-    let mut desk = empty_desk(alloc)?;
+fn run(alloc: Global, reader: Slow<'_>, writer: Short<'_>) -> std::result::Result<Course, Fail> {
+    let mut desk = desk_of(alloc, 0)?;
     let mut input = Counted::new(reader);
     let mut output = Counted::new(writer);
     let end = serve_lines(alloc, &mut desk, &mut input, &mut output);
     let failed = (input.failures(), output.failures());
-    Ok(Told {
+    let reader = input.into_inner();
+    let writer = output.into_inner();
+    Ok(Course {
         end,
-        reader: input.into_inner(),
-        writer: output.into_inner(),
+        reads: reader.reads,
+        writes: writer.writes,
         failed,
+        left: writer.wanted.len(),
     })
 }
 
@@ -116,16 +116,16 @@ fn is_answered(
     want: &[u8],
     writes: usize,
 ) -> std::result::Result<bool, Fail> {
-    let told = run(
+    let course = run(
         alloc,
-        slow_reader(input, step),
-        short_writer(alloc, usize::MAX),
+        slow_reader(input, step, 0),
+        short_writer(want, usize::MAX),
     )?;
     Ok(
-        told.end == Ok(())
-            && told.writer.taken.as_slice() == want
-            && told.writer.writes == writes
-            && told.failed == (0, 0),
+        course.end == Ok(())
+            && course.writes == writes
+            && course.failed == (0, 0)
+            && course.left == 0,
     )
 }
 
@@ -134,200 +134,118 @@ const JOINS: &[u8] = b"{\"t\":\"join\"}\n{\"t\":\"join\"}\n{\"t\":\"join\"}\n";
 const JOINED: &[u8] =
     b"{\"r\":\"joined\",\"s\":1,\"v\":0,\"x\":\"\"}\n{\"r\":\"joined\",\"s\":2,\"v\":0,\"x\":\"\"}\n{\"r\":\"joined\",\"s\":3,\"v\":0,\"x\":\"\"}\n";
 
-// The bytes of one of these answers.
-const ONE: usize = 34;
+// The bytes of one of the three requests, and of one of the three answers.
+const REQUEST: usize = 13;
 
-const TOO_LONG: &[u8] = b"{\"n\":29,\"r\":\"no\"}\n";
+const ANSWER: usize = 34;
 
 #[test]
 fn serves_each_line(rt: HostRuntime) -> std::result::Result<(), Fail> {
     let input = b"{\"t\":\"join\"}\n\n{\"t\":\"dance\"}\r\n[]\n{\"t\":\"read\"}";
     let want =
         b"{\"r\":\"joined\",\"s\":1,\"v\":0,\"x\":\"\"}\n{\"n\":1,\"r\":\"no\"}\n{\"n\":3,\"r\":\"no\"}\n{\"n\":2,\"r\":\"no\"}\n{\"r\":\"text\",\"v\":0,\"x\":\"\"}\n";
-    let mut all = true;
+    let mut all = is_answered(rt.alloc(), b"", 100, b"", 0)?;
     for step in [1, 3, 100] {
         all &= is_answered(rt.alloc(), input, step, want, 5)?;
     }
-    all &= is_answered(rt.alloc(), b"", 100, b"", 0)?;
     assert!(rt; all);
     Ok(())
 }
 
-#[test]
-fn reads_in_blocks(rt: HostRuntime) -> std::result::Result<(), Fail> {
-    let mut input = Vec::new(rt.alloc());
-    for _ in 0..3000 {
-        input.extend_from_slice(b"[]\n")?;
-    }
-    let told = run(
-        rt.alloc(),
-        slow_reader(&input, 1_000_000),
-        short_writer(rt.alloc(), 1000),
-    )?;
-    assert!(rt; told.end == Ok(()) && told.reader.reads == 2 && told.writer.writes == 3000);
-    Ok(())
-}
-
-// A request after spaces, which is `size` bytes long without its LF, is answered as is told, and so is the next line.
-fn is_told(alloc: Global, size: usize, first: &[u8]) -> std::result::Result<bool, Fail> {
-    let read = b"{\"t\":\"read\"}\n";
-    let mut input = vec![in alloc; b' '; size.saturating_sub(12)]?;
-    input.extend_from_slice(read)?;
-    input.extend_from_slice(read)?;
-    let mut want = first.to_vec(alloc)?;
-    want.extend_from_slice(b"{\"r\":\"text\",\"v\":0,\"x\":\"\"}\n")?;
-    is_answered(alloc, &input, 1_000_000, &want, 2)
-}
-
-#[test]
-fn skips_a_long_line(rt: HostRuntime) -> std::result::Result<(), Fail> {
-    let mut all = is_told(rt.alloc(), 65_536, b"{\"r\":\"text\",\"v\":0,\"x\":\"\"}\n")?;
-    for size in [65_537, 65_600, 65_601, 131_136, 300_000] {
-        all &= is_told(rt.alloc(), size, TOO_LONG)?;
-    }
-    let spaces = vec![in rt.alloc(); b' '; 70_000]?;
-    all &= is_answered(rt.alloc(), &spaces, 1000, TOO_LONG, 1)?;
-    assert!(rt; all);
-    Ok(())
-}
-
-#[test]
-fn tells_a_read_fault(rt: HostRuntime) -> std::result::Result<(), Fail> {
-    // The second read fails, in the middle of the second line.
-    let reader = Slow {
-        bytes: JOINS,
-        step: 18,
-        reads: 0,
-        fails_at: 2,
-    };
-    let told = run(rt.alloc(), reader, short_writer(rt.alloc(), 1000))?;
-    let all = told.end == Err(ServeFault::Read)
-        && told.writer.taken.as_slice() == &JOINED[..ONE]
-        && told.failed == (1, 0)
-        && told.reader.reads == 2;
-    assert!(rt; all);
-    Ok(())
-}
-
-// The bytes of one of the three requests, with its LF.
-const REQUEST: usize = 13;
-
-// Whether the requests that were read whole are answered, and no other, where each read gives a byte and this one fails.
+// Where each read gives a byte, and this one fails: whether the requests that were read whole are answered, and no other.
 fn ends_at_read(alloc: Global, number: usize) -> std::result::Result<bool, Fail> {
-    let reader = Slow {
-        bytes: JOINS,
-        step: 1,
-        reads: 0,
-        fails_at: number,
-    };
-    let told = run(alloc, reader, short_writer(alloc, 1000))?;
-    let text = told.writer.taken.as_slice();
     let whole = number.saturating_sub(1) / REQUEST;
+    let told = JOINED.get(..whole.saturating_mul(ANSWER)).unwrap_or(&[]);
+    let course = run(
+        alloc,
+        slow_reader(JOINS, 1, number),
+        short_writer(told, usize::MAX),
+    )?;
     Ok(
-        told.end == Err(ServeFault::Read)
-            && JOINED.starts_with(text)
-            && text.len() == whole.saturating_mul(ONE)
-            && told.failed == (1, 0)
-            && told.reader.reads == number,
+        course
+            == Course {
+                end: Err(ServeFault::Read),
+                reads: number,
+                writes: whole,
+                failed: (1, 0),
+                left: 0,
+            },
     )
 }
 
 // The 40th read is the one that finds the end.
 #[test]
 fn tells_a_fault_of_each_read(rt: HostRuntime) -> std::result::Result<(), Fail> {
-    let mut all = true;
+    let mut all = is_answered(rt.alloc(), JOINS, 1, JOINED, 3)?;
     for number in 1..41 {
         all &= ends_at_read(rt.alloc(), number)?;
     }
-    all &= is_answered(rt.alloc(), JOINS, 1, JOINED, 3)?;
     assert!(rt; all);
     Ok(())
 }
 
-#[test]
-fn writes_short_writes_to_their_end(rt: HostRuntime) -> std::result::Result<(), Fail> {
-    let told = run(
-        rt.alloc(),
-        slow_reader(JOINS, 100),
-        short_writer(rt.alloc(), 10),
-    )?;
-    assert!(rt;
-        told.end == Ok(()) && told.writer.taken.as_slice() == JOINED && told.writer.writes == 12
-    );
-    Ok(())
+// Where each write takes ten bytes, and this one takes none or fails: whether the answers end there.
+fn ends_at_write(alloc: Global, number: usize, tells: bool) -> std::result::Result<bool, Fail> {
+    let mut writer = short_writer(JOINED, 10);
+    writer.fails_at = number;
+    writer.tells = tells;
+    let course = run(alloc, slow_reader(JOINS, 100, 0), writer)?;
+    Ok(course.end == Err(ServeFault::Write) && course.failed == (0, 1) && course.writes == number)
 }
 
+// Four writes take an answer, so the twelfth takes the rest of the last one.
 #[test]
-fn tells_a_write_fault(rt: HostRuntime) -> std::result::Result<(), Fail> {
-    let mut all = true;
-    for tells in [false, true] {
-        let writer = Short {
-            taken: Vec::new(rt.alloc()),
-            step: 10,
-            writes: 0,
-            fails_at: 6,
-            tells,
-        };
-        let told = run(rt.alloc(), slow_reader(JOINS, 100), writer)?;
-        all &= told.end == Err(ServeFault::Write)
-            && told.writer.taken.as_slice() == &JOINED[..ONE + 10]
-            && told.failed == (0, 1)
-            && told.writer.writes == 6;
+fn tells_a_fault_of_each_write(rt: HostRuntime) -> std::result::Result<(), Fail> {
+    let course = run(
+        rt.alloc(),
+        slow_reader(JOINS, 100, 0),
+        short_writer(JOINED, 10),
+    )?;
+    let mut all = course.end == Ok(()) && course.left == 0 && course.writes == 12;
+    for number in 1..13 {
+        all &= ends_at_write(rt.alloc(), number, false)?;
+        all &= ends_at_write(rt.alloc(), number, true)?;
     }
     assert!(rt; all);
     Ok(())
 }
 
-// An answer above 65,536 bytes is one write, too.
-#[test]
-fn a_long_answer_is_one_write(rt: HostRuntime) -> std::result::Result<(), Fail> {
-    let mut input = b"{\"t\":\"join\"}\n".to_vec(rt.alloc())?;
-    for n in 1..1100u32 {
-        let line = format!(in rt.alloc();
-            "{{\"t\":\"ins\",\"s\":1,\"n\":{n},\"v\":0,\"k\":0,\"x\":\"aaaaaaaaaaaaaaaaaaaaaaaaaaaaaaaaaaaaaaaaaaaaaaaaaaaaaaaaaaaaaaaa\"}}\n"
-        )?;
-        input.extend_from_slice(line.as_bytes())?;
-    }
-    input.extend_from_slice(b"{\"t\":\"read\"}\n")?;
-    let told = run(
-        rt.alloc(),
-        slow_reader(&input, 1_000_000),
-        short_writer(rt.alloc(), usize::MAX),
-    )?;
-    let text = told.writer.taken.as_slice();
-    assert!(rt; told.end == Ok(()) && told.writer.writes == 1101 && text.len() > 65_536 + ONE);
-    Ok(())
-}
-
-// What a reader and a writer saw together: lines that were given whole, answers that were taken, and whether a block was
-// asked for before all of these lines were answered.
+// What a reader and a writer saw together: how many reads there were, lines that were given whole, answers that were taken,
+// the bytes of the longest, and whether a block was asked for before all of these lines were answered.
 #[derive(Drop)]
 struct Record {
+    reads: Cell<usize>,
     given: Cell<usize>,
     answered: Cell<usize>,
+    longest: Cell<usize>,
     late: Cell<bool>,
 }
 
+// Gives at most `step` bytes a read.
 #[derive(Drop)]
 struct Asker<'a> {
     bytes: &'a [u8],
+    step: usize,
     record: &'a Record,
+}
+
+fn add(count: &Cell<usize>, more: usize) {
+    count.set(count.get().saturating_add(more));
 }
 
 impl Read for Asker<'_> {
     fn read(&mut self, buf: &mut [u8]) -> Result<usize> {
-        if self.record.answered.get() != self.record.given.get() {
-            self.record.late.set(true);
+        let record = self.record;
+        add(&record.reads, 1);
+        if record.answered.get() != record.given.get() {
+            record.late.set(true);
         }
-        let n = self.bytes.len().min(19).min(buf.len());
+        let n = self.bytes.len().min(self.step).min(buf.len());
         let (now, later) = self.bytes.split_at(n);
-        for byte in now {
-            if *byte == b'\n' {
-                self.record
-                    .given
-                    .set(self.record.given.get().saturating_add(1));
-            }
-        }
+        add(
+            &record.given,
+            now.iter().filter(|byte| **byte == b'\n').count(),
+        );
         buf[..n].copy_from_slice(now);
         self.bytes = later;
         Ok(n)
@@ -341,9 +259,10 @@ struct Taker<'a> {
 
 impl Write for Taker<'_> {
     fn write(&mut self, buf: &[u8]) -> Result<usize> {
+        add(&self.record.answered, 1);
         self.record
-            .answered
-            .set(self.record.answered.get().saturating_add(1));
+            .longest
+            .set(self.record.longest.get().max(buf.len()));
         Ok(buf.len())
     }
 
@@ -352,34 +271,71 @@ impl Write for Taker<'_> {
     }
 }
 
+impl Record {
+    fn new() -> Record {
+        Record {
+            reads: Cell::new(0),
+            given: Cell::new(0),
+            answered: Cell::new(0),
+            longest: Cell::new(0),
+            late: Cell::new(false),
+        }
+    }
+}
+
+// Whether the engine, over lines that are given at most `step` bytes a read, ends well and is never late.
+fn goes_well(
+    alloc: Global,
+    desk: &mut RoomDesk,
+    bytes: &[u8],
+    step: usize,
+    record: &Record,
+) -> bool {
+    let mut input = Counted::new(Asker {
+        bytes,
+        step,
+        record,
+    });
+    let mut output = Counted::new(Taker { record });
+    serve_lines(alloc, desk, &mut input, &mut output) == Ok(()) && !record.late.get()
+}
+
 // Whenever a block is asked for, all lines that were whole before it have been answered.
 #[test]
 fn answers_before_it_asks_for_more(rt: HostRuntime) -> std::result::Result<(), Fail> {
-    let record = Record {
-        given: Cell::new(0),
-        answered: Cell::new(0),
-        late: Cell::new(false),
-    };
-    let mut desk = empty_desk(rt.alloc())?;
-    let mut input = Counted::new(Asker {
-        bytes: JOINS,
-        record: &record,
-    });
-    let mut output = Counted::new(Taker { record: &record });
-    let end = serve_lines(rt.alloc(), &mut desk, &mut input, &mut output);
-    assert!(rt; end == Ok(()) && !record.late.get() && record.answered.get() == 3);
+    let record = Record::new();
+    let mut desk = desk_of(rt.alloc(), 0)?;
+    let all = goes_well(rt.alloc(), &mut desk, JOINS, 19, &record);
+    assert!(rt; all && record.answered.get() == 3);
     Ok(())
 }
 
 #[test]
-fn a_fault_is_named(rt: HostRuntime) -> std::result::Result<(), Fail> {
-    for (why, name) in [
-        (ServeFault::Read, "fault read"),
-        (ServeFault::Write, "fault write"),
-        (ServeFault::Memory, "fault memory"),
-    ] {
-        let told = format!(in rt.alloc(); "{why}")?;
-        assert_eq!(rt; told.as_str(), name);
+fn reads_in_blocks(rt: HostRuntime) -> std::result::Result<(), Fail> {
+    let record = Record::new();
+    let mut desk = desk_of(rt.alloc(), 0)?;
+    let input = [b'\n'; 3000];
+    let all = goes_well(rt.alloc(), &mut desk, &input, usize::MAX, &record);
+    assert!(rt; all && record.reads.get() == 2 && record.answered.get() == 3000);
+    Ok(())
+}
+
+// Whether some 70,000 characters are typed.
+fn types_much(alloc: Global, desk: &mut RoomDesk) -> bool {
+    let mut all = begins(alloc, desk, MANY);
+    for n in 2..1100 {
+        all &= types(alloc, desk, n, MANY);
     }
+    all
+}
+
+// An answer above 65,536 bytes is one write, too.
+#[test]
+fn a_long_answer_is_one_write(rt: HostRuntime) -> std::result::Result<(), Fail> {
+    let record = Record::new();
+    let mut desk = desk_of(rt.alloc(), 0)?;
+    let mut all = types_much(rt.alloc(), &mut desk);
+    all &= goes_well(rt.alloc(), &mut desk, b"{\"t\":\"read\"}\n", 100, &record);
+    assert!(rt; all && record.answered.get() == 1 && record.longest.get() > 65_536);
     Ok(())
 }

@@ -1,5 +1,4 @@
 //! A connection over a stream each of whose calls fails in turn, or that ends behind any of its parts.
-ghost use Rattle.std.specs.Prelude.{◌≤◌};
 ghost use Rattle.ws_server.specs.Halls.{IsHallPassOf, IsConnOf};
 
 use crate::halls::{Free, hall_of};
@@ -9,7 +8,7 @@ use std::io;
 use std::io::{Error, ErrorKind, Read, Write};
 use std::sync::Wait;
 use std::test::Fail;
-use ws_server::{Conn, Hall, HallPass, ServeFault, answer_frame, serve_socket};
+use ws_server::{Conn, Gate, Hall, HallPass, ServeFault, answer_frame, serve_socket};
 
 // What a client sends: a head with the key of RFC 6455's example, and then frames, whose masks are zero.
 pub(crate) const HEAD: &[u8] =
@@ -17,7 +16,7 @@ pub(crate) const HEAD: &[u8] =
 
 pub(crate) const OPEN: &[u8] = b"\x81\x9b\0\0\0\0{\"t\":\"open\",\"room\":\"notes\"}";
 
-const JOIN: &[u8] = b"\x81\x8c\0\0\0\0{\"t\":\"join\"}";
+pub(crate) const JOIN: &[u8] = b"\x81\x8c\0\0\0\0{\"t\":\"join\"}";
 
 const TYPE_A: &[u8] =
     b"\x81\xab\0\0\0\0{\"t\":\"ins\",\"s\":1,\"n\":1,\"v\":0,\"k\":0,\"x\":\"a\"}";
@@ -27,7 +26,9 @@ const TYPE_B: &[u8] =
 
 pub(crate) const CLOSE: &[u8] = b"\x88\x80\0\0\0\0";
 
-// How often a stream was called, how many of its parts it gave, which call fails, from 1 on, and how that has to be told.
+const PARTS: [&[u8]; 6] = [HEAD, OPEN, JOIN, TYPE_A, TYPE_B, CLOSE];
+
+// How often a stream was called, how many of its parts it gave, which call fails, from 1 on, and how its end has to be told.
 #[derive(Drop)]
 pub(crate) struct Record {
     calls: Cell<usize>,
@@ -66,11 +67,11 @@ impl Record {
     }
 }
 
-// Gives a part at each read, and takes whatever is written.
+// Gives a part at each read, ends behind the last, and takes whatever is written.
 #[derive(Drop)]
-pub(crate) struct Script<'a> {
-    pub(crate) parts: &'a [&'a [u8]],
-    pub(crate) record: &'a Record,
+struct Script<'a> {
+    parts: &'a [&'a [u8]],
+    record: &'a Record,
 }
 
 impl Read for Script<'_> {
@@ -78,6 +79,7 @@ impl Read for Script<'_> {
         self.record.call(ServeFault::Read)?;
         let given = self.record.given.get();
         let Some(part) = self.parts.get(given) else {
+            self.record.fault.set(Some(ServeFault::Read));
             return Ok(0);
         };
         let n = part.len().min(buf.len());
@@ -138,42 +140,39 @@ fn reading_after(given: usize) -> &'static str {
     }
 }
 
-// Serves so many of the parts, behind which the stream ends.
-fn serve_script<R: Wait>(
+// Serves a connection that sends these parts.
+pub(crate) fn serve_script<R: Wait, G: Gate>(
     rt: &R,
     alloc: Global,
     hall: &Hall,
     pass: &mut HallPass,
-    count: usize,
+    parts: &[&[u8]],
     record: &Record,
+    gate: &mut G,
 ) -> Result<(), ServeFault>
-    requires pass { IsHallPassOf hall.now pass.old }
-    requires count { count ≤ 6 }
+    requires { IsHallPassOf hall.now pass.old }
     ensures { IsHallPassOf hall.now pass.new }
 {
-    let parts = [HEAD, OPEN, JOIN, TYPE_A, TYPE_B, CLOSE];
-    let stream = Script {
-        parts: &parts[..count],
-        record,
-    };
-    serve_socket(rt, alloc, hall, pass, stream, &mut Free)
+    serve_socket(rt, alloc, hall, pass, Script { parts, record }, gate)
 }
 
-// Whether it ended well, if it ended as its record says and the room is where the calls leave it that were given whole.
+// Whether a connection that sends so many of the parts ended well, if it ended as its record says and the room is where the
+// calls leave it that were given whole.
 fn ends_as_told<R: Wait>(
     rt: &R,
     alloc: Global,
     hall: &Hall,
     pass: &mut HallPass,
+    count: usize,
     fails_at: usize,
 ) -> Option<bool>
     requires { IsHallPassOf hall.now pass.old }
 {
     let record = Record::new(fails_at);
-    let end = serve_script(rt, alloc, hall, pass, 6, &record);
-    let is_told = end.err() == record.fault.get();
+    let parts = PARTS.get(..count)?;
+    let end = serve_script(rt, alloc, hall, pass, parts, &record, &mut Free);
     let is_there = reads(rt, alloc, hall, pass, reading_after(record.given.get()));
-    if is_told && is_there {
+    if is_there && end.err() == record.fault.get() {
         Some(end.is_ok())
     } else {
         None
@@ -184,10 +183,11 @@ fn ends_as_told<R: Wait>(
 fn ends_as_told_anew<R: Wait>(
     rt: &R,
     alloc: Global,
+    count: usize,
     fails_at: usize,
 ) -> Result<Option<bool>, Fail> {
     let (hall, mut pass) = hall_of(alloc, &["notes"])?;
-    Ok(ends_as_told(rt, alloc, &hall, &mut pass, fails_at))
+    Ok(ends_as_told(rt, alloc, &hall, &mut pass, count, fails_at))
 }
 
 #[test]
@@ -195,7 +195,7 @@ fn each_call_of_a_stream_fails(rt: HostRuntime) -> Result<(), Fail> {
     let mut all = true;
     let mut failed = 0;
     for fails_at in 1..100 {
-        match ends_as_told_anew(&rt, rt.alloc(), fails_at)? {
+        match ends_as_told_anew(&rt, rt.alloc(), 6, fails_at)? {
             Some(false) => failed = fails_at,
             Some(true) => break,
             None => all = false,
@@ -205,36 +205,12 @@ fn each_call_of_a_stream_fails(rt: HostRuntime) -> Result<(), Fail> {
     Ok(())
 }
 
-// Whether it ends with `Read`, and the room is where the calls leave it, if the stream ends behind so many parts with no close.
-fn ends_unclosed<R: Wait>(
-    rt: &R,
-    alloc: Global,
-    hall: &Hall,
-    pass: &mut HallPass,
-    count: usize,
-) -> bool
-    requires pass { IsHallPassOf hall.now pass.old }
-    requires count { count ≤ 6 }
-{
-    let record = Record::new(0);
-    let end = serve_script(rt, alloc, hall, pass, count, &record);
-    end == Err(ServeFault::Read) && reads(rt, alloc, hall, pass, reading_after(count))
-}
-
-// The same in a hall of its own.
-fn ends_unclosed_anew<R: Wait>(rt: &R, alloc: Global, count: usize) -> Result<bool, Fail>
-    requires { count ≤ 6 }
-{
-    let (hall, mut pass) = hall_of(alloc, &["notes"])?;
-    Ok(ends_unclosed(rt, alloc, &hall, &mut pass, count))
-}
-
 // A client that goes without a close, and read no answer, leaves its room to others as its calls made it.
 #[test]
 fn a_stream_ends_without_a_close(rt: HostRuntime) -> Result<(), Fail> {
     let mut all = true;
     for count in 0..6 {
-        all &= ends_unclosed_anew(&rt, rt.alloc(), count)?;
+        all &= ends_as_told_anew(&rt, rt.alloc(), count, 0)? == Some(false);
     }
     assert!(rt; all);
     Ok(())

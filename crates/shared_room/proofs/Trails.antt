@@ -7,7 +7,6 @@ use Rattle.room.specs.declared.call.Call.{Call}
 use Rattle.room.specs.declared.call.Call.TheVariants.{Read}
 use Rattle.room.specs.Machine.{State}
 use Rattle.room.specs.History.{Account, AreRisingFrom, IsLegal, state_of}
-use Rattle.history_lock.proofs.Prefixes.{prefix_get}
 use Rattle.history_lock.specs.declared.pass.Sight.{Sight}
 use Rattle.history_lock.specs.Sights.{Among, weigh}
 use Rattle.history_lock.specs.Turns.{LeftFor}
@@ -74,13 +73,6 @@ owns_calls mine seen R among is rising k e q =
       ap (λ (l : List (ℕ × Call)). slice_get l c.0) history ∙ c.1,
       λ j f p same. one_place 0 R.history c.0 j e f rising c.1 (ap (λ (l : List (ℕ × Call)). slice_get l j) (sym history) ∙ p) same,
     )
-
--- what stands in a history stands in a legal one that begins with it
-pub owns_further : (mine h g : List (ℕ × Call)) → Owns mine h → IsPrefix h g → IsLegal g → Owns mine g
-owns_further mine h g owns begins legal k e q =
-    let a = owns k e q in
-    let there = prefix_get h g a.0 e begins a.1 in
-    (a.0, there, λ j f p same. one_place 0 g a.0 j e f legal.rising there p same)
 
 pub legal_calls : (seen : List Item) (R : Account) → trail_of R ≡ seen → IsLegal R.history → IsLegal (calls_of seen)
 legal_calls seen R is legal = subst IsLegal (sym (ap calls_of (sym is) ∙ calls_made R.history)) legal

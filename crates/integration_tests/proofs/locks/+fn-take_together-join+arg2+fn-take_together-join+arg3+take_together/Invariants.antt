@@ -1,8 +1,8 @@
 use Rattle.std.proofs.Common.{◌-◌}
-use Rattle.history_lock.proofs.tests.+add_together+fn-add_together-join+arg2+fn-add_together-join+arg3.Given as goal
+use Rattle.integration_tests.proofs.locks.+fn-take_together-join+arg2+fn-take_together-join+arg3+take_together.Given as goal
 
-abbrev pub decreases-add_together : goal.decreases-add_together
-decreases-add_together g l = l.threads
+abbrev pub decreases-take_together : goal.decreases-take_together
+decreases-take_together g l = l.threads
 
 abbrev pub decreases-join+arg2 : goal.decreases-join+arg2
 decreases-join+arg2 g l = l.half

@@ -1,5 +1,0 @@
-use Rattle.shared_room.specs.Views.{IsPassOf}
-use Rattle.integration_tests.proofs.carried.carry_on.Given as goal
-
-abbrev pub invariant-loop : goal.invariant-loop
-invariant-loop g l = IsPassOf l.ends.from.now l.a × IsPassOf l.ends.to.now l.b
