@@ -1,6 +1,7 @@
 """Scripts that are too long to be written down, with the lines that are wanted of the program: those of random events and of
-operations that are handed over are answered by the plain world, those of a full log by what is known of a text that was typed
-from its end on. And a random log."""
+operations that are handed over or exchanged are answered by the plain world, those of a full log by what is known of a text that
+was typed from its end on. And a random log."""
+import collections
 import json
 import random
 
@@ -190,6 +191,62 @@ def handed_over(log):
         ask(t="ops", after=after, max=64)
     ask(t="read")
     return script
+
+
+def exchanged(count):
+    """Three rooms that put in and delete so many characters in all and exchange what they have: each is asked for its log part by
+    part by both others, where a part waits beside others, for as long as it happens to, and is then handed over, in its order or
+    in any, and now and then once more. The rooms, and a script for each, at whose end all were handed over to all."""
+    dice = random.Random(7)
+    rooms = [Room(site) for site in range(3)]
+    scripts = [Script() for _ in rooms]
+    asked, waiting = collections.Counter(), [[] for _ in rooms]
+
+    def ask(site, **request):
+        scripts[site].event(compact(request), rooms[site].answer(request))
+
+    def types(site):
+        room = rooms[site]
+        ask(site, t="join")
+        asks = dict(s=room.next_session - 1, n=1, v=len(room.log))
+        shown = len(places(room.log, False))
+        if shown > 4 and dice.random() < 0.2:
+            ask(site, t="del", k=dice.randint(0, shown - 4), c=dice.randint(1, 4), **asks)
+        else:
+            ask(site, t="ins", k=dice.randint(0, shown), x="".join(dice.choices(CHARACTERS, k=dice.randint(1, 12))), **asks)
+        ask(site, t="leave", s=asks["s"])
+
+    def fetch(source, target, most):
+        after = asked[source, target]
+        ask(source, t="ops", after=after, max=most)
+        part = rooms[source].log[after : after + most]
+        asked[source, target] += len(part)
+        waiting[target] += [part] if part else []
+
+    def hand_over(target):
+        part = dice.choice(waiting[target])
+        if dice.random() < 0.8:
+            waiting[target].remove(part)
+        if dice.random() < 0.5:
+            part = dice.sample(part, len(part))
+        request = {"t": "put", "ops": [object_of(run) for run in packed(part)]}
+        scripts[target].event(compact(request), {"os": [rooms[target].put(operation) for operation in part], "r": "put"})
+
+    pairs = [(source, target) for source in range(3) for target in range(3) if source != target]
+    while sum(operation.site == room.site for room in rooms for operation in room.log) < count:
+        types(dice.randrange(3))
+        fetch(*dice.choice(pairs), dice.randint(1, 64))
+        target = dice.randrange(3)
+        if len(waiting[target]) > dice.randint(0, 8):
+            hand_over(target)
+    while any(waiting) or any(asked[source, target] < len(rooms[source].log) for source, target in pairs):
+        for source, target in pairs:
+            fetch(source, target, 64)
+            if waiting[target]:
+                hand_over(target)
+    for site in range(3):
+        ask(site, t="read")
+    return rooms, scripts
 
 
 def random_log(count):
