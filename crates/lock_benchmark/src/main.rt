@@ -98,6 +98,19 @@ fn by_tickets<R: Threads + Wait + Sync>(
     );
 }
 
+fn at_tickets<R: Threads + Wait + Sync>(
+    rt: &R,
+    alloc: Global,
+    start: &Barrier,
+    threads: u64,
+    turns: u64,
+    waits: bool,
+) -> Result<(), AllocError> {
+    let (lock, pass) = TicketLock::new(alloc, Count { turns: 0 })?;
+    by_tickets(rt, &lock, start, pass, threads, turns, waits);
+    Ok(())
+}
+
 fn take_locks<R: Wait>(rt: &R, count: &Mutex<u64>, start: &Barrier, turns: u64) {
     start.wait(rt);
     for _ in 0..turns {
@@ -156,24 +169,20 @@ impl What {
         self,
         rt: &R,
         alloc: Global,
+        start: &Barrier,
         threads: u64,
         turns: u64,
     ) -> Result<(), AllocError> {
-        let start = Barrier::new(threads as usize);
         match self {
-            What::Tickets | What::TicketsWhenFree => {
-                let (lock, pass) = TicketLock::new(alloc, Count { turns: 0 })?;
-                let waits = matches!(self, What::TicketsWhenFree);
-                by_tickets(rt, &lock, &start, pass, threads, turns, waits);
-                Ok(())
-            }
+            What::Tickets => at_tickets(rt, alloc, start, threads, turns, false),
+            What::TicketsWhenFree => at_tickets(rt, alloc, start, threads, turns, true),
             What::Mutex => {
-                by_mutex(rt, &Mutex::new(0), &start, threads, turns);
+                by_mutex(rt, &Mutex::new(0), start, threads, turns);
                 Ok(())
             }
             What::Room => rooms::read_alone(alloc, turns),
-            What::SharedRoom => rooms::read_by_passes(rt, alloc, &start, threads, turns),
-            What::LockedRoom => rooms::read_by_mutex(rt, alloc, &start, threads, turns),
+            What::SharedRoom => rooms::read_by_passes(rt, alloc, start, threads, turns),
+            What::LockedRoom => rooms::read_by_mutex(rt, alloc, start, threads, turns),
         }
     }
 }
@@ -192,7 +201,7 @@ fn print_run<R: Threads + Wait + Clock + CpuClock + Print + Sync>(
     for _ in 0..RUNS {
         let begun = Instant::now(rt)?;
         let used = rt.process_cpu_time()?;
-        what.run(rt, alloc, threads, each)?;
+        what.run(rt, alloc, &Barrier::new(threads as usize), threads, each)?;
         let cost = rt.process_cpu_time()?.saturating_sub(used).as_nanos();
         let time = begun.elapsed(rt)?.as_nanos();
         if time < passed || threads > 1 {
