@@ -4,9 +4,9 @@ ghost use Rattle.std.specs.Thread.{IsSync};
 ghost use Rattle.shared_room.specs.Views.{IsPassOf};
 
 use crate::desks::insertion;
-use crate::shared::{closed, shared};
+use crate::shared::{TURNS, closed, count, finds, joins, shared};
 use replica_world::one_order;
-use room::{Call, DeskFault, Reply, Room};
+use room::{DeskFault, Reply, Room};
 use shared_room::{Pass, PassDesk, SharedRoom};
 use std::alloc::Global;
 use std::sync::Wait;
@@ -18,33 +18,11 @@ use ws_server::carry;
 // How many characters each thread types.
 const TYPED: u32 = 99;
 
-// After so many turns, each 10 microseconds after the one before, a thread gives up.
-const TURNS: u32 = 1_000_000;
-
 // Two rooms, of which the one carries to the other.
 #[derive(Drop)]
 struct Ends<'a> {
     from: &'a SharedRoom,
     to: &'a SharedRoom,
-}
-
-// Whether the room's text comes to have this letter.
-fn finds<R: Wait + Clock>(rt: &R, room: &SharedRoom, pass: &mut Pass, letter: &str) -> bool
-    requires { IsPassOf room.now pass.old }
-    ensures { IsPassOf room.now pass.new }
-{
-    for _ in 0..TURNS {
-        match room.call(rt, pass, Call::Read) {
-            Ok(Reply::Text { v: _, x }) => {
-                if x.as_str().contains(letter) {
-                    return true;
-                }
-            }
-            _ => return false,
-        }
-        sleep(rt, Duration::from_micros(10));
-    }
-    false
 }
 
 // Whether the session's `n`-th letter is accepted.
@@ -97,18 +75,21 @@ fn carry_once<R: Wait>(
     carry_lent(&mut from, &mut to, after)
 }
 
-// Whether all is carried that is there, from the first operation on.
-fn carry_all<R: Wait>(rt: &R, ends: &Ends<'_>, a: &mut Pass, b: &mut Pass) -> bool
+// Carries from the first operation on, until all that both type was carried.
+fn carry_all<R: Wait + Clock>(rt: &R, ends: &Ends<'_>, a: &mut Pass, b: &mut Pass) -> bool
     requires { IsPassOf ends.now.from.now a.old × IsPassOf ends.now.to.now b.old }
     ensures { IsPassOf ends.now.from.now a.new × IsPassOf ends.now.to.now b.new }
 {
     let mut after = 0;
-    for _ in 0..2 * TYPED {
+    for _ in 0..TURNS {
         match carry_once(rt, ends, a, b, after) {
-            Ok(next) if next == after => return true,
             Ok(next) => after = next,
             Err(_) => return false,
         }
+        if after == 2 * TYPED {
+            return true;
+        }
+        sleep(rt, Duration::from_micros(10));
     }
     false
 }
@@ -136,37 +117,60 @@ fn pair_of(ends: &Ends<'_>, a: &mut Pass, b: &mut Pass) -> Option<Pair>
     Some(Pair { a: one, b: other })
 }
 
-// Types its letter in the session that has joined, each time at the beginning of version 0, and carries what is there. After
-// the first one it waits until one of the other's was carried here, so that there is carrying while it types.
-fn type_and_carry<R: Wait + Clock>(
+// Types its letter in the session that has joined, each time at the beginning of version 0. After the first one it waits until
+// one of the other's was carried here, so that there is carrying while it types.
+fn types_all<R: Wait + Clock>(
     rt: &R,
     alloc: Global,
-    ends: &Ends<'_>,
-    mut pair: Pair,
+    room: &SharedRoom,
+    mut pass: Pass,
     letter: &str,
     other: &str,
 ) -> bool
-    requires { IsPassOf ends.now.from.now pair.a × IsPassOf ends.now.to.now pair.b }
+    requires { IsPassOf room.now pass }
 {
-    let mut after = 0;
     let mut all = true;
     for n in 1..TYPED + 1 {
-        all &= types(rt, alloc, ends.from, &mut pair.a, n, letter);
-        match carry_once(rt, ends, &mut pair.a, &mut pair.b, after) {
-            Ok(next) => after = next,
-            Err(_) => return false,
-        }
+        all &= types(rt, alloc, room, &mut pass, n, letter);
         if n == 1 {
-            all &= finds(rt, ends.from, &mut pair.a, other);
+            all &= finds(rt, room, &mut pass, other);
         }
     }
     all
 }
 
-// Two threads, each at its end.
-fn work_at_both<R: Threads + Wait + Clock + Sync>(
+// Two threads type, each at its end.
+fn type_at_both<R: Threads + Wait + Clock + Sync>(
     rt: &R,
     alloc: Global,
+    ends: &Ends<'_>,
+    pair: Pair,
+) -> bool
+    requires { IsPassOf ends.now.from.now pair.a × IsPassOf ends.now.to.now pair.b }
+{
+    let Pair { a, b } = pair;
+    let both = join(
+        rt,
+        || -> bool
+            requires { IsSync R.row × IsPassOf ends.now.from.now a }
+        { types_all(rt, alloc, ends.from, a, "a", "b") },
+        || -> bool
+            requires { IsSync R.row × IsPassOf ends.now.to.now b }
+        { types_all(rt, alloc, ends.to, b, "b", "a") },
+    );
+    both.0 && both.1
+}
+
+// Carries with passes of its own.
+fn carry_pair<R: Wait + Clock>(rt: &R, ends: &Ends<'_>, mut pair: Pair) -> bool
+    requires { IsPassOf ends.now.from.now pair.a × IsPassOf ends.now.to.now pair.b }
+{
+    carry_all(rt, ends, &mut pair.a, &mut pair.b)
+}
+
+// Two threads carry, one each way.
+fn carry_each_way<R: Threads + Wait + Clock + Sync>(
+    rt: &R,
     ends: &Ends<'_>,
     turned: &Ends<'_>,
     there: Pair,
@@ -179,10 +183,37 @@ fn work_at_both<R: Threads + Wait + Clock + Sync>(
         rt,
         || -> bool
             requires { IsSync R.row × IsPassOf ends.now.from.now there.a × IsPassOf ends.now.to.now there.b }
-        { type_and_carry(rt, alloc, ends, there, "a", "b") },
+        { carry_pair(rt, ends, there) },
         || -> bool
             requires { IsSync R.row × IsPassOf turned.now.from.now back.a × IsPassOf turned.now.to.now back.b }
-        { type_and_carry(rt, alloc, turned, back, "b", "a") },
+        { carry_pair(rt, turned, back) },
+    );
+    both.0 && both.1
+}
+
+// Two threads type, and two carry meanwhile.
+fn work<R: Threads + Wait + Clock + Sync>(
+    rt: &R,
+    alloc: Global,
+    ends: &Ends<'_>,
+    turned: &Ends<'_>,
+    typing: Pair,
+    there: Pair,
+    back: Pair,
+) -> bool
+    requires typing { IsPassOf ends.now.from.now typing.a × IsPassOf ends.now.to.now typing.b }
+    requires there { IsPassOf ends.now.from.now there.a × IsPassOf ends.now.to.now there.b }
+    requires back { IsPassOf turned.now.from.now back.a × IsPassOf turned.now.to.now back.b }
+{
+    let both = join(
+        rt,
+        || -> bool
+            requires { IsSync R.row × IsPassOf ends.now.from.now typing.a × IsPassOf ends.now.to.now typing.b }
+        { type_at_both(rt, alloc, ends, typing) },
+        || -> bool
+            requires there { IsSync R.row × IsPassOf ends.now.from.now there.a × IsPassOf ends.now.to.now there.b }
+            requires back { IsPassOf turned.now.from.now back.a × IsPassOf turned.now.to.now back.b }
+        { carry_each_way(rt, ends, turned, there, back) },
     );
     both.0 && both.1
 }
@@ -202,20 +233,18 @@ fn come_together<R: Threads + Wait + Clock + Sync>(
         from: ends.to,
         to: ends.from,
     };
-    let mut all = ends.from.call(rt, a, Call::Join { units: false }).is_ok();
-    all &= ends.to.call(rt, b, Call::Join { units: false }).is_ok();
+    let mut all = joins(rt, ends.from, a) && joins(rt, ends.to, b);
+    let Some(typing) = pair_of(ends, a, b) else {
+        return false;
+    };
     let Some(there) = pair_of(ends, a, b) else {
         return false;
     };
     let Some(back) = pair_of(&turned, b, a) else {
         return false;
     };
-    all &= work_at_both(rt, alloc, ends, &turned, there, back);
+    all &= work(rt, alloc, ends, &turned, typing, there, back);
     all && carry_all(rt, ends, a, b) && carry_all(rt, &turned, b, a)
-}
-
-fn count(text: &str, letter: char) -> usize {
-    text.chars().filter(|c| *c == letter).count()
 }
 
 // Whether both rooms read one text, in which each thread's characters all stand.
