@@ -184,25 +184,29 @@ fn tells_a_fault_of_each_read(rt: HostRuntime) -> std::result::Result<(), Fail> 
     Ok(())
 }
 
-// Where each write takes ten bytes, and this one takes none or fails: whether the answers end there.
+// Where each write takes a byte, and this one takes none or fails: whether those before it have taken the beginning of the answers.
 fn ends_at_write(alloc: Global, number: usize, tells: bool) -> std::result::Result<bool, Fail> {
-    let mut writer = short_writer(JOINED, 10);
+    let mut writer = short_writer(JOINED, 1);
     writer.fails_at = number;
     writer.tells = tells;
     let course = run(alloc, slow_reader(JOINS, 100, 0), writer)?;
-    Ok(course.end == Err(ServeFault::Write) && course.failed == (0, 1) && course.writes == number)
+    Ok(
+        course.end == Err(ServeFault::Write)
+            && course.failed == (0, 1)
+            && course.writes == number
+            && course.left == JOINED.len().saturating_sub(number.saturating_sub(1)),
+    )
 }
 
-// Four writes take an answer, so the twelfth takes the rest of the last one.
 #[test]
 fn tells_a_fault_of_each_write(rt: HostRuntime) -> std::result::Result<(), Fail> {
     let course = run(
         rt.alloc(),
         slow_reader(JOINS, 100, 0),
-        short_writer(JOINED, 10),
+        short_writer(JOINED, 1),
     )?;
-    let mut all = course.end == Ok(()) && course.left == 0 && course.writes == 12;
-    for number in 1..13 {
+    let mut all = course.end == Ok(()) && course.left == 0 && course.writes == JOINED.len();
+    for number in 1..103 {
         all &= ends_at_write(rt.alloc(), number, false)?;
         all &= ends_at_write(rt.alloc(), number, true)?;
     }
