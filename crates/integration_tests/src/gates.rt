@@ -1,15 +1,17 @@
-//! Two connections at once, of which one is held at its gate.
+//! Two clients at once, of which one is held at its gate.
 ghost use Rattle.std.specs.Thread.{IsSync};
 ghost use Rattle.ws_server.specs.Halls.{IsHallPassOf};
 
+use crate::clients::{Client, JOIN, Line, OPEN, OPENED, asks, client_at, closes, is_told, serves};
 use crate::halls::hall_of;
-use crate::streams::{CLOSE, HEAD, JOIN, OPEN, Record, serve_script};
 use std::alloc::Global;
+use std::net::TcpStream;
 use std::sync::Wait;
 use std::sync::atomic::{AtomicU64, Ordering};
 use std::test::Fail;
 use std::thread::{Threads, join, sleep};
 use std::time::{Clock, Duration};
+use tungstenite::Message;
 use ws_server::{Gate, Hall, HallPass};
 
 // Holds its connection's first call until the other's first was answered, for at most 1,000,000 turns.
@@ -59,25 +61,12 @@ impl Gate for Telling<'_> {
     }
 }
 
-// Whether a connection that opens a room, joins and closes is served to its end.
-fn serves<R: Wait, G: Gate>(
-    rt: &R,
-    alloc: Global,
-    hall: &Hall,
-    mut pass: HallPass,
-    gate: &mut G,
-) -> bool
-    requires { IsHallPassOf hall.now pass }
-{
-    let parts = [HEAD, OPEN, JOIN, CLOSE];
-    serve_script(rt, alloc, hall, &mut pass, &parts, &Record::new(0), gate) == Ok(())
-}
-
 fn is_held<R: Wait + Clock>(
     rt: &R,
     alloc: Global,
     hall: &Hall,
     pass: HallPass,
+    stream: TcpStream,
     answered: &AtomicU64,
 ) -> bool
     requires { IsHallPassOf hall.now pass }
@@ -87,7 +76,7 @@ fn is_held<R: Wait + Clock>(
         answered,
         gave_up: false,
     };
-    serves(rt, alloc, hall, pass, &mut gate) && !gate.gave_up
+    serves(rt, alloc, hall, pass, stream, &mut gate) && !gate.gave_up
 }
 
 // Serves both to their ends, the one held.
@@ -97,6 +86,8 @@ fn serves_two<R: Threads + Wait + Clock + Sync>(
     hall: &Hall,
     held: HallPass,
     free: HallPass,
+    one: TcpStream,
+    other: TcpStream,
 ) -> bool
     requires { IsHallPassOf hall.now held × IsHallPassOf hall.now free }
 {
@@ -105,15 +96,72 @@ fn serves_two<R: Threads + Wait + Clock + Sync>(
         rt,
         || -> bool
             requires { IsSync R.row × IsHallPassOf hall.now held }
-        { is_held(rt, alloc, hall, held, &answered) },
+        { is_held(rt, alloc, hall, held, one, &answered) },
         || -> bool
             requires { IsSync R.row × IsHallPassOf hall.now free }
         {
             let mut gate = Telling {
                 answered: &answered,
             };
-            serves(rt, alloc, hall, free, &mut gate)
+            serves(rt, alloc, hall, free, other, &mut gate)
         },
+    );
+    both.0 && both.1
+}
+
+// The one asks before the other does, and is answered after it.
+fn ask_both(alloc: Global, one: &mut Client, other: &mut Client) -> bool {
+    let Ok(join) = Message::text(alloc, JOIN) else {
+        return false;
+    };
+    asks(alloc, one, OPEN, false, OPENED)
+        && asks(alloc, other, OPEN, false, OPENED)
+        && one.send(join).is_ok()
+        && asks(
+            alloc,
+            other,
+            JOIN,
+            false,
+            "{\"r\":\"joined\",\"s\":1,\"v\":0,\"x\":\"\"}",
+        )
+        && is_told(one, "{\"r\":\"joined\",\"s\":2,\"v\":0,\"x\":\"\"}")
+}
+
+fn come_and_go(alloc: Global, one: TcpStream, other: TcpStream) -> bool {
+    let Some(mut one) = client_at(alloc, one) else {
+        return false;
+    };
+    let Some(mut other) = client_at(alloc, other) else {
+        return false;
+    };
+    ask_both(alloc, &mut one, &mut other) && closes(&mut one) && closes(&mut other)
+}
+
+fn holds_one<R: Threads + Wait + Clock + Sync>(
+    rt: &R,
+    alloc: Global,
+    hall: &Hall,
+    held: HallPass,
+    free: HallPass,
+    one: Line,
+    other: Line,
+) -> bool
+    requires { IsHallPassOf hall.now held × IsHallPassOf hall.now free }
+{
+    let Line {
+        served: first,
+        asking: one,
+    } = one;
+    let Line {
+        served: second,
+        asking: other,
+    } = other;
+    let both = join(
+        rt,
+        || -> bool
+            requires { IsSync R.row × IsHallPassOf hall.now held × IsHallPassOf hall.now free }
+        { serves_two(rt, alloc, hall, held, free, first, second) },
+        || -> bool { come_and_go(alloc, one, other) },
     );
     both.0 && both.1
 }
@@ -124,6 +172,7 @@ fn a_held_connection_holds_up_no_other(rt: HostRuntime) -> Result<(), Fail> {
     let Ok(free) = hall.split(rt.alloc(), &mut held, 8) else {
         return Err(Fail::from("draws"));
     };
-    assert!(rt; serves_two(&rt, rt.alloc(), &hall, held, free));
+    let (one, other) = (Line::new(&rt)?, Line::new(&rt)?);
+    assert!(rt; holds_one(&rt, rt.alloc(), &hall, held, free, one, other));
     Ok(())
 }

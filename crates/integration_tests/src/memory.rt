@@ -1,7 +1,7 @@
 //! Lines that lack memory, each served by an engine of its own over one desk, and a connection that does. These tests pass
 //! whatever allocation is refused: `bin/refused_memory` refuses each of them in turn.
 use crate::desks::desk_of;
-use crate::halls::{Free, hall_of};
+use crate::halls::hall_of;
 use crate::streams::{CLOSE, HEAD, OPEN, Record, serve_script};
 use room::RoomDesk;
 use std::alloc::Global;
@@ -10,7 +10,7 @@ use std::test::Fail;
 use ws_server::{Counted, ServeFault, serve_lines};
 
 // More bytes than any answer here has.
-const MOST: usize = 128;
+const MOST: usize = 256;
 
 // A line and what answers it; for a submission, another one under its number.
 #[derive(Clone, Copy)]
@@ -20,12 +20,37 @@ struct Line {
     again: Option<&'static [u8]>,
 }
 
-const LINES: &[Line] = &[
+const JOIN: Line = Line {
+    asked: b"{\"t\":\"join\"}",
+    told: b"{\"r\":\"joined\",\"s\":1,\"v\":0,\"x\":\"\"}\n",
+    again: None,
+};
+
+const H: Line = Line {
+    asked: b"{\"t\":\"ins\",\"s\":1,\"n\":1,\"v\":0,\"k\":0,\"x\":\"H\"}",
+    told: b"{\"from\":0,\"r\":\"ok\",\"to\":1}\n",
+    again: Some(b"{\"t\":\"ins\",\"s\":1,\"n\":1,\"v\":0,\"k\":0,\"x\":\"zz\"}"),
+};
+
+const PULLED_H: Line = Line {
+    asked: b"{\"t\":\"pull\",\"s\":1,\"have\":0,\"max\":64}",
+    told: b"{\"es\":[[\"i\",0,\"H\"]],\"from\":0,\"r\":\"edits\"}\n",
+    again: None,
+};
+
+const INSERTS: &[Line] = &[
+    JOIN,
+    H,
+    PULLED_H,
     Line {
-        asked: b"{\"t\":\"join\"}",
-        told: b"{\"r\":\"joined\",\"s\":1,\"v\":0,\"x\":\"\"}\n",
+        asked: b"{\"t\":\"ops\",\"after\":0,\"max\":64}",
+        told: b"{\"from\":0,\"ops\":[{\"c\":[[0,1]],\"k\":\"i\",\"p\":null,\"s\":0,\"x\":\"H\"}],\"r\":\"ops\"}\n",
         again: None,
     },
+];
+
+const NAMES_AN_OLD_VERSION: &[Line] = &[
+    JOIN,
     Line {
         asked: b"{\"t\":\"ins\",\"s\":1,\"n\":1,\"v\":0,\"k\":0,\"x\":\"abc\"}",
         told: b"{\"from\":0,\"r\":\"ok\",\"to\":3}\n",
@@ -47,8 +72,61 @@ const LINES: &[Line] = &[
         again: Some(b"{\"t\":\"del\",\"s\":1,\"n\":3,\"v\":3,\"k\":0,\"c\":3}"),
     },
     Line {
+        asked: b"{\"t\":\"pull\",\"s\":1,\"have\":3,\"max\":64}",
+        told: b"{\"es\":[[\"d\",1],[\"i\",1,\"X\"]],\"from\":3,\"r\":\"edits\"}\n",
+        again: None,
+    },
+    Line {
         asked: b"{\"t\":\"read\"}",
         told: b"{\"r\":\"text\",\"v\":5,\"x\":\"aXc\"}\n",
+        again: None,
+    },
+];
+
+// An operation whose causal past comes after it.
+const EARLY: &[u8] =
+    b"{\"t\":\"put\",\"ops\":[{\"c\":[[1,2]],\"k\":\"i\",\"p\":[1,1],\"s\":1,\"x\":\"b\"}]}";
+
+const HOLDS_BACK: &[Line] = &[
+    Line {
+        asked: EARLY,
+        told: b"{\"os\":[[\"kept\"]],\"r\":\"put\"}\n",
+        again: None,
+    },
+    Line {
+        asked: b"{\"t\":\"put\",\"ops\":[{\"c\":[[1,1]],\"k\":\"i\",\"p\":null,\"s\":1,\"x\":\"a\"}]}",
+        told: b"{\"os\":[[\"took\",2,0]],\"r\":\"put\"}\n",
+        again: None,
+    },
+    Line {
+        asked: EARLY,
+        told: b"{\"os\":[[\"again\"]],\"r\":\"put\"}\n",
+        again: None,
+    },
+    Line {
+        asked: b"{\"t\":\"read\"}",
+        told: b"{\"r\":\"text\",\"v\":2,\"x\":\"ab\"}\n",
+        again: None,
+    },
+];
+
+const REFUSES: &[Line] = &[
+    JOIN,
+    H,
+    PULLED_H,
+    Line {
+        asked: b"{\"t\":\"ins\",\"s\":1,\"n\":2,\"v\":1,\"k\":1,\"x\":\"I\"}",
+        told: b"{\"from\":1,\"r\":\"ok\",\"to\":2}\n",
+        again: Some(b"{\"t\":\"ins\",\"s\":1,\"n\":2,\"v\":1,\"k\":1,\"x\":\"zz\"}"),
+    },
+    Line {
+        asked: b"{\"t\":\"put\",\"ops\":[{\"c\":[[1,1]],\"k\":\"i\",\"p\":[2,0],\"s\":1,\"x\":\"p\"},{\"c\":[[1,1]],\"k\":\"i\",\"p\":[9,9],\"s\":1,\"x\":\"p\"},{\"c\":[[0,1],[1,1]],\"k\":\"i\",\"p\":[1,0],\"s\":1,\"x\":\"p\"},{\"c\":[[1,2]],\"k\":\"d\",\"s\":1,\"t\":[1,0]}]}",
+        told: b"{\"os\":[[\"no\",21],[\"no\",20],[\"took\",1,0],[\"no\",19]],\"r\":\"put\"}\n",
+        again: None,
+    },
+    Line {
+        asked: b"{\"t\":\"read\"}",
+        told: b"{\"r\":\"text\",\"v\":3,\"x\":\"HpI\"}\n",
         again: None,
     },
 ];
@@ -83,8 +161,8 @@ fn serve(alloc: Global, desk: &mut RoomDesk, line: &[u8], want: &[u8]) -> Fate {
 
 // Whether each line is answered as with ample memory, once it was sent again where it wasn't done. What was done and not told
 // ends the run; a submission is first sent again as another, and gets the kept reply.
-fn bears_want(alloc: Global, desk: &mut RoomDesk) -> bool {
-    for line in LINES {
+fn bears_want(alloc: Global, desk: &mut RoomDesk, lines: &[Line]) -> bool {
+    for line in lines {
         let mut fate = serve(alloc, desk, line.asked, line.told);
         if fate == Fate::NotDone {
             fate = serve(alloc, desk, line.asked, line.told);
@@ -103,9 +181,30 @@ fn bears_want(alloc: Global, desk: &mut RoomDesk) -> bool {
 }
 
 #[test]
-fn lines(rt: HostRuntime) -> Result<(), Fail> {
+fn a_join_and_an_insertion(rt: HostRuntime) -> Result<(), Fail> {
     let mut desk = desk_of(rt.alloc(), 0)?;
-    assert!(rt; bears_want(rt.alloc(), &mut desk));
+    assert!(rt; bears_want(rt.alloc(), &mut desk, INSERTS));
+    Ok(())
+}
+
+#[test]
+fn an_insertion_in_an_old_version(rt: HostRuntime) -> Result<(), Fail> {
+    let mut desk = desk_of(rt.alloc(), 0)?;
+    assert!(rt; bears_want(rt.alloc(), &mut desk, NAMES_AN_OLD_VERSION));
+    Ok(())
+}
+
+#[test]
+fn what_is_early_is_held_back(rt: HostRuntime) -> Result<(), Fail> {
+    let mut desk = desk_of(rt.alloc(), 0)?;
+    assert!(rt; bears_want(rt.alloc(), &mut desk, HOLDS_BACK));
+    Ok(())
+}
+
+#[test]
+fn operations_that_are_refused(rt: HostRuntime) -> Result<(), Fail> {
+    let mut desk = desk_of(rt.alloc(), 0)?;
+    assert!(rt; bears_want(rt.alloc(), &mut desk, REFUSES));
     Ok(())
 }
 
@@ -115,15 +214,7 @@ fn come_and_go<R: Wait>(rt: &R, alloc: Global) -> Result<(), ServeFault> {
         return Err(ServeFault::Memory);
     };
     let parts = [HEAD, OPEN, CLOSE];
-    serve_script(
-        rt,
-        alloc,
-        &hall,
-        &mut pass,
-        &parts,
-        &Record::new(0),
-        &mut Free,
-    )
+    serve_script(rt, alloc, &hall, &mut pass, &parts, &Record::new(0))
 }
 
 // Where memory was wanting, from the handshake on, a second connection finds it. Where it was wanting for a field of the head,

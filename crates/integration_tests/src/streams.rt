@@ -8,7 +8,7 @@ use std::io;
 use std::io::{Error, ErrorKind, Read, Write};
 use std::sync::Wait;
 use std::test::Fail;
-use ws_server::{Conn, Gate, Hall, HallPass, ServeFault, answer_frame, serve_socket};
+use ws_server::{Conn, Hall, HallPass, ServeFault, answer_frame, serve_socket};
 
 // What a client sends: a head with the key of RFC 6455's example, and then frames, whose masks are zero.
 pub(crate) const HEAD: &[u8] =
@@ -16,7 +16,7 @@ pub(crate) const HEAD: &[u8] =
 
 pub(crate) const OPEN: &[u8] = b"\x81\x9b\0\0\0\0{\"t\":\"open\",\"room\":\"notes\"}";
 
-pub(crate) const JOIN: &[u8] = b"\x81\x8c\0\0\0\0{\"t\":\"join\"}";
+const JOIN: &[u8] = b"\x81\x8c\0\0\0\0{\"t\":\"join\"}";
 
 const TYPE_A: &[u8] =
     b"\x81\xab\0\0\0\0{\"t\":\"ins\",\"s\":1,\"n\":1,\"v\":0,\"k\":0,\"x\":\"a\"}";
@@ -141,19 +141,18 @@ fn reading_after(given: usize) -> &'static str {
 }
 
 // Serves a connection that sends these parts.
-pub(crate) fn serve_script<R: Wait, G: Gate>(
+pub(crate) fn serve_script<R: Wait>(
     rt: &R,
     alloc: Global,
     hall: &Hall,
     pass: &mut HallPass,
     parts: &[&[u8]],
     record: &Record,
-    gate: &mut G,
 ) -> Result<(), ServeFault>
     requires { IsHallPassOf hall.now pass.old }
     ensures { IsHallPassOf hall.now pass.new }
 {
-    serve_socket(rt, alloc, hall, pass, Script { parts, record }, gate)
+    serve_socket(rt, alloc, hall, pass, Script { parts, record }, &mut Free)
 }
 
 // Whether a connection that sends so many of the parts ended well, if it ended as its record says and the room is where the
@@ -170,7 +169,7 @@ fn ends_as_told<R: Wait>(
 {
     let record = Record::new(fails_at);
     let parts = PARTS.get(..count)?;
-    let end = serve_script(rt, alloc, hall, pass, parts, &record, &mut Free);
+    let end = serve_script(rt, alloc, hall, pass, parts, &record);
     let is_there = reads(rt, alloc, hall, pass, reading_after(record.given.get()));
     if is_there && end.err() == record.fault.get() {
         Some(end.is_ok())
