@@ -1,22 +1,30 @@
 //! Editors of a room that fall behind and catch up, in either count of places.
-use crate::fixtures::{empty_room, follows, insertion, shows};
+use crate::fixtures::{empty_room, insertion, shows};
 use room::{Call, Desk, Editor, RoomDesk, UnitEditor};
 use std::alloc::Global;
 use std::test::Fail;
 
-/// Session 1 pulls.
-fn pull(have: u32, max: u32) -> Call {
-    Call::Pull { s: 1, have, max }
+/// The session pulls.
+fn pull(s: u32, have: u32, max: u32) -> Call {
+    Call::Pull { s, have, max }
+}
+
+/// The editor is given the reply.
+fn follows(desk: &mut RoomDesk, editor: &mut Editor, call: Call) -> Result<(), Fail> {
+    let reply = desk.call(call)?;
+    let followed = editor.follow(&reply);
+    drop(reply);
+    Ok(followed?)
 }
 
 /// `abc` is put in, and two of its three edits are pulled; then `X` is put in behind the first, and the rest is pulled.
 fn falls_behind(alloc: Global, desk: &mut RoomDesk, editor: &mut Editor) -> Result<bool, Fail> {
     follows(desk, editor, Call::Join { units: false })?;
     follows(desk, editor, insertion(alloc, 1, 1, 0, 0, "abc")?)?;
-    follows(desk, editor, pull(0, 2))?;
+    follows(desk, editor, pull(1, 0, 2))?;
     let behind = shows(editor, "ab") && editor.version() == 2;
     follows(desk, editor, insertion(alloc, 1, 2, 2, 1, "X")?)?;
-    follows(desk, editor, pull(2, 64))?;
+    follows(desk, editor, pull(1, 2, 64))?;
     Ok(behind && shows(editor, "aXbc") && editor.version() == 4)
 }
 
@@ -44,8 +52,9 @@ fn shows_units(editor: &UnitEditor, text: &str) -> bool {
 /// The editor is given the reply.
 fn follows_units(desk: &mut RoomDesk, editor: &mut UnitEditor, call: Call) -> Result<(), Fail> {
     let reply = desk.call(call)?;
-    editor.follow(&reply)?;
-    Ok(())
+    let followed = editor.follow(&reply);
+    drop(reply);
+    Ok(followed?)
 }
 
 /// Session 1 deletes the first two units of version 2, as its third submission.
@@ -67,11 +76,11 @@ fn deletes_a_pair(
 ) -> Result<bool, Fail> {
     follows_units(desk, editor, Call::Join { units: true })?;
     follows_units(desk, editor, insertion(alloc, 1, 1, 0, 0, "\u{1F600}a")?)?;
-    follows_units(desk, editor, pull(0, 64))?;
+    follows_units(desk, editor, pull(1, 0, 64))?;
     let behind = shows_units(editor, "\u{1F600}a");
     follows_units(desk, editor, insertion(alloc, 1, 2, 2, 2, "b")?)?;
     follows_units(desk, editor, deletion())?;
-    follows_units(desk, editor, pull(2, 64))?;
+    follows_units(desk, editor, pull(1, 2, 64))?;
     Ok(behind && shows_units(editor, "ba") && editor.version() == 4)
 }
 
@@ -83,5 +92,52 @@ fn catches_up_in_units(alloc: Global) -> Result<bool, Fail> {
 #[test]
 fn an_editor_in_units_catches_up(rt: HostRuntime) -> Result<(), Fail> {
     assert!(rt; catches_up_in_units(rt.alloc())?);
+    Ok(())
+}
+
+/// Both sessions join, the first in characters and the second in UTF-16 units, and read the text that the first puts in.
+fn read_both(
+    alloc: Global,
+    desk: &mut RoomDesk,
+    editor: &mut Editor,
+    other: &mut UnitEditor,
+) -> Result<bool, Fail> {
+    follows(desk, editor, Call::Join { units: false })?;
+    follows_units(desk, other, Call::Join { units: true })?;
+    follows(desk, editor, insertion(alloc, 1, 1, 0, 0, "\u{1F600}ax")?)?;
+    follows(desk, editor, pull(1, 0, 64))?;
+    follows_units(desk, other, pull(2, 0, 64))?;
+    Ok(shows(editor, "\u{1F600}ax") && shows_units(other, "\u{1F600}ax"))
+}
+
+/// Both type behind the pair of version 3 at once, and read the same.
+fn type_at_once(
+    alloc: Global,
+    desk: &mut RoomDesk,
+    editor: &mut Editor,
+    other: &mut UnitEditor,
+) -> Result<bool, Fail> {
+    let before = read_both(alloc, desk, editor, other)?;
+    follows(desk, editor, insertion(alloc, 1, 2, 3, 1, "\u{10000}")?)?;
+    follows_units(desk, other, insertion(alloc, 2, 1, 3, 2, "\u{10FFFF}c")?)?;
+    follows(desk, editor, pull(1, 3, 64))?;
+    follows_units(desk, other, pull(2, 3, 64))?;
+    let text = "\u{1F600}\u{10FFFF}c\u{10000}ax";
+    Ok(before && shows(editor, text) && shows_units(other, text))
+}
+
+fn editors_of_both_counts(alloc: Global) -> Result<bool, Fail> {
+    let mut desk = RoomDesk::new(empty_room(alloc, 0)?);
+    type_at_once(
+        alloc,
+        &mut desk,
+        &mut Editor::new(alloc),
+        &mut UnitEditor::new(alloc),
+    )
+}
+
+#[test]
+fn sessions_of_both_counts_type_at_once(rt: HostRuntime) -> Result<(), Fail> {
+    assert!(rt; editors_of_both_counts(rt.alloc())?);
     Ok(())
 }

@@ -1,8 +1,8 @@
-//! What tests of rooms share: an empty room, calls, and editors.
+//! What tests of rooms share: an empty room, an insertion, replies, and what an editor shows.
 ghost use Rattle.std.specs.Prelude.{◌≡◌, [], IfOk};
 
 use opid::Site;
-use room::{Call, Characters, Desk, Editor, Room, RoomDesk};
+use room::{Call, Characters, Editor, Reply, Room};
 use std::alloc::Global;
 use std::test::Fail;
 
@@ -26,14 +26,23 @@ pub(crate) fn insertion(
     Ok(Call::Ins { s, n, v, k, x })
 }
 
+/// Whether the reply tells that a submission leads from that version to that one.
+pub(crate) fn is_ok(reply: &Reply, versions: (u32, u32)) -> bool {
+    match reply {
+        Reply::Ok { from, to } => (*from, *to) == versions,
+        _ => false,
+    }
+}
+
+/// Whether the reply tells the text of the version.
+pub(crate) fn is_text(reply: &Reply, version: u32, text: &str) -> bool {
+    match reply {
+        Reply::Text { v, x } => *v == version && x.as_str() == text,
+        _ => false,
+    }
+}
+
 /// Whether the editor has the text.
 pub(crate) fn shows(editor: &Editor, text: &str) -> bool {
     editor.text().characters().iter().copied().eq(text.chars())
-}
-
-/// The editor is given the reply.
-pub(crate) fn follows(desk: &mut RoomDesk, editor: &mut Editor, call: Call) -> Result<(), Fail> {
-    let reply = desk.call(call)?;
-    editor.follow(&reply)?;
-    Ok(())
 }

@@ -1,10 +1,11 @@
-//! Many editors of one room, whose replies are lost, come early, late and again.
-use crate::fixtures::{empty_room, follows, insertion, shows};
+//! Many editors of one room, which are given their replies late, again and out of order.
+use crate::fixtures::{empty_room, insertion, shows};
+use opid::Refusal;
 use room::{Call, Desk, Editor, Reply, RoomDesk};
 use std::alloc::Global;
 use std::test::Fail;
 
-const SESSIONS: usize = 20;
+const SESSIONS: u32 = 20;
 
 /// A fixed generator of numbers.
 #[derive(Drop)]
@@ -29,155 +30,224 @@ impl Numbers {
     }
 }
 
-/// The version that the editor has.
-fn version_of(editor: &Editor) -> u32 {
-    u32::try_from(editor.version()).unwrap_or(u32::MAX)
+/// A client of a room: its session, the number of its next submission, its editor, and the replies to its calls.
+#[derive(Drop)]
+struct Client {
+    session: u32,
+    next: u32,
+    editor: Editor,
+    replies: Vec<Reply>,
 }
 
-/// Whether the submission is accepted.
-fn accepts(desk: &mut RoomDesk, call: Call) -> Result<bool, Fail> {
-    match desk.call(call)? {
-        Reply::Ok { from: _, to: _ } => Ok(true),
-        _ => Ok(false),
+impl Client {
+    /// The client of the session, before its first call.
+    fn new(alloc: Global, session: u32) -> Client {
+        Client {
+            session,
+            next: 1,
+            editor: Editor::new(alloc),
+            replies: Vec::new(alloc),
+        }
+    }
+
+    /// The version that its editor has.
+    fn version(&self) -> u32 {
+        u32::try_from(self.editor.version()).unwrap_or(u32::MAX)
+    }
+
+    /// Makes a call, and keeps the reply.
+    fn ask(&mut self, desk: &mut RoomDesk, call: Call) -> Result<(), Fail> {
+        let reply = desk.call(call)?;
+        self.replies.push(reply)?;
+        Ok(())
+    }
+
+    /// Its editor is given the reply at the place, whether it was given that one before or not.
+    fn receive(&mut self, at: usize) -> Result<(), Fail> {
+        if let Some(reply) = self.replies.get(at) {
+            self.editor.follow(reply)?;
+        }
+        Ok(())
+    }
+
+    /// Its editor is given the last reply.
+    fn receive_last(&mut self) -> Result<(), Fail> {
+        let last = self.replies.len().saturating_sub(1);
+        self.receive(last)
+    }
+
+    /// Its editor is given one of the last replies, so many.
+    fn receive_one_of(&mut self, last: usize, numbers: &mut Numbers) -> Result<(), Fail> {
+        let back = numbers.below(last).saturating_add(1);
+        let at = self.replies.len().saturating_sub(back);
+        self.receive(at)
+    }
+
+    /// Whether the last reply accepts a submission.
+    fn is_accepted(&self) -> bool {
+        matches!(self.replies.last(), Some(Reply::Ok { from: _, to: _ }))
+    }
+
+    /// Puts a text in at some place of its editor's version. Whether that was accepted.
+    fn insert(
+        &mut self,
+        alloc: Global,
+        desk: &mut RoomDesk,
+        numbers: &mut Numbers,
+    ) -> Result<bool, Fail> {
+        let text = if numbers.below(2) == 0 {
+            "a\u{1F600}"
+        } else {
+            "xyz"
+        };
+        let k = numbers.place_below(self.editor.text().len().saturating_add(1));
+        let call = insertion(alloc, self.session, self.next, self.version(), k, text)?;
+        self.ask(desk, call)?;
+        self.next = self.next.saturating_add(1);
+        Ok(self.is_accepted())
+    }
+
+    /// Its next submission, by which so many characters are deleted from a place of its editor's version on.
+    fn deletion(&self, k: u32, c: u32) -> Call {
+        let (s, n, v) = (self.session, self.next, self.version());
+        Call::Del { s, n, v, k, c }
+    }
+
+    /// Deletes some character of its editor's version. Whether that was accepted.
+    fn delete(&mut self, desk: &mut RoomDesk, numbers: &mut Numbers) -> Result<bool, Fail> {
+        let k = numbers.place_below(self.editor.text().len());
+        let call = self.deletion(k, 1);
+        self.ask(desk, call)?;
+        self.next = self.next.saturating_add(1);
+        Ok(self.is_accepted())
+    }
+
+    /// Asks for the deletion of no character. Whether that was refused.
+    fn delete_none(&mut self, desk: &mut RoomDesk) -> Result<bool, Fail> {
+        let call = self.deletion(0, 0);
+        self.ask(desk, call)?;
+        Ok(matches!(self.replies.last(), Some(Reply::No(Refusal::BadCount))))
+    }
+
+    /// Asks for at most so many edits behind its editor's version. Whether edits are told.
+    fn pull(&mut self, desk: &mut RoomDesk, max: u32) -> Result<bool, Fail> {
+        let (s, have) = (self.session, self.version());
+        self.ask(desk, Call::Pull { s, have, max })?;
+        Ok(matches!(self.replies.last(), Some(Reply::Edits { from: _, es: _ })))
+    }
+
+    /// One step, whichever. Whether the room answered as it has to.
+    fn act(
+        &mut self,
+        alloc: Global,
+        desk: &mut RoomDesk,
+        numbers: &mut Numbers,
+    ) -> Result<bool, Fail> {
+        match numbers.below(12) {
+            0 | 1 => self.insert(alloc, desk, numbers),
+            2 if !self.editor.text().is_empty() => self.delete(desk, numbers),
+            3 => self.delete_none(desk),
+            4 | 5 | 6 => self.pull(desk, numbers.place_below(64).saturating_add(1)),
+            7 => {
+                let all = self.replies.len();
+                self.receive_one_of(all, numbers)?;
+                Ok(true)
+            }
+            _ => {
+                self.receive_one_of(3, numbers)?;
+                Ok(true)
+            }
+        }
+    }
+
+    /// Whether its editor has what the room reads at the editor's version.
+    fn is_in_step(&self, desk: &RoomDesk) -> Result<bool, Fail> {
+        let text = desk.room().replica().doc().reading(self.version())?;
+        Ok(shows(&self.editor, text.as_str()))
+    }
+
+    /// Pulls all that is new. Whether its editor then has the version and the text that a read was told.
+    fn catches_up(&mut self, desk: &mut RoomDesk, read: &Reply) -> Result<bool, Fail> {
+        let mut all = true;
+        for _ in 0..100 {
+            all &= self.pull(desk, 64)?;
+            self.receive_last()?;
+        }
+        all &= self.is_in_step(desk)?;
+        Ok(all && self.has(read))
+    }
+
+    /// Whether its editor has the version and the text that a read was told.
+    fn has(&self, read: &Reply) -> bool {
+        match read {
+            Reply::Text { v, x } => self.version() == *v && shows(&self.editor, x.as_str()),
+            _ => false,
+        }
     }
 }
 
-/// Session `s` pulls, and the reply is lost.
-fn pulls_in_vain(desk: &mut RoomDesk, s: u32, have: u32) -> Result<(), Fail> {
-    let _lost = desk.call(Call::Pull { s, have, max: 64 })?;
-    Ok(())
-}
-
-/// Session `s`, whose submission `n` is its next, puts a text in at some place of its editor's version.
-fn inserts(
-    alloc: Global,
-    desk: &mut RoomDesk,
-    editor: &Editor,
-    s: u32,
-    n: u32,
-    numbers: &mut Numbers,
-) -> Result<bool, Fail> {
-    let text = if numbers.below(2) == 0 {
-        "a\u{1F600}"
-    } else {
-        "xyz"
-    };
-    let k = numbers.place_below(editor.text().len().saturating_add(1));
-    let call = insertion(alloc, s, n, version_of(editor), k, text)?;
-    accepts(desk, call)
-}
-
-/// Session `s`, whose submission `n` is its next, deletes some character of its editor's version.
-fn deletes(
-    desk: &mut RoomDesk,
-    editor: &Editor,
-    s: u32,
-    n: u32,
-    numbers: &mut Numbers,
-) -> Result<bool, Fail> {
-    let v = version_of(editor);
-    let k = numbers.place_below(editor.text().len());
-    accepts(desk, Call::Del { s, n, v, k, c: 1 })
-}
-
-/// One step of session `s`, whichever; how many of its submissions it had accepted.
-fn acts(
-    alloc: Global,
-    desk: &mut RoomDesk,
-    editor: &mut Editor,
-    s: u32,
-    accepted: u32,
-    numbers: &mut Numbers,
-) -> Result<bool, Fail> {
-    let n = accepted.saturating_add(1);
-    let any = numbers.place_below(desk.room().replica().version() as usize);
-    match numbers.below(6) {
-        0 => inserts(alloc, desk, editor, s, n, numbers),
-        1 if !editor.text().is_empty() => deletes(desk, editor, s, n, numbers),
-        2 => {
-            pulls_in_vain(desk, s, version_of(editor))?;
-            Ok(false)
-        }
-        3 => {
-            let max = numbers.place_below(64).saturating_add(1);
-            let have = version_of(editor);
-            follows(desk, editor, Call::Pull { s, have, max })?;
-            Ok(false)
-        }
-        _ => {
-            let have = any;
-            follows(desk, editor, Call::Pull { s, have, max: 64 })?;
-            Ok(false)
-        }
-    }
-}
-
-/// Whether the editor has what the room reads at the editor's version.
-fn is_in_step(desk: &RoomDesk, editor: &Editor) -> Result<bool, Fail> {
-    let text = desk.room().replica().doc().reading(version_of(editor))?;
-    Ok(shows(editor, text.as_str()))
-}
-
-/// The number of the session whose editor stands at the place.
-fn session_of(place: usize) -> u32 {
-    u32::try_from(place).unwrap_or(0).saturating_add(1)
-}
-
-/// 2,000 steps of sessions in turn. Whether each editor was in step after it.
+/// 100 steps of clients in turn. Whether the room answered as it has to, and the client was in step after each.
 fn act_in_turn(
     alloc: Global,
     desk: &mut RoomDesk,
-    editors: &mut [Editor],
+    clients: &mut [Client],
     numbers: &mut Numbers,
 ) -> Result<bool, Fail> {
-    let mut accepted = [0u32; SESSIONS];
     let mut all = true;
-    for _ in 0..2000u32 {
-        let at = numbers.below(SESSIONS);
-        let (Some(editor), Some(count)) = (editors.get_mut(at), accepted.get_mut(at)) else {
-            return Ok(false);
-        };
-        let s = session_of(at);
-        if acts(alloc, desk, editor, s, *count, numbers)? {
-            *count = count.saturating_add(1);
-        }
-        all &= is_in_step(desk, editor)?;
-    }
-    Ok(all)
-}
-
-/// The session pulls all that is new. Whether its editor then is at the newest version.
-fn catches_up(desk: &mut RoomDesk, editor: &mut Editor, s: u32) -> Result<bool, Fail> {
     for _ in 0..100 {
-        let have = version_of(editor);
-        follows(desk, editor, Call::Pull { s, have, max: 64 })?;
-    }
-    Ok(version_of(editor) == desk.room().replica().version() && is_in_step(desk, editor)?)
-}
-
-fn all_catch_up(desk: &mut RoomDesk, editors: &mut [Editor]) -> Result<bool, Fail> {
-    let mut all = desk.room().replica().version() > 500;
-    for (at, editor) in editors.iter_mut().enumerate() {
-        all &= catches_up(desk, editor, session_of(at))?;
+        let at = numbers.below(clients.len());
+        if let Some(client) = clients.get_mut(at) {
+            all &= client.act(alloc, desk, numbers)?;
+            all &= client.is_in_step(desk)?;
+        }
     }
     Ok(all)
 }
 
-/// An editor of each session, which joins at the empty text.
-fn join_all(alloc: Global, desk: &mut RoomDesk, editors: &mut Vec<Editor>) -> Result<(), Fail> {
-    for at in 0..SESSIONS {
-        editors.push(Editor::new(alloc))?;
-        if let Some(editor) = editors.get_mut(at) {
-            follows(desk, editor, Call::Join { units: false })?;
-        }
+/// The last client joins.
+fn join_last(desk: &mut RoomDesk, clients: &mut [Client]) -> Result<(), Fail> {
+    if let Some(client) = clients.last_mut() {
+        client.ask(desk, Call::Join { units: false })?;
+        client.receive_last()?;
     }
     Ok(())
 }
 
-fn all_follow(alloc: Global, desk: &mut RoomDesk, editors: &mut Vec<Editor>) -> Result<bool, Fail> {
-    join_all(alloc, desk, editors)?;
-    let in_step = act_in_turn(alloc, desk, editors, &mut Numbers { last: 1 })?;
-    Ok(in_step && all_catch_up(desk, editors)?)
+/// One client more joins, again and again, and acts with those before it. Whether all goes as it has to.
+fn join_and_act(
+    alloc: Global,
+    desk: &mut RoomDesk,
+    clients: &mut Vec<Client>,
+    numbers: &mut Numbers,
+) -> Result<bool, Fail> {
+    let mut all = true;
+    for session in 1..=SESSIONS {
+        clients.push(Client::new(alloc, session))?;
+        join_last(desk, clients)?;
+        all &= act_in_turn(alloc, desk, clients, numbers)?;
+    }
+    Ok(all)
+}
+
+/// Whether all clients come to have what a read was told, which is no short text.
+fn catch_up(desk: &mut RoomDesk, clients: &mut [Client], read: &Reply) -> Result<bool, Fail> {
+    let mut all = desk.room().replica().version() > 500;
+    for client in clients.iter_mut() {
+        all &= client.catches_up(desk, read)?;
+    }
+    Ok(all)
+}
+
+fn catch_up_with_a_read(desk: &mut RoomDesk, clients: &mut [Client]) -> Result<bool, Fail> {
+    let read = desk.call(Call::Read)?;
+    let caught_up = catch_up(desk, clients, &read);
+    drop(read);
+    caught_up
+}
+
+fn all_follow(alloc: Global, desk: &mut RoomDesk, clients: &mut Vec<Client>) -> Result<bool, Fail> {
+    let in_step = join_and_act(alloc, desk, clients, &mut Numbers { last: 1 })?;
+    Ok(in_step && catch_up_with_a_read(desk, clients)?)
 }
 
 fn all_follow_a_room(alloc: Global) -> Result<bool, Fail> {

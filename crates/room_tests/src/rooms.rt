@@ -2,7 +2,7 @@
 ghost use Rattle.std.specs.Prelude.{◌≤◌, ◌^◌};
 ghost use Rattle.room.specs.History.{mark};
 
-use crate::fixtures::{empty_room, insertion};
+use crate::fixtures::{empty_room, insertion, is_ok, is_text};
 use room::{Call, Reply, Room};
 use std::alloc::Global;
 use std::test::Fail;
@@ -17,22 +17,6 @@ fn repeated_insertion(alloc: Global) -> Result<[Call; 4], Fail> {
     let first = insertion(alloc, 1, 1, 0, 0, "\u{1F600}a")?;
     let again = insertion(alloc, 1, 1, 0, 0, "b")?;
     Ok([Call::Join { units: false }, first, again, Call::Read])
-}
-
-/// Whether the reply tells the text of the version.
-fn is_text(reply: &Reply, version: u32, text: &str) -> bool {
-    match reply {
-        Reply::Text { v, x } => *v == version && x.as_str() == text,
-        _ => false,
-    }
-}
-
-/// Whether the reply tells that a submission leads from that version to that one.
-fn is_ok(reply: &Reply, versions: (u32, u32)) -> bool {
-    match reply {
-        Reply::Ok { from, to } => (*from, *to) == versions,
-        _ => false,
-    }
 }
 
 /// Whether these are the replies to those calls.
