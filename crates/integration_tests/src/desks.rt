@@ -1,4 +1,4 @@
-//! Two rooms, of which the one carries operations to the other, each over a desk of its own.
+//! Two rooms of two sites that carry operations to each other, each over a desk of its own.
 use opid::Site;
 use room::{Call, Characters, Desk, Reply, Room, RoomDesk};
 use std::alloc::{AllocError, Global};
@@ -39,6 +39,28 @@ fn reads(desk: &mut RoomDesk, want: &str) -> bool {
         Ok(Reply::Text { v: _, x }) => x.as_str() == want,
         _ => false,
     }
+}
+
+fn carry_each_way(alloc: Global, a: &mut RoomDesk, b: &mut RoomDesk, want: &str) -> bool {
+    let mut all = begins(alloc, a, "a") && begins(alloc, b, "b");
+    all &= carry(a, b, 0) == Ok(1);
+    all &= carry(b, a, 0) == Ok(2);
+    all && reads(a, want) && reads(b, want)
+}
+
+// Two rooms of these sites, of which the first is carried from first.
+fn rooms_carry(alloc: Global, first: u8, second: u8, want: &str) -> Result<bool, Fail> {
+    let mut a = desk_of(alloc, first)?;
+    let mut b = desk_of(alloc, second)?;
+    Ok(carry_each_way(alloc, &mut a, &mut b, want))
+}
+
+#[test]
+fn two_rooms_carry_to_each_other(rt: HostRuntime) -> Result<(), Fail> {
+    let mut all = rooms_carry(rt.alloc(), 0, 1, "ba")?;
+    all &= rooms_carry(rt.alloc(), 1, 0, "ab")?;
+    assert!(rt; all);
+    Ok(())
 }
 
 // 64 characters, and 6 more before them.

@@ -5,7 +5,7 @@ ghost use Rattle.ws_server.specs.Halls.{IsHallPassOf};
 use crate::clients::{Client, JOIN, Line, OPEN, OPENED, asks, client_at, closes, is_told, serves};
 use crate::halls::hall_of;
 use std::alloc::Global;
-use std::net::TcpStream;
+use std::net::{Net, TcpListener, TcpStream};
 use std::sync::Wait;
 use std::sync::atomic::{AtomicU64, Ordering};
 use std::test::Fail;
@@ -166,13 +166,27 @@ fn holds_one<R: Threads + Wait + Clock + Sync>(
     both.0 && both.1
 }
 
-#[test]
-fn a_held_connection_holds_up_no_other(rt: HostRuntime) -> Result<(), Fail> {
-    let (hall, mut held) = hall_of(rt.alloc(), &["notes"])?;
-    let Ok(free) = hall.split(rt.alloc(), &mut held, 8) else {
+// One of two connections is held, with the first pass or with the second.
+fn holds_either<R: Net<Listener = TcpListener, Stream = TcpStream> + Threads + Wait + Clock + Sync>(
+    rt: &R,
+    alloc: Global,
+    is_first_held: bool,
+) -> Result<bool, Fail> {
+    let (hall, mut first) = hall_of(alloc, &["notes"])?;
+    let Ok(second) = hall.split(alloc, &mut first, 8) else {
         return Err(Fail::from("draws"));
     };
-    let (one, other) = (Line::new(&rt)?, Line::new(&rt)?);
-    assert!(rt; holds_one(&rt, rt.alloc(), &hall, held, free, one, other));
+    let (one, other) = (Line::new(rt)?, Line::new(rt)?);
+    Ok(if is_first_held {
+        holds_one(rt, alloc, &hall, first, second, one, other)
+    } else {
+        holds_one(rt, alloc, &hall, second, first, one, other)
+    })
+}
+
+#[test]
+fn a_held_connection_holds_up_no_other(rt: HostRuntime) -> Result<(), Fail> {
+    let all = holds_either(&rt, rt.alloc(), true)? && holds_either(&rt, rt.alloc(), false)?;
+    assert!(rt; all);
     Ok(())
 }
