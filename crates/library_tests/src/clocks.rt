@@ -2,6 +2,7 @@
 ghost use Rattle.std.specs.Prelude.{◌≡◌, ◌<◌, length};
 
 use crate::dice::Dice;
+use crate::lending::lend;
 use causal_clock::{Clock, Op, OpLog, Reads};
 use opid::{OpKind, Refusal, Site, Stamp};
 use std::alloc::Global;
@@ -11,16 +12,6 @@ use std::test::Fail;
 
 fn site(number: u8) -> Result<Site, Refusal> {
     Site::new(number)
-}
-
-/// Asks something of an empty log. (What a function owns costs its proof at each step, so all others borrow it.)
-fn of_an_empty_one<F: Fn(&mut OpLog) -> Result<bool, Refusal>>(
-    alloc: Global,
-    asked: F,
-) -> Result<bool, Refusal>
-    requires { F.IsAlwaysCallable asked }
-{
-    asked(&mut OpLog::new(alloc))
 }
 
 /// Whether the pairs tell no clock.
@@ -113,7 +104,7 @@ fn stores_190(log: &mut OpLog) -> Result<bool, Refusal> {
 
 #[test]
 fn one_site_types_128_characters(rt: HostRuntime) -> Result<(), Fail> {
-    assert!(rt; of_an_empty_one(rt.alloc(), stores_190)?);
+    assert!(rt; lend(OpLog::new(rt.alloc()), stores_190)?);
     Ok(())
 }
 
@@ -141,7 +132,7 @@ fn stores_what_fell(log: &mut OpLog) -> Result<bool, Refusal> {
 
 #[test]
 fn an_entry_that_fell_is_stored(rt: HostRuntime) -> Result<(), Fail> {
-    assert!(rt; of_an_empty_one(rt.alloc(), stores_what_fell)?);
+    assert!(rt; lend(OpLog::new(rt.alloc()), stores_what_fell)?);
     Ok(())
 }
 

@@ -1,19 +1,9 @@
 //! The worked cases of what is held back.
+use crate::lending::lend;
 use causal_clock::{Clock, Op};
 use holdback::{Arrival, Held};
 use opid::{OpKind, Refusal, Site};
-use std::alloc::Global;
 use std::test::Fail;
-
-/// Asks something where nothing is held back. (What a function owns costs its proof at each step, so all others borrow it.)
-fn of_an_empty_one<F: Fn(&mut Held) -> Result<bool, Refusal>>(
-    alloc: Global,
-    asked: F,
-) -> Result<bool, Refusal>
-    requires { F.IsAlwaysCallable asked }
-{
-    asked(&mut Held::new(alloc))
-}
 
 /// The insertion of the character at the head by site 1, with this own entry.
 fn insertion(own: u32, ch: char) -> Result<Op, Refusal> {
@@ -47,7 +37,7 @@ fn keeps_the_first(held: &mut Held) -> Result<bool, Refusal> {
 
 #[test]
 fn the_same_comes_again(rt: HostRuntime) -> Result<(), Fail> {
-    assert!(rt; of_an_empty_one(rt.alloc(), keeps_the_first)?);
+    assert!(rt; lend(Held::new(rt.alloc()), keeps_the_first)?);
     Ok(())
 }
 
@@ -68,7 +58,7 @@ fn leave_in_turn(held: &mut Held) -> Result<bool, Refusal> {
 
 #[test]
 fn the_first_ready_one_leaves(rt: HostRuntime) -> Result<(), Fail> {
-    assert!(rt; of_an_empty_one(rt.alloc(), leave_in_turn)?);
+    assert!(rt; lend(Held::new(rt.alloc()), leave_in_turn)?);
     Ok(())
 }
 
@@ -84,6 +74,6 @@ fn keeps_1024(held: &mut Held) -> Result<bool, Refusal> {
 
 #[test]
 fn at_most_1024_are_held(rt: HostRuntime) -> Result<(), Fail> {
-    assert!(rt; of_an_empty_one(rt.alloc(), keeps_1024)?);
+    assert!(rt; lend(Held::new(rt.alloc()), keeps_1024)?);
     Ok(())
 }

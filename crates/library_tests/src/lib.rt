@@ -10,6 +10,8 @@ mod documents;
 #[cfg(test)]
 mod held_back;
 #[cfg(test)]
+mod lending;
+#[cfg(test)]
 mod lists;
 #[cfg(test)]
 mod plain;

@@ -3,6 +3,7 @@ ghost use Rattle.std.specs.Prelude.{◌<◌, ◌≤◌, IfSome, IfOk, length};
 ghost use Rattle.rga_list.specs.Entries.{IsAboveItsSite};
 
 use crate::dice::Dice;
+use crate::lending::lend;
 use crate::plain::{Insertion, Plain};
 use opid::{OpKind, Refusal, Site, Stamp};
 use rga_list::{Elem, Place, Rga};
@@ -14,16 +15,6 @@ fn stamp(sum: u32, site: u8) -> Result<Stamp, Refusal> {
         sum,
         site: Site::new(site)?,
     })
-}
-
-/// Asks something of an empty list. (What a function owns costs its proof at each step, so all others borrow it.)
-fn of_an_empty_one<F: Fn(&mut Rga) -> Result<bool, Refusal>>(
-    alloc: Global,
-    asked: F,
-) -> Result<bool, Refusal>
-    requires { F.IsAlwaysCallable asked }
-{
-    asked(&mut Rga::new(alloc))
 }
 
 /// A stamp of the site that may be inserted, from this sum on.
@@ -125,8 +116,8 @@ fn takes_the_run_first(rga: &mut Rga) -> Result<bool, Refusal> {
 
 #[test]
 fn either_order_of_arrival_gives_one_list(rt: HostRuntime) -> Result<(), Fail> {
-    assert!(rt; of_an_empty_one(rt.alloc(), takes_the_run_last)?);
-    assert!(rt; of_an_empty_one(rt.alloc(), takes_the_run_first)?);
+    assert!(rt; lend(Rga::new(rt.alloc()), takes_the_run_last)?);
+    assert!(rt; lend(Rga::new(rt.alloc()), takes_the_run_first)?);
     Ok(())
 }
 
@@ -137,7 +128,7 @@ fn refuses_behind(rga: &mut Rga, parent: Stamp, why: Refusal) -> bool {
 
 /// In a list of one element, which is deleted twice.
 fn deletes_the_only_one(rga: &mut Rga) -> Result<bool, Refusal> {
-    let (only, unknown) = (stamp(3, 0)?, stamp(9, 9)?);
+    let (only, unknown) = (stamp(3, 0)?, stamp(9, 0)?);
     let mut all = rga.last_of(only.site).is_none();
     let first = insert(rga, 3, 0, None, 'a')?;
     all &= first.elem == 0 && first.before.is_none();
@@ -153,7 +144,7 @@ fn deletes_the_only_one(rga: &mut Rga) -> Result<bool, Refusal> {
 
 #[test]
 fn refused_and_deleted(rt: HostRuntime) -> Result<(), Fail> {
-    assert!(rt; of_an_empty_one(rt.alloc(), deletes_the_only_one)?);
+    assert!(rt; lend(Rga::new(rt.alloc()), deletes_the_only_one)?);
     Ok(())
 }
 
@@ -196,7 +187,7 @@ fn grows_to_14(rga: &mut Rga) -> Result<bool, Refusal> {
 
 #[test]
 fn a_refused_growth_changes_nothing(rt: HostRuntime) -> Result<(), Fail> {
-    assert!(rt; of_an_empty_one(rt.alloc(), grows_to_14)?);
+    assert!(rt; lend(Rga::new(rt.alloc()), grows_to_14)?);
     Ok(())
 }
 
@@ -224,7 +215,7 @@ fn fills_its_reserve(rga: &mut Rga) -> Result<bool, Refusal> {
 
 #[test]
 fn a_reserve_is_enough(rt: HostRuntime) -> Result<(), Fail> {
-    assert!(rt; of_an_empty_one(rt.alloc(), fills_its_reserve)?);
+    assert!(rt; lend(Rga::new(rt.alloc()), fills_its_reserve)?);
     Ok(())
 }
 

@@ -1,9 +1,10 @@
 //! A worked tree, and a random one beside a scan of all elements.
 mod plain;
 
-ghost use Rattle.std.specs.Prelude.{◌≤◌};
+ghost use Rattle.std.specs.Prelude.{◌<◌, ◌≤◌, ◌^◌};
 
 use crate::dice::Dice;
+use crate::lending::lend;
 use crate::trees::plain::Plain;
 use counted_tree::{Steps, VersionTree};
 use std::alloc::{AllocError, Global};
@@ -20,19 +21,6 @@ fn empty(alloc: Global, versions: usize) -> Result<VersionTree, AllocError>
     let mut tree = VersionTree::new(alloc);
     tree.reserve(versions)?;
     Ok(tree)
-}
-
-/// Asks something of an empty tree. (What a function owns costs its proof at each step, so all others borrow it.)
-fn of_an_empty_one<F: Fn(&mut VersionTree) -> bool>(
-    alloc: Global,
-    versions: usize,
-    asked: F,
-) -> Result<bool, AllocError>
-    requires callable { F.IsAlwaysCallable asked }
-    requires most { versions ≤ 131072 }
-{
-    let mut tree = empty(alloc, versions)?;
-    Ok(asked(&mut tree))
 }
 
 /// Asks something of an empty tree and a scan of no elements.
@@ -103,8 +91,9 @@ fn last_greater(tree: &VersionTree, before: Option<u32>, key: u32) -> Option<u32
 }
 
 /// Puts the next element in, before all others or after one that is there. Whether it did.
-fn put(tree: &mut VersionTree, before: Option<u32>, key: u16, wide: bool) -> bool {
-    let key = u32::from(key);
+fn put(tree: &mut VersionTree, before: Option<u32>, key: u32, wide: bool) -> bool
+    requires { key < 2 ^ 23 }
+{
     if tree.room() == 0 {
         return false;
     }
@@ -145,14 +134,16 @@ fn put_in_both(
     tree: &mut VersionTree,
     plain: &mut Plain,
     before: Option<u32>,
-    key: u16,
+    key: u32,
     wide: bool,
-) -> Result<(), AllocError> {
+) -> Result<(), AllocError>
+    requires { key < 2 ^ 23 }
+{
     let n = tree.elements() as u32;
     if !put(tree, before, key, wide) {
         return Ok(());
     }
-    plain.insert_after(before, n, u32::from(key), wide, tree.newest())
+    plain.insert_after(before, n, key, wide, tree.newest())
 }
 
 /// The same in the tree and in the scan.
@@ -164,7 +155,7 @@ fn hide_in_both(tree: &mut VersionTree, plain: &mut Plain, k: usize) {
 
 fn step(tree: &mut VersionTree, plain: &mut Plain, dice: &mut Dice) -> Result<(), AllocError> {
     let n = tree.elements() as u32;
-    let key = dice.roll(9) as u16;
+    let key = dice.roll(9) as u32;
     let wide = dice.roll(3) == 0;
     match dice.roll(10) {
         0 => {
@@ -181,22 +172,21 @@ fn step(tree: &mut VersionTree, plain: &mut Plain, dice: &mut Dice) -> Result<()
     }
 }
 
-/// Whether the tree and the scan find the same at each place of a version, in either count.
-fn find_the_same(tree: &VersionTree, plain: &Plain, version: usize) -> bool {
+/// Whether the tree and the scan find the same at so many places of a version, in either count.
+fn find_the_same(tree: &VersionTree, plain: &Plain, version: usize, places: usize) -> bool {
     let mut all = true;
-    for k in 0..2 * OPERATIONS {
+    for k in 0..places {
         all &= found(tree, version, k) == plain.find(version, k);
         all &= found_unit(tree, version, k) == plain.find_units(version, k);
     }
     all
 }
 
-/// Whether each element has the same rank in the tree and in the scan, in units.
+/// Whether each element has the same ranks in the tree and in the scan.
 fn rank_the_same(tree: &VersionTree, plain: &Plain) -> bool {
     let mut all = true;
     for elem in 0..tree.elements() as u32 {
-        let units = plain.rank_units(tree.newest(), elem);
-        all &= ranks(tree, elem).map(|(_, before)| before) == Some(units);
+        all &= ranks(tree, elem) == Some(plain.ranks(tree.newest(), elem));
     }
     all
 }
@@ -223,7 +213,7 @@ fn agrees(tree: &mut VersionTree, plain: &mut Plain) -> Result<bool, AllocError>
     grow(tree, plain, &mut Dice::new(11))?;
     let mut all = tree.newest() > 90;
     for version in 0..tree.newest() + 1 {
-        all &= find_the_same(tree, plain, version);
+        all &= find_the_same(tree, plain, version, 2 * OPERATIONS);
     }
     for key in 0..10 {
         all &= pass_the_same(tree, plain, key);
@@ -237,29 +227,34 @@ fn agrees_with_a_scan(rt: HostRuntime) -> Result<(), Fail> {
     Ok(())
 }
 
-/// Elements of which few have small keys, so that ways are long.
+/// Elements of which few have keys below the greatest ones, so that ways are long.
 fn grow_long_ways(
     tree: &mut VersionTree,
     plain: &mut Plain,
     dice: &mut Dice,
 ) -> Result<(), AllocError> {
     for n in 0..ELEMENTS as u32 {
-        let least = if dice.roll(40) == 0 { 0 } else { 1000 };
-        let key = least + dice.roll(1000) as u16;
+        let least = if dice.roll(40) == 0 {
+            65_000
+        } else {
+            8_387_608
+        };
+        let key = least + dice.roll(1000) as u32;
         let before = below(dice, n + 1).checked_sub(1);
-        put_in_both(tree, plain, before, key, false)?;
+        put_in_both(tree, plain, before, key, dice.roll(3) == 0)?;
     }
     Ok(())
 }
 
-/// Whether long ways are the same in the tree and in a scan.
+/// Whether long ways are the same in the tree and in a scan, and the places of the newest version.
 fn agrees_on_long_ways(tree: &mut VersionTree, plain: &mut Plain) -> Result<bool, AllocError> {
     grow_long_ways(tree, plain, &mut Dice::new(5))?;
     let mut all = tree.elements() == ELEMENTS;
-    for key in [0, 500, 999, 1000, 1998, 1999, 2000, u32::MAX] {
+    for key in [0, 65_500, 65_999, 8_387_608, 8_388_606, 8_388_607, u32::MAX] {
         all &= pass_the_same(tree, plain, key);
     }
-    Ok(all)
+    all &= find_the_same(tree, plain, tree.newest(), 2 * ELEMENTS);
+    Ok(all && rank_the_same(tree, plain))
 }
 
 #[test]
@@ -314,7 +309,7 @@ fn works(tree: &mut VersionTree) -> bool {
 
 #[test]
 fn worked_versions(rt: HostRuntime) -> Result<(), Fail> {
-    assert!(rt; of_an_empty_one(rt.alloc(), 5, works)?);
+    assert!(rt; lend(empty(rt.alloc(), 5)?, works));
     Ok(())
 }
 
@@ -357,7 +352,7 @@ fn works_in_units(tree: &mut VersionTree) -> bool {
 
 #[test]
 fn worked_units(rt: HostRuntime) -> Result<(), Fail> {
-    assert!(rt; of_an_empty_one(rt.alloc(), 4, works_in_units)?);
+    assert!(rt; lend(empty(rt.alloc(), 4)?, works_in_units));
     Ok(())
 }
 
@@ -370,7 +365,7 @@ fn is_found_soon(tree: &VersionTree, version: usize, k: usize) -> bool {
     tree.find(version, k, &mut steps).is_some() && (1..=36).contains(&steps.count())
 }
 
-/// Runs of 64 elements, each run before all others; the last two are one of their own.
+/// Runs of 64 elements, each run before all others; the last two are one of their own. Keys rise to near 2^23.
 fn grow_longest(tree: &mut VersionTree) {
     for n in 0..131_072u32 {
         let before = if n % 64 == 0 || n == 131_070 {
@@ -378,7 +373,7 @@ fn grow_longest(tree: &mut VersionTree) {
         } else {
             n.checked_sub(1)
         };
-        put(tree, before, (n % 1000) as u16, n % 3 == 0);
+        put(tree, before, 64 * n, n % 3 == 0);
     }
 }
 
@@ -399,6 +394,6 @@ fn stays_within_its_bounds(tree: &mut VersionTree) -> bool {
 
 #[test]
 fn the_longest_log_stays_within_its_bounds(rt: HostRuntime) -> Result<(), Fail> {
-    assert!(rt; of_an_empty_one(rt.alloc(), 131_072, stays_within_its_bounds)?);
+    assert!(rt; lend(empty(rt.alloc(), 131_072)?, stays_within_its_bounds));
     Ok(())
 }
