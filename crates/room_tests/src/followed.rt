@@ -229,7 +229,7 @@ fn join_and_act(
     Ok(all)
 }
 
-/// Whether all clients come to have what a read was told, which is no short text.
+/// Whether the log is long, and each client comes to have what a read was told.
 fn catch_up(desk: &mut RoomDesk, clients: &mut [Client], read: &Reply) -> Result<bool, Fail> {
     let mut all = desk.room().replica().version() > 500;
     for client in clients.iter_mut() {
@@ -238,6 +238,7 @@ fn catch_up(desk: &mut RoomDesk, clients: &mut [Client], read: &Reply) -> Result
     Ok(all)
 }
 
+/// The same, with a read.
 fn catch_up_with_a_read(desk: &mut RoomDesk, clients: &mut [Client]) -> Result<bool, Fail> {
     let read = desk.call(Call::Read)?;
     let caught_up = catch_up(desk, clients, &read);
@@ -245,6 +246,7 @@ fn catch_up_with_a_read(desk: &mut RoomDesk, clients: &mut [Client]) -> Result<b
     caught_up
 }
 
+/// Whether all goes as it has to, up to the end.
 fn all_follow(alloc: Global, desk: &mut RoomDesk, clients: &mut Vec<Client>) -> Result<bool, Fail> {
     let in_step = join_and_act(alloc, desk, clients, &mut Numbers { last: 1 })?;
     Ok(in_step && catch_up_with_a_read(desk, clients)?)
