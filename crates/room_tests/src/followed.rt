@@ -1,4 +1,4 @@
-//! Many editors of one room, which are given their replies late, again and out of order.
+//! Many editors of one room, which are given their replies early, late and again.
 use crate::fixtures::{empty_room, insertion, shows};
 use opid::Refusal;
 use room::{Call, Desk, Editor, Reply, RoomDesk};
@@ -136,6 +136,13 @@ impl Client {
         Ok(matches!(self.replies.last(), Some(Reply::Edits { from: _, es: _ })))
     }
 
+    /// Asks for edits behind any version, whether its editor came so far or not, and whether it may or not.
+    fn pull_anywhere(&mut self, desk: &mut RoomDesk, numbers: &mut Numbers) -> Result<(), Fail> {
+        let s = self.session;
+        let have = numbers.place_below(desk.room().replica().version() as usize);
+        self.ask(desk, Call::Pull { s, have, max: 64 })
+    }
+
     /// One step, whichever. Whether the room answered as it has to.
     fn act(
         &mut self,
@@ -147,7 +154,11 @@ impl Client {
             0 | 1 => self.insert(alloc, desk, numbers),
             2 if !self.editor.text().is_empty() => self.delete(desk, numbers),
             3 => self.delete_none(desk),
-            4 | 5 | 6 => self.pull(desk, numbers.place_below(64).saturating_add(1)),
+            4 => {
+                self.pull_anywhere(desk, numbers)?;
+                Ok(true)
+            }
+            5 | 6 => self.pull(desk, numbers.place_below(64).saturating_add(1)),
             7 => {
                 let all = self.replies.len();
                 self.receive_one_of(all, numbers)?;
