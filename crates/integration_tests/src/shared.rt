@@ -84,6 +84,15 @@ fn front(alloc: Global, s: u32, n: u32, v: u32, letter: char) -> Result<Call, Al
     })
 }
 
+// Whether the pass finds this after a call.
+fn finds_after<R: Wait>(rt: &R, room: &SharedRoom, pass: &mut Pass, call: Call, want: &str) -> bool
+    requires { IsPassOf room.now pass.old }
+    ensures { IsPassOf room.now pass.new }
+{
+    let called = room.call(rt, pass, call).is_ok();
+    called & reads(rt, room, pass, want)
+}
+
 // Each pass inserts a character through its own session and then finds it. Then they meet.
 fn take_turns<R: Wait>(
     rt: &R,
@@ -96,9 +105,10 @@ fn take_turns<R: Wait>(
     requires { IsPassOf room.now one.old × IsPassOf room.now other.old }
     ensures { IsPassOf room.now one.new × IsPassOf room.now other.new }
 {
-    let mut all = joins(rt, room, one) && joins(rt, room, other);
-    all &= room.call(rt, one, first).is_ok() && reads(rt, room, one, "a");
-    all &= room.call(rt, other, second).is_ok() && reads(rt, room, other, "b");
+    let mut all = joins(rt, room, one);
+    all &= joins(rt, room, other);
+    all &= finds_after(rt, room, one, first, "a");
+    all &= finds_after(rt, room, other, second, "b");
     all && room.meet(rt, one, other).is_ok()
 }
 
