@@ -1,9 +1,13 @@
 // Peers that the benchmark runs beside `rgatext lines`, over the same lines of JSON:
 //   yjs      answers an editor's join, insertions and pulls over a Yjs document
 //   json     reads each line and writes an answer of the right size, and keeps no document
+// These two write each answer by itself, before the next line is looked at, as `rgatext` does; with a second word "blocks" they
+// answer all lines of a block that was read with one write.
 //   kept     plays the editor's insertions and tells how many bytes keep the document, with no answers
 //   editors  plays the three editors' insertions on three Yjs documents in memory, with no answers
 const mode = process.argv[2];
+const inBlocks = process.argv[3] === "blocks";
+const fs = require("fs");
 const yjs = mode === "json" ? null : require("yjs");
 const readline = require("readline");
 
@@ -34,8 +38,13 @@ function serve() {
     const lines = (held + block).split("\n");
     held = lines.pop();
     let answers = "";
-    for (const line of lines) answers += JSON.stringify(answer(JSON.parse(line))) + "\n";
-    process.stdout.write(answers);
+    for (const line of lines) {
+      answers += JSON.stringify(answer(JSON.parse(line))) + "\n";
+      if (inBlocks) continue;
+      fs.writeSync(1, answers);
+      answers = "";
+    }
+    if (inBlocks) fs.writeSync(1, answers);
   });
 }
 

@@ -17,7 +17,7 @@ pub(crate) fn insertion(alloc: Global, n: u32, text: &str) -> Result<Call, Alloc
         n,
         v: 0,
         k: 0,
-        x: Characters::new(String::from_str(alloc, text)?),
+        x: Characters::from_str(alloc, text)?,
     })
 }
 

@@ -22,7 +22,7 @@ pub(crate) fn insertion(
     k: u32,
     text: &str,
 ) -> Result<Call, Fail> {
-    let x = Characters::new(String::from_str(alloc, text)?);
+    let x = Characters::from_str(alloc, text)?;
     Ok(Call::Ins { s, n, v, k, x })
 }
 

@@ -1,41 +1,70 @@
 //! The text of a version.
-ghost use Rattle.std.specs.Prelude.{◌≡◌, IsTrue, encode_utf8_all, string_bytes};
+ghost use Rattle.std.specs.Prelude.{◌≡◌, ◌≤◌, length, IsTrue, IfOk, IsOk, encode_utf8_all, string_bytes};
 ghost use Rattle.std.specs.Str.{all_scalars, chars};
+ghost use Rattle.versions.specs.KeptText.{bytes_of};
 
-use std::alloc::AllocError;
+use arrayvec::ArrayString;
+use std::alloc::{AllocError, Global};
 use std::marker::Model;
 
-/// A text, seen by contracts as the list of its characters (Unicode scalar values).
+/// A text as it is kept.
 #[derive(Debug, Drop)]
-pub struct Characters {
-    text: String,
+enum KeptText {
+    /// In place, as what one types is.
+    Short(ArrayString<16>),
+    Long(String),
 }
 
+/// A text, seen by contracts as the list of its characters (Unicode scalar values). One of at most 16 bytes takes no memory but
+/// its own 32 bytes.
+#[derive(Debug, Drop)]
+pub struct Characters {
+    text: KeptText,
+}
+
+const _: () = prove!(size_of::<Characters>() == 32);
+
 impl Model for Characters {
-    ghost use Rattle.std.specs.Prelude.{ℕ, List, string_bytes};
+    ghost use Rattle.std.specs.Prelude.{ℕ, List};
     ghost use Rattle.std.specs.Str.{chars};
+    ghost use Rattle.versions.specs.KeptText.{bytes_of};
 
     ghost Value = { List ℕ };
 
-    ghost view = { λ c. chars (string_bytes c.text) };
+    ghost view = { λ c. chars (bytes_of c.text) };
 }
 
 impl Clone for Characters {
     ghost is_clone = { λ s t. t ≡ s };
 
     fn clone(&self) -> Result<Characters, AllocError> {
-        Ok(Characters {
-            text: self.text.clone()?,
-        })
+        let text = match &self.text {
+            KeptText::Short(text) => KeptText::Short(*text),
+            KeptText::Long(text) => KeptText::Long(text.clone()?),
+        };
+        Ok(Characters { text })
     }
 }
 
 impl Characters {
-    /// The characters of a text. Takes no memory.
+    /// The characters of a text, which is kept as it is. Takes no memory.
     pub fn new(text: String) -> Self
         ensures { result ≡ chars (string_bytes text) }
     {
+        let text = KeptText::Long(text);
         Characters { text }
+    }
+
+    /// The characters of a text, which is copied. An error is for want of memory, of which at most 16 bytes take none.
+    pub fn from_str(alloc: Global, text: &str) -> Result<Self, AllocError>
+        ensures value { IfOk result (λ c. c ≡ chars text.now) }
+        ensures short { length text.now ≤ 16 → IsOk result }
+    {
+        let text = match ArrayString::from(text) {
+            Ok(short) => KeptText::Short(short),
+            Err(_) => KeptText::Long(String::from_str(alloc, text)?),
+        };
+        Ok(Characters { text })
     }
 
     /// The characters in UTF-8. Constant time.
@@ -46,12 +75,15 @@ impl Characters {
     {
         self.text.as_str()
     }
+}
 
-    /// The text. Takes no memory.
-    pub fn into_string(self) -> String
-        ensures { chars (string_bytes result) ≡ self }
+impl KeptText {
+    fn as_str(&self) -> &str
+        ensures { result.now ≡ bytes_of self.now }
     {
-        let Characters { text } = self;
-        text
+        match self {
+            KeptText::Short(text) => text.as_str(),
+            KeptText::Long(text) => text.as_str(),
+        }
     }
 }
