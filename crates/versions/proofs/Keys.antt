@@ -24,7 +24,7 @@ use Rattle.versions.specs.Joined.{key_of, plain}
 use Rattle.versions.proofs.Joins.{has_elem, elem_listed}
 
 -- the keys of two stamps are ordered as these are
-key_before : (a b : Stamp) → a.site < 32 → b.site < 32 → ltb (key_of a) (key_of b) ≡ is_before a b
+pub key_before : (a b : Stamp) → a.site < 32 → b.site < 32 → ltb (key_of a) (key_of b) ≡ is_before a b
 key_before a b p q = sym (ltb_from_iff (λ e. less e, λ l. before l (cases_lt a.sum b.sum)))
   where
     less : is_before a b ≡ true → key_of a < key_of b
