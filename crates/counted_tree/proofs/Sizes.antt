@@ -6,13 +6,10 @@ use Rattle.std.specs.Prelude.{◌^◌}
 use Rattle.std.specs.Option.{IfSome}
 use Rattle.counted_tree.specs.declared.entry.Entry.{Entry}
 use Rattle.counted_tree.specs.declared.size.Size.{Size}
-use Rattle.counted_tree.specs.declared.side.Side.{Side}
-use Rattle.counted_tree.specs.declared.side.Side.TheVariants.{Left, Right}
 use Rattle.counted_tree.specs.Entry.{visible, items_of, items, units}
 use Rattle.counted_tree.specs.Size.{size_of, through, beyond, IsSizeOf, ShowsMore}
 use Rattle.counted_tree.specs.Tree.{Tree, entries}
-use Rattle.counted_tree.specs.Tree.Tree.{Leaf, Fork}
-use Rattle.counted_tree.specs.Along.{inserted_at}
+use Rattle.counted_tree.specs.Tree.Tree.{Fork}
 use Rattle.counted_tree.specs.Changed.{Lists, put_after, put}
 use Rattle.counted_tree.proofs.Counts.{two_at_most, length-items, length-items-le, length-visible-le}
 use Rattle.counted_tree.proofs.Places.{length-fork}
@@ -74,34 +71,6 @@ left_within s m u l r x eu a b =
     )
 
 -- with one entry more
-items-inserted : (u : Bool) (t : Tree) (path : List Side) (x : Entry)
-    → length (items u (inserted_at t path x)) ≡ length (items u (entries t)) + length (items_of u x)
-items-inserted u Leaf path x = omega (arith, length-append (items_of u x) (items u []))
-items-inserted u (Fork l y r) [] x = omega (
-  arith,
-  length-fork (items_of u) (entries l) (x ∷ entries r) y,
-  length-fork (items_of u) (entries l) (entries r) y,
-  length-append (items_of u x) (items u (entries r)),
-)
-items-inserted u (Fork l y r) (Left ∷ path) x = omega (
-  arith,
-  length-fork (items_of u) (inserted_at l path x) (entries r) y,
-  length-fork (items_of u) (entries l) (entries r) y,
-  items-inserted u l path x,
-)
-items-inserted u (Fork l y r) (Right ∷ path) x = omega (
-  arith,
-  length-fork (items_of u) (entries l) (inserted_at r path x) y,
-  length-fork (items_of u) (entries l) (entries r) y,
-  items-inserted u r path x,
-)
-
-pub more_inserted : (t : Tree) (path : List Side) (x : Entry) → ShowsMore (size_of x) (inserted_at t path x) (entries t)
-more_inserted t path x = (
-  omega (arith, items-inserted false t path x, length-items (inserted_at t path x), length-items (entries t)),
-  items-inserted true t path x,
-)
-
 pub more_first : (xs : List Entry) (x : Entry) → ShowsMore (size_of x) (x ∷ xs) xs
 more_first xs x = (
   omega (arith, length-append (items_of false x) (items false xs), length-items (x ∷ xs), length-items xs),

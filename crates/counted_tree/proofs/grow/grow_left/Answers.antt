@@ -1,0 +1,134 @@
+use Rattle.std.proofs.Common.{◌≡◌, ◌∷◌, ◌-◌, ◌<◌, true, false, length, ap, arith, refl, sym, subst}
+use Rattle.counted_tree.specs.declared.size.Size.{Size}
+use Rattle.counted_tree.specs.Tree.{entries, height}
+use Rattle.counted_tree.specs.Tree.Tree.{Fork}
+use Rattle.counted_tree.specs.Branch.{IsBranchOf}
+use Rattle.counted_tree.specs.Change.{tree_in, IsRebuilt}
+use Rattle.counted_tree.specs.Table.{Hangs}
+use Rattle.counted_tree.proofs.Adding.{sound_node}
+use Rattle.counted_tree.proofs.Branches.{branch_small, read_row, row_of_branch}
+use Rattle.counted_tree.proofs.Counts.{two_at_most}
+use Rattle.counted_tree.proofs.Gains.{gains_left, gains_least, gains_one, gains_size}
+use Rattle.counted_tree.proofs.Growth.{length-trees, link_later, linked_balanced}
+use Rattle.counted_tree.proofs.Grows.{grown_left, stays_left}
+use Rattle.counted_tree.proofs.Rotations.{plain_fork}
+use Rattle.counted_tree.proofs.Sizes.{more_size, size_few}
+use Rattle.counted_tree.proofs.Tables.{hangs_left_side, own_split, top_below}
+use Rattle.counted_tree.proofs.grow.grow_left.Goals as goal
+
+pub plus-left_size-requires-clause-shown : goal.plus-left_size-requires-clause-shown
+plus-left_size-requires-clause-shown c =
+    let l = entries (tree_in c.args.nodes.now c.args.node.left) in
+    let few = size_few c.args.node.left_size l c.requires.node.left_size in
+    let one = ap (λ (s : Size). s.shown) c.of.ensures in
+    omega (arith, few.0, one, two_at_most false c.args.entry, gains_one c.args.entry l _ c.requires.gains, c.requires.few)
+
+pub plus-left_size-requires-clause-units : goal.plus-left_size-requires-clause-units
+plus-left_size-requires-clause-units c =
+    let l = entries (tree_in c.args.nodes.now c.args.node.left) in
+    let few = size_few c.args.node.left_size l c.requires.node.left_size in
+    let one = ap (λ (s : Size). s.units) c.of.ensures in
+    omega (arith, few.1, one, two_at_most true c.args.entry, gains_one c.args.entry l _ c.requires.gains, c.requires.few)
+
+pub branch_of-right-requires-clause-link : goal.branch_of-right-requires-clause-link
+branch_of-right-requires-clause-link c =
+    link_later _ _ c.args.node.right (omega (arith, length-trees c.args.nodes.now.nodes)) c.requires.node.right_earlier
+
+pub rebuild-requires-clause-size : goal.rebuild-requires-clause-size
+rebuild-requires-clause-size c =
+    let a = c.args.nodes.now in
+    let l = entries (tree_in a c.args.node.left) in
+    let s = entries (tree_in a c.args.left.link) in
+    more_size c.plus-left_size.result c.args.node.left_size c.of.result s l c.plus-left_size.ensures
+    (rw c.of.ensures (gains_size c.args.entry l s c.requires.gains)) c.requires.node.left_size
+
+pub returns-then-left-row-clause-grown : goal.returns-then-left-row-clause-grown
+returns-then-left-row-clause-grown c =
+    let a = c.args.nodes.now in
+    let d = c.rebuild.new.nodes in
+    let n = c.args.node in
+    let e = ap (tree_in a) c.branch_of-right.ensures.link in
+    let p : IsRebuilt (tree_in a c.args.left.link) n.entry (tree_in a n.right) (tree_in d c.rebuild.result.link) =
+    rw e at c.rebuild.ensures.rebuilt in
+    λ made g. grown_left (tree_in a n.left) (tree_in a n.right) _ (tree_in d c.rebuild.result.link) n.entry made
+    (length d.nodes - length a.nodes) c.requires.node.balanced g p (omega (arith, c.rebuild.ensures.adds.at_most))
+    (λ h. omega (arith, c.rebuild.ensures.plain (rw e h)))
+
+pub hang-requires-clause-row : goal.hang-requires-clause-row
+hang-requires-clause-row c =
+    let a = c.args.nodes.now in
+    let s = tree_in a c.args.left.link in
+    let long = length c.args.table.now in
+    row_of_branch c.args.left s long c.requires.left.tells (top_below long s
+    (own_split long (entries s) (c.args.node.entry ∷ entries (tree_in a c.args.node.right)) c.requires.ready.own).front)
+
+pub hang-requires-clause-least : goal.hang-requires-clause-least
+hang-requires-clause-least c =
+    (branch_small c.args.nodes.now c.args.left c.requires.sound c.requires.left (omega (arith, c.requires.few))).0
+
+pub hang-requires-clause-height : goal.hang-requires-clause-height
+hang-requires-clause-height c =
+    let small = branch_small c.args.nodes.now c.args.left c.requires.sound c.requires.left (omega (arith, c.requires.few)) in
+    omega (arith, small.1)
+
+pub append-number-requires-clause-node : goal.append-number-requires-clause-node
+append-number-requires-clause-node c =
+    let a = c.args.nodes.now in
+    let n = c.args.node in
+    let l = tree_in a n.left in
+    let r = tree_in a n.right in
+    let s = tree_in a c.args.left.link in
+    let row = read_row c.args.table.now (Fork l n.entry r) l r n.entry c.get-row.result c.index-table-node.result refl c.requires.row
+    c.get-row.ensures in
+    let below : height s < height (Fork l n.entry r) = omega (arith, row.1, c.requires.left.tells.height, c.if-left-row.false) in
+    let stays = stays_left l r s n.entry c.requires.node.balanced c.requires.rises below in
+    let size = more_size c.plus-left_size.result n.left_size c.of.result (entries s) (entries l) c.plus-left_size.ensures
+    (rw c.of.ensures (gains_size c.args.entry (entries l) (entries s) c.requires.gains)) c.requires.node.left_size in
+    let right = link_later _ _ n.right (omega (arith, length-trees a.nodes)) c.requires.node.right_earlier in
+    sound_node a _ c.requires.left.link right size c.requires.known.0
+    (linked_balanced a.nodes c.args.left.link c.requires.sound c.requires.left.link, c.requires.node.balanced.1, stays.0.0, stays.0.1)
+
+pub returns-clause-branch : goal.returns-clause-branch
+returns-clause-branch c =
+    let a = c.args.nodes.now in
+    let n = c.args.node in
+    let l = tree_in a n.left in
+    let r = tree_in a n.right in
+    let s = tree_in a c.args.left.link in
+    let row = read_row c.args.table.now (Fork l n.entry r) l r n.entry c.get-row.result c.index-table-node.result refl c.requires.row
+    c.get-row.ensures in
+    let below : height s < height (Fork l n.entry r) = omega (arith, row.1, c.requires.left.tells.height, c.if-left-row.false) in
+    let stays = stays_left l r s n.entry c.requires.node.balanced c.requires.rises below in
+    let gains = gains_left c.args.entry n.entry (entries l) (entries s) (entries r) c.requires.gains in
+    let over : IsBranchOf _ (Fork s n.entry r) = record {
+      top = (refl, refl);
+      least = omega (arith, c.min.ensures, row.0, gains_least c.args.entry (entries (Fork l n.entry r)) (entries (Fork s n.entry r)) gains);
+      height = omega (arith, row.1, stays.1);
+    } in
+    record { link = c.append-number.ensures.number; tells = subst (IsBranchOf _) (sym c.append-number.ensures.tree) over }
+
+pub returns-clause-grown : goal.returns-clause-grown
+returns-clause-grown c =
+    let a = c.args.nodes.now in
+    let n = c.args.node in
+    let l = tree_in a n.left in
+    let r = tree_in a n.right in
+    let s = tree_in a c.args.left.link in
+    let row = read_row c.args.table.now (Fork l n.entry r) l r n.entry c.get-row.result c.index-table-node.result refl c.requires.row
+    c.get-row.ensures in
+    let below : height s < height (Fork l n.entry r) = omega (arith, row.1, c.requires.left.tells.height, c.if-left-row.false) in
+    let stays = stays_left l r s n.entry c.requires.node.balanced c.requires.rises below in
+    let p = plain_fork s r n.entry (linked_balanced a.nodes c.args.left.link c.requires.sound c.requires.left.link)
+    c.requires.node.balanced.1 stays.0 in
+    let one : length c.append-number.new.nodes.nodes - length a.nodes ≡ 1 = omega (arith, c.append-number.ensures.count) in
+    λ made g. grown_left l r s _ n.entry made (length c.append-number.new.nodes.nodes - length a.nodes) c.requires.node.balanced g
+    (subst (IsRebuilt s n.entry r) (sym c.append-number.ensures.tree) p) (omega (arith, one)) (λ _. one)
+
+pub returns-clause-hangs : goal.returns-clause-hangs
+returns-clause-hangs c =
+    let a = c.args.nodes.now in
+    let n = c.args.node in
+    let s = tree_in a c.args.left.link in
+    subst (Hangs c.args.table.now c.hang.new.table) (sym c.append-number.ensures.tree)
+    (hangs_left_side s (tree_in a n.right) n.entry c.args.table.now c.hang.new.table c.requires.ready c.requires.other
+    (c.hang.ensures s c.requires.left.tells))

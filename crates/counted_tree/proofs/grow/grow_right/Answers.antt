@@ -1,0 +1,107 @@
+use Rattle.std.proofs.Common.{◌≡◌, ◌∷◌, ◌-◌, ◌<◌, length, ap, arith, refl, sym, subst}
+use Rattle.counted_tree.specs.Tree.{entries, height}
+use Rattle.counted_tree.specs.Tree.Tree.{Fork}
+use Rattle.counted_tree.specs.Branch.{IsBranchOf}
+use Rattle.counted_tree.specs.Change.{tree_in, IsRebuilt}
+use Rattle.counted_tree.specs.Table.{Hangs}
+use Rattle.counted_tree.proofs.Adding.{sound_node}
+use Rattle.counted_tree.proofs.Branches.{branch_small, read_row, row_of_branch}
+use Rattle.counted_tree.proofs.Gains.{gains_right, gains_least}
+use Rattle.counted_tree.proofs.Growth.{length-trees, link_later, linked_balanced}
+use Rattle.counted_tree.proofs.Grows.{grown_right, stays_right}
+use Rattle.counted_tree.proofs.Rotations.{plain_fork}
+use Rattle.counted_tree.proofs.Tables.{hangs_right_side, own_split, top_below}
+use Rattle.counted_tree.proofs.grow.grow_right.Goals as goal
+
+pub branch_of-left-requires-clause-link : goal.branch_of-left-requires-clause-link
+branch_of-left-requires-clause-link c =
+    link_later _ _ c.args.node.left (omega (arith, length-trees c.args.nodes.now.nodes)) c.requires.node.left_earlier
+
+pub returns-then-right-row-clause-grown : goal.returns-then-right-row-clause-grown
+returns-then-right-row-clause-grown c =
+    let a = c.args.nodes.now in
+    let d = c.rebuild.new.nodes in
+    let n = c.args.node in
+    let e = ap (tree_in a) c.branch_of-left.ensures.link in
+    let p : IsRebuilt (tree_in a n.left) n.entry (tree_in a c.args.right.link) (tree_in d c.rebuild.result.link) =
+    rw e at c.rebuild.ensures.rebuilt in
+    λ made g. grown_right (tree_in a n.left) (tree_in a n.right) _ (tree_in d c.rebuild.result.link) n.entry made
+    (length d.nodes - length a.nodes) c.requires.node.balanced g p (omega (arith, c.rebuild.ensures.adds.at_most))
+    (λ h. omega (arith, c.rebuild.ensures.plain (rw e h)))
+
+pub hang-requires-clause-row : goal.hang-requires-clause-row
+hang-requires-clause-row c =
+    let a = c.args.nodes.now in
+    let s = tree_in a c.args.right.link in
+    let long = length c.args.table.now in
+    row_of_branch c.args.right s long c.requires.right.tells (top_below long s
+    (own_split long (entries (tree_in a c.args.node.left)) (c.args.node.entry ∷ entries s) c.requires.ready.own).back.2)
+
+pub hang-requires-clause-least : goal.hang-requires-clause-least
+hang-requires-clause-least c =
+    (branch_small c.args.nodes.now c.args.right c.requires.sound c.requires.right (omega (arith, c.requires.few))).0
+
+pub hang-requires-clause-height : goal.hang-requires-clause-height
+hang-requires-clause-height c =
+    let small = branch_small c.args.nodes.now c.args.right c.requires.sound c.requires.right (omega (arith, c.requires.few)) in
+    omega (arith, small.1)
+
+pub append-number-requires-clause-node : goal.append-number-requires-clause-node
+append-number-requires-clause-node c =
+    let a = c.args.nodes.now in
+    let n = c.args.node in
+    let l = tree_in a n.left in
+    let r = tree_in a n.right in
+    let s = tree_in a c.args.right.link in
+    let row = read_row c.args.table.now (Fork l n.entry r) l r n.entry c.get-row.result c.index-table-node.result refl c.requires.row
+    c.get-row.ensures in
+    let below : height s < height (Fork l n.entry r) = omega (arith, row.1, c.requires.right.tells.height, c.if-right-row.false) in
+    let stays = stays_right l r s n.entry c.requires.node.balanced c.requires.rises below in
+    let left = link_later _ _ n.left (omega (arith, length-trees a.nodes)) c.requires.node.left_earlier in
+    sound_node a _ left c.requires.right.link c.requires.node.left_size c.requires.known.0
+    (c.requires.node.balanced.0, linked_balanced a.nodes c.args.right.link c.requires.sound c.requires.right.link, stays.0.0, stays.0.1)
+
+pub returns-clause-branch : goal.returns-clause-branch
+returns-clause-branch c =
+    let a = c.args.nodes.now in
+    let n = c.args.node in
+    let l = tree_in a n.left in
+    let r = tree_in a n.right in
+    let s = tree_in a c.args.right.link in
+    let row = read_row c.args.table.now (Fork l n.entry r) l r n.entry c.get-row.result c.index-table-node.result refl c.requires.row
+    c.get-row.ensures in
+    let below : height s < height (Fork l n.entry r) = omega (arith, row.1, c.requires.right.tells.height, c.if-right-row.false) in
+    let stays = stays_right l r s n.entry c.requires.node.balanced c.requires.rises below in
+    let gains = gains_right c.args.entry n.entry (entries r) (entries s) (entries l) c.requires.gains in
+    let over : IsBranchOf _ (Fork l n.entry s) = record {
+      top = (refl, refl);
+      least = omega (arith, c.min.ensures, row.0, gains_least c.args.entry (entries (Fork l n.entry r)) (entries (Fork l n.entry s)) gains);
+      height = omega (arith, row.1, stays.1);
+    } in
+    record { link = c.append-number.ensures.number; tells = subst (IsBranchOf _) (sym c.append-number.ensures.tree) over }
+
+pub returns-clause-grown : goal.returns-clause-grown
+returns-clause-grown c =
+    let a = c.args.nodes.now in
+    let n = c.args.node in
+    let l = tree_in a n.left in
+    let r = tree_in a n.right in
+    let s = tree_in a c.args.right.link in
+    let row = read_row c.args.table.now (Fork l n.entry r) l r n.entry c.get-row.result c.index-table-node.result refl c.requires.row
+    c.get-row.ensures in
+    let below : height s < height (Fork l n.entry r) = omega (arith, row.1, c.requires.right.tells.height, c.if-right-row.false) in
+    let stays = stays_right l r s n.entry c.requires.node.balanced c.requires.rises below in
+    let p = plain_fork l s n.entry c.requires.node.balanced.0
+    (linked_balanced a.nodes c.args.right.link c.requires.sound c.requires.right.link) stays.0 in
+    let one : length c.append-number.new.nodes.nodes - length a.nodes ≡ 1 = omega (arith, c.append-number.ensures.count) in
+    λ made g. grown_right l r s _ n.entry made (length c.append-number.new.nodes.nodes - length a.nodes) c.requires.node.balanced g
+    (subst (IsRebuilt l n.entry s) (sym c.append-number.ensures.tree) p) (omega (arith, one)) (λ _. one)
+
+pub returns-clause-hangs : goal.returns-clause-hangs
+returns-clause-hangs c =
+    let a = c.args.nodes.now in
+    let n = c.args.node in
+    let s = tree_in a c.args.right.link in
+    subst (Hangs c.args.table.now c.hang.new.table) (sym c.append-number.ensures.tree)
+    (hangs_right_side (tree_in a n.left) s n.entry c.args.table.now c.hang.new.table c.requires.ready c.requires.other
+    (c.hang.ensures s c.requires.right.tells))

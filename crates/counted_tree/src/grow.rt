@@ -1,0 +1,135 @@
+//! The tree of a node, once one of its sides has grown by an entry.
+ghost use Rattle.std.specs.Prelude.{◌≡◌, ℕ, ◌+◌, ◌-◌, ◌<◌, ◌≤◌, ◌∷◌, ◌++◌, length, Some};
+ghost use Rattle.counted_tree.specs.declared.side.Side.TheVariants.{Left, Right};
+ghost use Rattle.counted_tree.specs.Entry.{IsKnown};
+ghost use Rattle.counted_tree.specs.Tree.{entries, height};
+ghost use Rattle.counted_tree.specs.Arena.{IsSoundNode, AreSound, trees, tree_of};
+ghost use Rattle.counted_tree.specs.Branch.{IsBranch};
+ghost use Rattle.counted_tree.specs.Change.{tree_in, Adds};
+ghost use Rattle.counted_tree.specs.Grown.{Gains, MayRise, IsGrown};
+ghost use Rattle.counted_tree.specs.Table.{HasRow, PointsTo, IsReady, Hangs};
+
+use crate::above::Above;
+use crate::branch::{Branch, branch_of};
+use crate::build::append;
+use crate::entry::Entry;
+use crate::hang::hang;
+use crate::node::Node;
+use crate::nodes::Nodes;
+use crate::packed_row::PackedRow;
+use crate::rotate::rebuild;
+use crate::side::Side;
+use crate::size::Size;
+use crate::steps::Steps;
+
+/// The tree of a node whose left side has grown by an entry. The other side is looked at only where the left one is now as high as
+/// the whole was: else the whole stays as high as it was, and only the left side has to be hung.
+pub fn grow_left(
+    nodes: &mut Nodes,
+    table: &mut [PackedRow],
+    node: Node,
+    left: Branch,
+    entry: Entry,
+    steps: &mut Steps,
+) -> Branch
+    requires sound { AreSound nodes.old.nodes }
+    requires node { IsSoundNode (trees nodes.old.nodes) node }
+    requires known { IsKnown nodes.old.elements node.entry }
+    requires room { 3 ≤ nodes.old.node_room }
+    requires left { IsBranch nodes.old left }
+    requires gains { Gains entry (entries (tree_in nodes.old node.left)) (entries (tree_in nodes.old left.link)) }
+    requires rises { MayRise (tree_in nodes.old node.left) (tree_in nodes.old left.link) }
+    requires few { length (entries (tree_in nodes.old left.link)) + length (entries (tree_in nodes.old node.right)) < 131072 }
+    requires row { HasRow table.old (tree_of (trees nodes.old.nodes) node) }
+    requires other { PointsTo table.old (tree_in nodes.old node.right) (Some (record { elem = node.entry.elem; side = Right })) }
+    requires ready { IsReady table.old (tree_in nodes.old left.link) node.entry (tree_in nodes.old node.right) }
+    ensures adds { Adds nodes.old nodes.new 3 }
+    ensures branch { IsBranch nodes.new result }
+    ensures lists { entries (tree_in nodes.new result.link)
+        ≡ entries (tree_in nodes.old left.link) ++ node.entry ∷ entries (tree_in nodes.old node.right) }
+    ensures grown { (made : ℕ) → IsGrown (tree_in nodes.old node.left) (tree_in nodes.old left.link) made
+        → IsGrown (tree_of (trees nodes.old.nodes) node) (tree_in nodes.new result.link)
+        (made + (length nodes.new.nodes - length nodes.old.nodes)) }
+    ensures hangs { Hangs table.old table.new (tree_in nodes.new result.link) }
+{
+    let row = table[node.entry.elem as usize].get();
+    let left_size = node.left_size.plus(Size::of(&entry));
+    if left.height >= row.height {
+        let right = branch_of(nodes, table, node.right, steps);
+        return rebuild(nodes, table, left, left_size, node.entry, right, steps);
+    }
+    let on_left = Above {
+        elem: node.entry.elem,
+        side: Side::Left,
+    };
+    hang(table, left, Some(on_left));
+    let number = append(
+        nodes,
+        Node {
+            left: left.link,
+            left_size,
+            ..node
+        },
+    );
+    Branch {
+        link: Some(number),
+        elem: node.entry.elem,
+        least: row.least.min(entry.key),
+        height: row.height,
+    }
+}
+
+/// The tree of a node whose right side has grown by an entry. The other side is looked at only where the right one is now as high as
+/// the whole was: else the whole stays as high as it was, and only the right side has to be hung.
+pub fn grow_right(
+    nodes: &mut Nodes,
+    table: &mut [PackedRow],
+    node: Node,
+    right: Branch,
+    entry: Entry,
+    steps: &mut Steps,
+) -> Branch
+    requires sound { AreSound nodes.old.nodes }
+    requires node { IsSoundNode (trees nodes.old.nodes) node }
+    requires known { IsKnown nodes.old.elements node.entry }
+    requires room { 3 ≤ nodes.old.node_room }
+    requires right { IsBranch nodes.old right }
+    requires gains { Gains entry (entries (tree_in nodes.old node.right)) (entries (tree_in nodes.old right.link)) }
+    requires rises { MayRise (tree_in nodes.old node.right) (tree_in nodes.old right.link) }
+    requires few { length (entries (tree_in nodes.old node.left)) + length (entries (tree_in nodes.old right.link)) < 131072 }
+    requires row { HasRow table.old (tree_of (trees nodes.old.nodes) node) }
+    requires other { PointsTo table.old (tree_in nodes.old node.left) (Some (record { elem = node.entry.elem; side = Left })) }
+    requires ready { IsReady table.old (tree_in nodes.old node.left) node.entry (tree_in nodes.old right.link) }
+    ensures adds { Adds nodes.old nodes.new 3 }
+    ensures branch { IsBranch nodes.new result }
+    ensures lists { entries (tree_in nodes.new result.link)
+        ≡ entries (tree_in nodes.old node.left) ++ node.entry ∷ entries (tree_in nodes.old right.link) }
+    ensures grown { (made : ℕ) → IsGrown (tree_in nodes.old node.right) (tree_in nodes.old right.link) made
+        → IsGrown (tree_of (trees nodes.old.nodes) node) (tree_in nodes.new result.link)
+        (made + (length nodes.new.nodes - length nodes.old.nodes)) }
+    ensures hangs { Hangs table.old table.new (tree_in nodes.new result.link) }
+{
+    let row = table[node.entry.elem as usize].get();
+    if right.height >= row.height {
+        let left = branch_of(nodes, table, node.left, steps);
+        return rebuild(nodes, table, left, node.left_size, node.entry, right, steps);
+    }
+    let on_right = Above {
+        elem: node.entry.elem,
+        side: Side::Right,
+    };
+    hang(table, right, Some(on_right));
+    let number = append(
+        nodes,
+        Node {
+            right: right.link,
+            ..node
+        },
+    );
+    Branch {
+        link: Some(number),
+        elem: node.entry.elem,
+        least: row.least.min(entry.key),
+        height: row.height,
+    }
+}
