@@ -75,7 +75,7 @@ impl Rga {
         self.nodes.len()
     }
 
-    /// The element with the stamp. Takes steps of the order of log n.
+    /// The element with the stamp. Constant time where it is its site's last one, else steps of the order of log n.
     pub fn elem_of(&self, stamp: Stamp) -> Option<Elem>
         ensures value { result ≡ elem_of stamp self.now.entries }
         ensures within { IfSome result (λ k. k < length self.now.entries) }

@@ -40,11 +40,18 @@ impl SiteTable {
         }
     }
 
-    /// The element that the sum names. Takes steps of the order of log n.
+    /// The element that the sum names. Constant time where it is the greatest sum, as where one types; else steps of the
+    /// order of log n.
     pub fn find(&self, sum: u32) -> Option<Elem>
         ensures { result ≡ find_id sum self.now.ids }
     {
         let ids = self.ids.as_slice();
+        if !ids.is_empty() {
+            let (last, elem) = ids[ids.len() - 1];
+            if last == sum {
+                return Some(elem);
+            }
+        }
         match ids.binary_search_by_key(&sum, |id| id.0) {
             Ok(place) => Some(ids[place].1),
             Err(_) => None,
