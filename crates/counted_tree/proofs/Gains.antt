@@ -52,7 +52,7 @@ module _ (new : Entry) (xs ys : List Entry) (g : Gains new xs ys) where
   )
 
 -- what a side gains, the whole does
-pub gains_left : (new x : Entry) (xs ys zs : List Entry) → Gains new xs ys → Gains new (xs ++ x ∷ zs) (ys ++ x ∷ zs)
+unfoldable pub gains_left : (new x : Entry) (xs ys zs : List Entry) → Gains new xs ys → Gains new (xs ++ x ∷ zs) (ys ++ x ∷ zs)
 gains_left new x xs ys zs g = record {
   front = g.front;
   back = g.back ++ x ∷ zs;
@@ -60,7 +60,7 @@ gains_left new x xs ys zs g = record {
   with_it = ap (λ us. us ++ x ∷ zs) g.with_it ∙ append_assoc g.front (new ∷ g.back) (x ∷ zs);
 }
 
-pub gains_right : (new x : Entry) (xs ys zs : List Entry) → Gains new xs ys → Gains new (zs ++ x ∷ xs) (zs ++ x ∷ ys)
+unfoldable pub gains_right : (new x : Entry) (xs ys zs : List Entry) → Gains new xs ys → Gains new (zs ++ x ∷ xs) (zs ++ x ∷ ys)
 gains_right new x xs ys zs g = record {
   front = zs ++ x ∷ g.front;
   back = g.back;
@@ -68,10 +68,10 @@ gains_right new x xs ys zs g = record {
   with_it = ap (λ us. zs ++ x ∷ us) g.with_it ∙ sym (append_assoc zs (x ∷ g.front) (new ∷ g.back));
 }
 
-pub gains_first : (new : Entry) (xs : List Entry) → Gains new xs (new ∷ xs)
+unfoldable pub gains_first : (new : Entry) (xs : List Entry) → Gains new xs (new ∷ xs)
 gains_first new xs = record { front = []; back = xs; without = refl; with_it = refl }
 
-pub gains_inserted : (new : Entry) (t : Tree) (path : List Side) → Gains new (entries t) (inserted_at t path new)
+unfoldable pub gains_inserted : (new : Entry) (t : Tree) (path : List Side) → Gains new (entries t) (inserted_at t path new)
 gains_inserted new Leaf path = gains_first new []
 gains_inserted new (Fork l x r) [] = gains_right new x (entries r) (new ∷ entries r) (entries l) (gains_first new (entries r))
 gains_inserted new (Fork l x r) (Left ∷ path) =

@@ -234,9 +234,9 @@ impl VersionTree {
     }
 
     /// Adds a version with a further element, shown, right after another one, or before all others: its key, below 2^23,
-    /// and whether it has two units stay with it for good. Takes memory from the reserve alone, and a logarithmic number of
-    /// steps and nodes.
-    pub fn insert_after(&mut self, before: Option<u32>, elem: u32, key: u32, wide: bool)
+    /// and whether it has two units stay with it for good. Tells how many shown elements stand before it, and how many units
+    /// these have, as `ranks` would. Takes memory from the reserve alone, and a logarithmic number of steps and nodes.
+    pub fn insert_after(&mut self, before: Option<u32>, elem: u32, key: u32, wide: bool) -> Size
         requires room { 1 ≤ self.old.room }
         requires there { IfSome before (λ e. Lists e (newest_list self.old)) }
         requires number { elem ≡ length (newest_list self.old) }
@@ -246,6 +246,9 @@ impl VersionTree {
         ensures nodes { self.new.nodes ≤ self.old.nodes + (2 * digits (length (newest_list self.new)) + 4) }
         ensures at_most { self.new.nodes ≤ self.old.nodes + 40 }
         ensures room { self.new.room + 1 ≡ self.old.room }
+        ensures shown { result.shown ≡ length (visible (entries_before elem (newest_list self.new))) }
+        ensures units { result.units ≡ length (units (entries_before elem (newest_list self.new))) }
+        ensures few { (result.shown ≤ 131072) × (result.units ≤ 2 * 131072) }
     {
         let root = last_root(self.roots.as_slice());
         let entry = Entry {
@@ -254,7 +257,7 @@ impl VersionTree {
             wide,
             key,
         };
-        let top = insert(
+        let (top, rank) = insert(
             &mut self.nodes,
             &mut self.table,
             root.link.get(),
@@ -266,6 +269,7 @@ impl VersionTree {
             link: Link::new(Some(top)),
             size: root.size.plus(Size::of(&entry)),
         });
+        rank
     }
 
     /// Adds a version with an element hidden. Takes memory from the reserve alone, and a logarithmic number of steps and

@@ -92,21 +92,6 @@ put-plain (Some k) x (y ∷ ys) = go (eqb y.elem k) (put-plain (Some k) x ys)
     go true ih = refl
     go false ih = ap (λ l. plain y ∷ l) ih
 
-put_after-lists : (k : ℕ) (x : Entry) (xs : List Entry) → Lists k xs → Lists x.elem (put_after k x xs)
-put_after-lists k x [] h = absurd h
-put_after-lists k x (y ∷ ys) h = go (eqb y.elem k) refl h (put_after-lists k x ys)
-  where
-    go : (t : Bool) → eqb y.elem k ≡ t → (y.elem ≡ k) ⊎ Lists k ys → (Lists k ys → Lists x.elem (put_after k x ys))
-        → Lists x.elem (cond t (y ∷ x ∷ ys) (y ∷ put_after k x ys))
-    go true e h ih = inr (inl refl)
-    go false e (inl q) ih = absurd (both_ways (eqb y.elem k) e (eq-eqb y.elem k q))
-    go false e (inr q) ih = inr (ih q)
-
--- it is there then
-pub put-lists : (o : Option ℕ) (x : Entry) (xs : List Entry) → IfSome o (λ k. Lists k xs) → Lists x.elem (put o x xs)
-put-lists None x xs h = inl refl
-put-lists (Some k) x xs h = put_after-lists k x xs h
-
 -- the same for the elements of a log
 pub stands : (log : List Operation) (es : List rga.Entry) (o : Option Stamp) (s : Stamp) (from : Option ℕ) → IsLawful log → es ≡ listed log
     → s.site < 32 → rga.parent_refusal es o s ≡ None → from ≡ option_and_then (λ p. rga.elem_of p es) o
