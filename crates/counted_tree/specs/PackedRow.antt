@@ -15,5 +15,5 @@ abbrev pub above_of : ℕ → Option Above
 above_of n = if n == 0 then None else Some (record { elem = (n - 1) / 2; side = side_of (n - 1) })
 
 -- the row that is kept so
-abbrev pub told_by : Inside → Row
-told_by r = record { above = above_of r.above; least = r.tells / 2 ^ 6; height = r.tells % 2 ^ 6 }
+abbrev pub unpacked_row : Inside → Row
+unpacked_row r = record { above = above_of r.above; least = r.least_and_height / 2 ^ 6; height = r.least_and_height % 2 ^ 6 }

@@ -14,7 +14,7 @@ use crate::packed_row::PackedRow;
 use crate::side::Side;
 use crate::steps::Steps;
 
-/// Whether each entry of a part of the newest tree has a greater key. One step.
+/// Whether each entry of a part of the newest tree has a greater key. At most one step.
 fn are_greater(
     nodes: &Nodes,
     table: &[PackedRow],

@@ -34,7 +34,7 @@ pub fn grow_left(
 ) -> Branch
     requires sound { AreSound nodes.old.nodes }
     requires node { IsSoundNode (trees nodes.old.nodes) node }
-    requires known { IsKnown nodes.old.elements node.entry }
+    requires known { IsKnown nodes.old.keys_and_widths node.entry }
     requires room { 3 ≤ nodes.old.node_room }
     requires left { IsBranch nodes.old left }
     requires gains { Gains entry (entries (tree_in nodes.old node.left)) (entries (tree_in nodes.old left.link)) }
@@ -91,7 +91,7 @@ pub fn grow_right(
 ) -> Branch
     requires sound { AreSound nodes.old.nodes }
     requires node { IsSoundNode (trees nodes.old.nodes) node }
-    requires known { IsKnown nodes.old.elements node.entry }
+    requires known { IsKnown nodes.old.keys_and_widths node.entry }
     requires room { 3 ≤ nodes.old.node_room }
     requires right { IsBranch nodes.old right }
     requires gains { Gains entry (entries (tree_in nodes.old node.right)) (entries (tree_in nodes.old right.link)) }

@@ -16,7 +16,7 @@ pub struct PackedRow {
     /// 0 where it hangs from nothing, else twice the number of the element above, and 1 on its left side, 2 on its right one.
     above: u32,
     /// The least key, and the height.
-    tells: u32,
+    least_and_height: u32,
 }
 
 const _: () = prove!(size_of::<PackedRow>() == 8);
@@ -26,9 +26,9 @@ impl Model for PackedRow {
 
     ghost Value = { Row };
 
-    ghost use Rattle.counted_tree.specs.PackedRow.{told_by};
+    ghost use Rattle.counted_tree.specs.PackedRow.{unpacked_row};
 
-    ghost view = { told_by };
+    ghost view = { unpacked_row };
 }
 
 impl PackedRow {
@@ -41,7 +41,7 @@ impl PackedRow {
     {
         PackedRow {
             above: kept_of(row.above),
-            tells: row.least * HEIGHTS + u32::from(row.height),
+            least_and_height: row.least * HEIGHTS + u32::from(row.height),
         }
     }
 
@@ -51,8 +51,8 @@ impl PackedRow {
     {
         Row {
             above: above_of(self.above),
-            least: self.tells / HEIGHTS,
-            height: (self.tells % HEIGHTS) as u8,
+            least: self.least_and_height / HEIGHTS,
+            height: (self.least_and_height % HEIGHTS) as u8,
         }
     }
 }

@@ -43,7 +43,7 @@ impl Model for VersionTree {
     ghost invariant = { λ a. AreVersions a.nodes a.roots.items a.room
         × IsNewest a.table.items (tree_in a.nodes (newest_root a.roots.items).link)
         × (vec_len a.roots + a.room ≤ vec_capacity a.roots) × (vec_len a.table + a.room ≤ vec_capacity a.table)
-        × (length a.nodes.elements ≡ vec_len a.table) × (a.room ≤ a.nodes.element_room) };
+        × (length a.nodes.keys_and_widths ≡ vec_len a.table) × (a.room ≤ a.nodes.key_and_width_room) };
 }
 
 impl VersionTree {
@@ -225,7 +225,7 @@ impl VersionTree {
     {
         if self.room < n {
             self.nodes.reserve(31 * n)?;
-            self.nodes.reserve_elements(n)?;
+            self.nodes.reserve_keys_and_widths(n)?;
             self.table.reserve(n)?;
             self.roots.reserve(n)?;
             self.room = n;
