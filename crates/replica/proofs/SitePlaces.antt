@@ -1,5 +1,5 @@
 -- The rows of places: one place more in a row, and rows whose memory grows.
-use Rattle.std.proofs.Common.{◌≡◌, ℕ, zero, suc, ◌+◌, ◌<◌, ◌≤◌, List, [], ◌∷◌, ◌++◌, length, get_or, set, map, max, replicate, refl, ap}
+use Rattle.std.proofs.Common.{◌≡◌, ℕ, zero, suc, ◌+◌, ◌<◌, ◌≤◌, List, [], ◌∷◌, ◌++◌, length, get_or, set, map, replicate, refl, ap}
 use Rattle.std.proofs.Common.{◌∙◌, sym, subst, arith, ◌⊎◌, inl, inr, get_or-set_other, get_or-set_same}
 use Rattle.std.specs.List.{AllByRecursion as Each}
 use mathlib.Core.Path.{ap₂}
@@ -53,12 +53,6 @@ kept_room (s ∷ rows) zero room r new l e f h =
     let same : r.room ≡ s.room = ap (λ (q : PlacesOfOne). q.room) e in
     (omega (arith, same, f, h.0), h.1)
 kept_room (s ∷ rows) (suc i) room r new l e f h = (h.0, kept_room rows i room r new (omega arith) e f h.1)
-
--- the greater of two reserves
-pub greater_room : (rows : List PlacesOfOne) (a b room : ℕ) → room ≡ max a b → Each (λ q. a ≤ q.room) rows → Each (λ q. b ≤ q.room) rows
-    → Each (λ q. room ≤ q.room) rows
-greater_room [] a b room e f g = tt
-greater_room (r ∷ rows) a b room e f g = (omega (arith, e, f.0, g.0), greater_room rows a b room e f.1 g.1)
 
 -- what holds of each place
 pub each_row : (rows : List PlacesOfOne) (n : ℕ) → ((k : ℕ) (d : PlacesOfOne) → k < length rows → n ≤ (get_or rows k d).room)

@@ -9,6 +9,9 @@ use std::alloc::Global;
 use std::array;
 use std::marker::Model;
 
+/// Memory is taken for at least so many places at a time.
+const AT_ONCE: usize = 64;
+
 /// The places of one site's operations, in rising order.
 #[derive(Drop)]
 struct SitePlaces {
@@ -69,6 +72,8 @@ impl SitePlaces {
 pub(crate) struct Places {
     rows: [SitePlaces; SITES],
     room: usize,
+    /// For so many places of any site there is memory, of which `room` are promised.
+    ahead: usize,
 }
 
 impl Model for Places {
@@ -80,7 +85,7 @@ impl Model for Places {
 
     ghost view = { λ p. record { rows = map (λ r. r.places) p.rows; room = p.room } };
 
-    ghost invariant = { λ p. AllByRecursion (λ r. p.room ≤ r.room) p.rows };
+    ghost invariant = { λ p. AllByRecursion (λ r. p.ahead ≤ r.room) p.rows × (p.room ≤ p.ahead) };
 }
 
 impl Places {
@@ -91,6 +96,7 @@ impl Places {
         Places {
             rows: array::from_fn(|_| SitePlaces::new(alloc)),
             room: 0,
+            ahead: 0,
         }
     }
 
@@ -110,18 +116,23 @@ impl Places {
     {
         self.rows[usize::from(site.number())].push(place);
         self.room -= 1;
+        self.ahead -= 1;
     }
 
-    /// Reserves memory for `n` more places of any site. Constant time where it is there. Refused with `Memory`.
+    /// Reserves memory for `n` more places of any site. Constant time where it is there; else it is taken for at least
+    /// 64 places of each site at a time, of 4 bytes. Refused with `Memory`.
     pub(crate) fn reserve(&mut self, n: usize) -> Result<(), Refusal>
         ensures ok { OnOk result (self.new ≡ record self.old { room = max self.old.room n }) }
         ensures err { OnErr result (self.new ≡ self.old) }
         ensures memory { IfErr result (λ e. (e ≡ Memory) × (self.old.room < n)) }
     {
-        if n <= self.room {
+        if n <= self.ahead {
+            self.room = self.room.max(n);
             return Ok(());
         }
-        reserve_each(&mut self.rows, n)?;
+        let more = n.max(AT_ONCE);
+        reserve_each(&mut self.rows, more)?;
+        self.ahead = more;
         self.room = self.room.max(n);
         Ok(())
     }

@@ -23,6 +23,9 @@ use std::marker::Model;
 /// The most elements of a list.
 pub const LIMIT: usize = 131_072;
 
+/// Memory is taken for at least so many insertions at a time.
+const AT_ONCE: usize = 64;
+
 /// Where an element was put in: the element itself, and the one right before it (`None`: it is the first).
 #[derive(Clone, Copy, Debug, PartialEq, Eq)]
 pub struct Place {
@@ -38,10 +41,12 @@ pub struct Rga {
     nodes: Vec<PackedNode>,
     tables: [SiteTable; SITES],
     room: usize,
+    /// For so many insertions there is memory, of which `room` are promised.
+    ahead: usize,
 }
 
 impl Model for Rga {
-    ghost use Rattle.std.specs.Prelude.{vec_len, vec_capacity};
+    ghost use Rattle.std.specs.Prelude.{◌≤◌, vec_len, vec_capacity};
     ghost use Rattle.rga_list.specs.Entries.{LinkedElements};
 
     ghost Value = { LinkedElements };
@@ -50,7 +55,8 @@ impl Model for Rga {
 
     ghost view = { λ a. record { entries = entries_of a.nodes.items a.first; room = a.room } };
 
-    ghost invariant = { λ a. IsList a.nodes.items a.first a.tables × AreReserved (vec_len a.nodes) (vec_capacity a.nodes) a.tables a.room };
+    ghost invariant = { λ a. IsList a.nodes.items a.first a.tables × AreReserved (vec_len a.nodes) (vec_capacity a.nodes) a.tables a.ahead
+        × (a.room ≤ a.ahead) };
 }
 
 impl Rga {
@@ -63,6 +69,7 @@ impl Rga {
             nodes: Vec::new(alloc),
             tables: array::from_fn(|_| SiteTable::new(alloc)),
             room: 0,
+            ahead: 0,
         }
     }
 
@@ -124,16 +131,23 @@ impl Rga {
         Some(Stamp { sum, site })
     }
 
-    /// Reserves memory for the next `n` insertions, so that they aren't refused with `Memory`. As any site may
-    /// insert, each of the 32 tables gets room for `n` identifiers of 8 bytes, beside `n` elements of 16: for 64
-    /// insertions that is some 17 KB, whose reserve is kept. Refused with `Memory`.
+    /// Reserves memory for the next `n` insertions, so that they aren't refused with `Memory`. Constant time where it
+    /// is there; else it is taken for at least 64 insertions at a time. As any site may insert, each of the 32 tables
+    /// gets room for as many identifiers of 8 bytes, beside as many elements of 16: for 64 insertions that is some
+    /// 17 KB, whose reserve is kept. Refused with `Memory`.
     pub fn reserve(&mut self, n: usize) -> Result<(), Refusal>
         ensures ok { OnOk result (self.new ≡ record self.old { room = max self.old.room n }) }
         ensures err { OnErr result (self.new ≡ self.old) }
         ensures memory { IfErr result (λ e. e ≡ Memory) }
     {
-        self.nodes.reserve(n)?;
-        reserve_each(&mut self.tables, n)?;
+        if n <= self.ahead {
+            self.room = self.room.max(n);
+            return Ok(());
+        }
+        let more = n.max(AT_ONCE);
+        self.nodes.reserve(more)?;
+        reserve_each(&mut self.tables, more)?;
+        self.ahead = more;
         self.room = self.room.max(n);
         Ok(())
     }
@@ -229,6 +243,7 @@ impl Rga {
         };
         link(&mut self.nodes, &mut self.first, node, before);
         self.room = self.room.saturating_sub(1);
+        self.ahead = self.ahead.saturating_sub(1);
         Ok(elem)
     }
 

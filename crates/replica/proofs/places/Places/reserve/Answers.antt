@@ -1,11 +1,13 @@
 -- Each row has room for as many.
-use Rattle.replica.proofs.SitePlaces.{greater_room}
+use Rattle.std.proofs.Common.{arith}
 use Rattle.replica.proofs.places.Places.reserve.Goals as goal
 
 pub invariant_of-self : goal.invariant_of-self
-invariant_of-self c = c.reserve_each.ensures.kept c.self.inside.room c.self.invariant
+invariant_of-self c = (c.self.invariant.0, omega (arith, c.self.invariant.1, c.max-self-inside.ensures))
+
+pub invariant_of-self-in_err-reserve_each : goal.invariant_of-self-in_err-reserve_each
+invariant_of-self-in_err-reserve_each c = (c.reserve_each.ensures.kept c.self.inside.ahead c.self.invariant.0, c.self.invariant.1)
 
 pub invariant_of-self-2 : goal.invariant_of-self-2
 invariant_of-self-2 c =
-    greater_room c.reserve_each.new.rows c.self.inside.room c.args.n c.max-self-inside.result c.max-self-inside.ensures
-    (c.reserve_each.ensures.kept c.self.inside.room c.self.invariant) c.in_ok-reserve_each.ensures.ok
+    (c.in_ok-reserve_each.ensures.ok, omega (arith, c.self.invariant.1, c.max-more.ensures, c.max-self-inside-2.ensures))

@@ -49,7 +49,7 @@ link-requires-clause-next c = λ i e.
     omega (arith, size, within, c.requires.few)
 
 -- what holds once the element is linked
-after : (c : goal.After-self-1) → IsList c.link.new.nodes.items c.link.new.first
+after : (c : goal.After-self-2-1) → IsList c.link.new.nodes.items c.link.new.first
     (set c.self.inside.tables c.from-site.result c.push.new.self)
     × (entries_of c.link.new.nodes.items c.link.new.first ≡ put_behind c.args.before
     (record { elem = length c.args.self.now.entries; stamp = c.args.stamp; ch = c.args.ch; shown = true }) c.args.self.now.entries)
@@ -81,7 +81,7 @@ pub invariant_of-self-2 : goal.invariant_of-self-2
 invariant_of-self-2 c =
     let width : c.from-site.result < length c.self.inside.tables =
     omega (arith, c.from-site.ensures, c.number.ensures.range, c.self.invariant.0.width) in
-    let room : c.saturating_sub-self-inside.result ≡ c.self.inside.room - 1 = c.saturating_sub-self-inside.ensures in
+    let ahead : c.saturating_sub-self-inside-2.result ≡ c.self.inside.ahead - 1 = c.saturating_sub-self-inside-2.ensures in
     let row : c.push.new.self.room ≡ (ids_at c.self.inside.tables c.from-site.result).room - 1 =
     ap (λ (r : SiteIds). r.room) c.in_ok-push.ensures.ok
     ∙ ap (λ (r : SiteIds). r.room - 1) (row_same c.self.inside.tables c.from-site.result c.from-site.result c.index-self-site.result
@@ -90,7 +90,7 @@ invariant_of-self-2 c =
       record {
         elements = omega (
           arith,
-          room,
+          ahead,
           c.link.ensures.len,
           c.link.ensures.capacity,
           c.reserve.ensures.len,
@@ -98,10 +98,11 @@ invariant_of-self-2 c =
           c.reserve.ensures.capacity,
           c.self.invariant.1.elements,
         );
-        ids = λ k l. subst (λ n. n ≤ (ids_at (set c.self.inside.tables c.from-site.result c.push.new.self) k).room) (sym room)
-            (room-pushed c.self.inside.tables c.from-site.result k c.self.inside.room c.push.new.self width row c.self.invariant.1.ids l
+        ids = λ k l. subst (λ n. n ≤ (ids_at (set c.self.inside.tables c.from-site.result c.push.new.self) k).room) (sym ahead)
+            (room-pushed c.self.inside.tables c.from-site.result k c.self.inside.ahead c.push.new.self width row c.self.invariant.1.ids l
             (omega (arith, c.from-site.ensures, c.number.ensures.range)));
       },
+      omega (arith, ahead, c.saturating_sub-self-inside.ensures, c.self.invariant.2),
     )
 
 pub returns-clause-list : goal.returns-clause-list
@@ -114,7 +115,7 @@ pub returns-clause-before : goal.returns-clause-before
 returns-clause-before c = (after c).2
 
 -- each element stands there once
-own : (c : goal.After-self-1) → AreOfOwn c.args.self.now.entries
+own : (c : goal.After-self-2-1) → AreOfOwn c.args.self.now.entries
 own c = subst (λ (r : LinkedElements). AreOfOwn r.entries) c.self.view_is
     (AreOfOwn-once c.self.inside.nodes.items (order_of c.self.inside.nodes.items c.self.inside.first) c.self.invariant.0.linked.once)
 

@@ -34,7 +34,7 @@ index_mut-node-requires c =
     omega arith
 
 pub invariant_of-self : goal.invariant_of-self
-invariant_of-self c = ((after c).0, c.self.invariant.1)
+invariant_of-self c = ((after c).0, c.self.invariant.1, c.self.invariant.2)
 
 pub returns-in-None-clause-cause : goal.returns-in-None-clause-cause
 returns-in-None-clause-cause c = (refl, has_stamp-none c.args.target c.args.self.now.entries (sym c.elem_of.ensures.value ∙ c.in-None.is))

@@ -21,4 +21,5 @@ invariant_of-result c =
       subst (λ v. IsList v None c.from_fn.result) (sym c.new.ensures.items)
           (IsList-none c.from_fn.result c.from_fn.ensures.items.long (λ k. ap (λ (r : SiteIds). r.ids) (each k))),
       record { elements = omega arith; ids = λ k l. omega arith },
+      omega arith,
     )

@@ -1,5 +1,5 @@
 -- A reserve leaves what holds of the list, and the room is there.
-use Rattle.std.proofs.Common.{◌<◌, List, subst, sym, arith, length}
+use Rattle.std.proofs.Common.{List, subst, sym, arith}
 use Rattle.rga_list.specs.declared.links.Node.{Node}
 use Rattle.rga_list.specs.Links.{IsList}
 use Rattle.rga_list.proofs.Reserved.{IsList-same}
@@ -14,6 +14,7 @@ invariant_of-self-in_err-reserve_each c = (
     elements = omega (arith, c.reserve.ensures.len, c.reserve.ensures.capacity, c.self.invariant.1.elements);
     ids = λ k l. omega (arith, c.self.invariant.1.ids k l, c.reserve_each.ensures.kept k);
   },
+  c.self.invariant.2,
 )
 
 pub invariant_of-self-2 : goal.invariant_of-self-2
@@ -22,21 +23,8 @@ invariant_of-self-2 c = (
       (IsList-same c.self.inside.nodes.items c.self.inside.first c.self.inside.tables c.reserve_each.new.tables c.reserve_each.auto.tables
       c.reserve_each.ensures.same c.self.invariant.0),
   record {
-    elements = omega (
-      arith,
-      c.reserve.ensures.len,
-      c.in_ok-reserve.ensures.ok,
-      c.reserve.ensures.capacity,
-      c.self.invariant.1.elements,
-      c.max-self-inside.ensures,
-    );
-    ids = λ k l. (let enough : k < length c.self.inside.tables = omega (arith, l, c.self.invariant.0.width) in
-        omega (
-          arith,
-          c.max-self-inside.ensures,
-          c.self.invariant.1.ids k l,
-          c.reserve_each.ensures.kept k,
-          c.in_ok-reserve_each.ensures.ok k enough,
-        ));
+    elements = omega (arith, c.reserve.ensures.len, c.in_ok-reserve.ensures.ok);
+    ids = λ k l. c.in_ok-reserve_each.ensures.ok k (omega (arith, l, c.self.invariant.0.width));
   },
+  omega (arith, c.self.invariant.2, c.max-more.ensures, c.max-self-inside-2.ensures),
 )
