@@ -14,12 +14,14 @@ use Rattle.counted_tree.specs.PackedNode.{elem_of, node_of}
 use Rattle.counted_tree.specs.Store.{nodes_of, AreElemsBelow}
 
 -- the element of a node is one of them
-pub elem_below_at : (n : ℕ) (packed : List PackedNode) (i : ℕ) (r : PackedNode) → AreElemsBelow n packed → slice_get packed i ≡ Some r → elem_of r < n
+pub elem_below_at : (n : ℕ) (packed : List PackedNode) (i : ℕ) (r : PackedNode) → AreElemsBelow n packed → slice_get packed i ≡ Some r
+    → elem_of r < n
 elem_below_at n [] i r h e = absurd (cc)
 elem_below_at n (q ∷ packed) zero r h e = let same : q ≡ r = cc in rw (sym same) h.0
 elem_below_at n (q ∷ packed) (suc i) r h e = elem_below_at n packed i r h.1 e
 
-pub elems_below_push : (n : ℕ) (packed : List PackedNode) (r : PackedNode) → AreElemsBelow n packed → elem_of r < n → AreElemsBelow n (packed ++ r ∷ [])
+pub elems_below_push : (n : ℕ) (packed : List PackedNode) (r : PackedNode) → AreElemsBelow n packed → elem_of r < n
+    → AreElemsBelow n (packed ++ r ∷ [])
 elems_below_push n [] r h k = (k, tt)
 elems_below_push n (q ∷ packed) r h k = (h.0, elems_below_push n packed r h.1 k)
 
@@ -28,7 +30,8 @@ elems_below_more n m [] p h = tt
 elems_below_more n m (q ∷ packed) p h = (omega (arith, h.0), elems_below_more n m packed p h.1)
 
 -- what is kept of one element more changes no node
-pub nodes_with_element : (keys_and_widths : List ℕ) (key_and_width : ℕ) (packed : List PackedNode) → AreElemsBelow (length keys_and_widths) packed
+pub nodes_with_element : (keys_and_widths : List ℕ) (key_and_width : ℕ) (packed : List PackedNode)
+    → AreElemsBelow (length keys_and_widths) packed
     → nodes_of (keys_and_widths ++ key_and_width ∷ []) packed ≡ nodes_of keys_and_widths packed
 nodes_with_element keys_and_widths key_and_width [] h = refl
 nodes_with_element keys_and_widths key_and_width (r ∷ packed) h =
@@ -47,12 +50,14 @@ node_at keys_and_widths packed i r t e k =
     slice_get-map f packed i ∙ ap (option_map f) e
     ∙ ap (λ v. Some (node_of v r)) (get_or_from_slice_get keys_and_widths (elem_of r) t 0 k)
 
-pub nodes_pushed : (keys_and_widths : List ℕ) (packed : List PackedNode) (r : PackedNode) (n : Node) → node_of (key_and_width_of n.entry) r ≡ n
+pub nodes_pushed : (keys_and_widths : List ℕ) (packed : List PackedNode) (r : PackedNode) (n : Node)
+    → node_of (key_and_width_of n.entry) r ≡ n
     → elem_of r ≡ n.entry.elem → slice_get keys_and_widths n.entry.elem ≡ Some (key_and_width_of n.entry)
     → nodes_of keys_and_widths (packed ++ r ∷ []) ≡ nodes_of keys_and_widths packed ++ n ∷ []
 nodes_pushed keys_and_widths packed r n e same k =
     let f : PackedNode → Node = λ q. node_of (get_or keys_and_widths (elem_of q) 0) q in
-    let at = ap (λ i. get_or keys_and_widths i 0) same ∙ get_or_from_slice_get keys_and_widths n.entry.elem (key_and_width_of n.entry) 0 k in
+    let at = ap (λ i. get_or keys_and_widths i 0) same
+    ∙ get_or_from_slice_get keys_and_widths n.entry.elem (key_and_width_of n.entry) 0 k in
     map_push f packed r ∙ ap (λ m. map f packed ++ m ∷ []) (ap (λ t. node_of t r) at ∙ e)
 
 -- a number that stands for a key and a width is read back from these

@@ -15,7 +15,12 @@ index-requires c =
     let long : length (nodes_of keys_and_widths nodes) ≡ length c.args.self.now.nodes = ap (λ (s : Store). length s.nodes) c.self.view_is in
     let at : slice_get nodes c.args.at ≡ Some packed =
     read_at nodes c.args.at packed (omega (arith, long, length-nodes_of keys_and_widths nodes, c.requires)) c.index-packed.ensures in
-    omega (arith, elem_below_at (length keys_and_widths) nodes c.args.at packed c.self.invariant.3 at, c.elem_of.ensures, c.self.inside.keys_and_widths.ok.0)
+    omega (
+      arith,
+      elem_below_at (length keys_and_widths) nodes c.args.at packed c.self.invariant.3 at,
+      c.elem_of.ensures,
+      c.self.inside.keys_and_widths.ok.0,
+    )
 
 pub returns-clause-node : goal.returns-clause-node
 returns-clause-node c =
@@ -48,5 +53,6 @@ returns-clause-told c =
     ∙ read_at keys_and_widths c.elem_of.result t (omega (arith, told, c.elem_of.ensures)) c.index.ensures in
     let stays : slice_get keys_and_widths (elem_of packed) ≡ Some (key_and_width_of (node_of t packed).entry) =
     key_and_width ∙ ap Some (sym (key_and_width_back t)) in
-    subst (λ (s : Store). slice_get s.keys_and_widths c.unpack.result.entry.elem ≡ Some (key_and_width_of c.unpack.result.entry)) c.self.view_is
+    subst (λ (s : Store). slice_get s.keys_and_widths c.unpack.result.entry.elem ≡ Some (key_and_width_of c.unpack.result.entry))
+    c.self.view_is
     (subst (λ (n : Node). slice_get keys_and_widths n.entry.elem ≡ Some (key_and_width_of n.entry)) (sym c.unpack.ensures) stays)

@@ -10,14 +10,16 @@ pub invariant_of-self : goal.invariant_of-self
 invariant_of-self c =
     let keys_and_widths = c.self.inside.keys_and_widths.items in
     let told : slice_get keys_and_widths c.args.node.entry.elem ≡ Some (key_and_width_of c.args.node.entry) =
-    subst (λ (s : Store). slice_get s.keys_and_widths c.args.node.entry.elem ≡ Some (key_and_width_of c.args.node.entry)) (sym c.self.view_is)
+    subst (λ (s : Store). slice_get s.keys_and_widths c.args.node.entry.elem ≡ Some (key_and_width_of c.args.node.entry))
+    (sym c.self.view_is)
     c.requires.known.1 in
     let room = ap (λ (s : Store). s.node_room) c.self.view_is in
     let below = slice_get_within keys_and_widths c.args.node.entry.elem (key_and_width_of c.args.node.entry) told in (
       omega (arith, room),
       omega (arith, room),
       c.self.invariant.2,
-      subst (AreElemsBelow (length keys_and_widths)) (sym c.push_reserved.ensures.items) (elems_below_push (length keys_and_widths) c.self.inside.nodes.items
+      subst (AreElemsBelow (length keys_and_widths)) (sym c.push_reserved.ensures.items)
+          (elems_below_push (length keys_and_widths) c.self.inside.nodes.items
           c.pack.result c.self.invariant.3 (omega (arith, below, c.pack.ensures.elem))),
     )
 
@@ -25,7 +27,8 @@ pub returns-clause-nodes : goal.returns-clause-nodes
 returns-clause-nodes c =
     let keys_and_widths = c.self.inside.keys_and_widths.items in
     let told : slice_get keys_and_widths c.args.node.entry.elem ≡ Some (key_and_width_of c.args.node.entry) =
-    subst (λ (s : Store). slice_get s.keys_and_widths c.args.node.entry.elem ≡ Some (key_and_width_of c.args.node.entry)) (sym c.self.view_is)
+    subst (λ (s : Store). slice_get s.keys_and_widths c.args.node.entry.elem ≡ Some (key_and_width_of c.args.node.entry))
+    (sym c.self.view_is)
     c.requires.known.1 in
     ap (nodes_of keys_and_widths) c.push_reserved.ensures.items
     ∙ nodes_pushed keys_and_widths c.self.inside.nodes.items c.pack.result c.args.node c.pack.ensures.node c.pack.ensures.elem told
