@@ -273,7 +273,7 @@ fn append(
     let whole = number % WHOLE == 0;
     let from = entries.len() as u32;
     let before = clocks[place].counts();
-    let count = push_changes(entries, whole, &before, &clock);
+    let count = push_changes(entries, whole, before, &clock);
     let prev = lasts[place];
     let back = back_of(rows.as_slice(), whole, number, prev);
     lasts[place] = rows.len() as u32;
