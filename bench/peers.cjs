@@ -1,12 +1,12 @@
 // Peers that the benchmark runs beside `rgatext lines`, over the same lines of JSON:
 //   yjs      answers an editor's join, insertions and pulls over a Yjs document
 //   json     reads each line and writes an answer of the right size, and keeps no document
-// These two write each answer by itself, before the next line is looked at, as `rgatext` does; with a second word "blocks" they
-// answer all lines of a block that was read with one write.
+// These two answer all lines of a block that was read with one write; with a second word "each" they write each answer by itself,
+// before the next line is looked at, as `rgatext` does.
 //   kept     plays the editor's insertions and tells how many bytes keep the document, with no answers
 //   editors  plays the three editors' insertions on three Yjs documents in memory, with no answers
 const mode = process.argv[2];
-const inBlocks = process.argv[3] === "blocks";
+const each = process.argv[3] === "each";
 const fs = require("fs");
 const yjs = mode === "json" ? null : require("yjs");
 const readline = require("readline");
@@ -31,6 +31,10 @@ function answer(request) {
   }
 }
 
+function write(text) {
+  for (let left = Buffer.from(text); left.length > 0; ) left = left.subarray(fs.writeSync(1, left));
+}
+
 function serve() {
   let held = "";
   process.stdin.setEncoding("utf8");
@@ -40,11 +44,11 @@ function serve() {
     let answers = "";
     for (const line of lines) {
       answers += JSON.stringify(answer(JSON.parse(line))) + "\n";
-      if (inBlocks) continue;
-      fs.writeSync(1, answers);
+      if (!each) continue;
+      write(answers);
       answers = "";
     }
-    if (inBlocks) fs.writeSync(1, answers);
+    write(answers);
   });
 }
 
