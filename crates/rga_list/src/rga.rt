@@ -23,7 +23,7 @@ use std::marker::Model;
 /// The most elements of a list.
 pub const LIMIT: usize = 131_072;
 
-/// Memory is taken for at least so many insertions at a time.
+/// A reserve takes memory for at least so many insertions at a time.
 const AT_ONCE: usize = 64;
 
 /// Where an element was put in: the element itself, and the one right before it (`None`: it is the first).

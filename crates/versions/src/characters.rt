@@ -1,4 +1,4 @@
-//! The text of a version.
+//! The text of a version, or of a call.
 ghost use Rattle.std.specs.Prelude.{◌≡◌, ◌≤◌, length, IsTrue, IfOk, IsOk, encode_utf8_all, string_bytes};
 ghost use Rattle.std.specs.Str.{all_scalars, chars};
 ghost use Rattle.versions.specs.KeptText.{bytes_of};
@@ -15,8 +15,8 @@ enum KeptText {
     Long(String),
 }
 
-/// A text, seen by contracts as the list of its characters (Unicode scalar values). One of at most 16 bytes takes no memory but
-/// its own 32 bytes.
+/// A text, seen by contracts as the list of its characters (Unicode scalar values). One of at most 16 bytes that `from_str` made
+/// takes no memory but its own 32 bytes.
 #[derive(Debug, Drop)]
 pub struct Characters {
     text: KeptText,
