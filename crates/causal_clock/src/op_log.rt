@@ -103,7 +103,7 @@ impl OpLog {
         Replay::new(self.rows.as_slice(), self.entries.as_slice(), place)
     }
 
-    /// Reserves memory for the next `n` operations, so that they aren't refused with `Memory`: for each 24 bytes,
+    /// Reserves memory for the next `n` operations, so that they aren't refused with `Memory`: for each 20 bytes,
     /// and 128 for the 32 entries that it may have. Refused with `Memory`, also above 67,108,864 operations.
     pub fn reserve(&mut self, n: usize) -> Result<(), Refusal>
         ensures ok { OnOk result (self.new ≡ record self.old { room = max self.old.room n }) }

@@ -23,7 +23,7 @@ pub(crate) struct Row {
     pub(crate) count: u8,
 }
 
-const _: () = prove!(size_of::<Row>() == 24);
+const _: () = prove!(size_of::<Row>() == 20);
 
 /// The row at the place, and its entries. The only call that reads rows or entries for an operation that is asked for.
 pub(crate) fn read<'a, L: Ledger>(

@@ -133,7 +133,7 @@ impl Doc {
         self.sums[usize::from(site.number())]
     }
 
-    /// Reserves memory for the next `n` operations, so that they aren't refused with `Memory`: for each some 560
+    /// Reserves memory for the next `n` operations, so that they aren't refused with `Memory`: for each some 550
     /// bytes, and what the linked order keeps for an insertion by any of 32 sites. Refused with `Memory`.
     pub fn reserve(&mut self, n: usize) -> Result<(), Refusal>
         ensures ok { OnOk result (self.new ≡ record self.old { room = max self.old.room n }) }
