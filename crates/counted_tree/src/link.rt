@@ -1,51 +1,9 @@
-//! A link to a node as it is kept: four bytes.
+//! A link to a node as it is kept in a node or a root: in 22 bits.
 ghost use Rattle.std.specs.Prelude.{◌≡◌, ◌+◌, ◌^◌, ◌<◌};
 ghost use Rattle.std.specs.Option.{ForSome};
 ghost use Rattle.counted_tree.specs.Link.{link_of};
 
-use std::marker::Model;
-
-/// A node's number, or none. None is kept as 0, and each number as the one after it.
-#[derive(Clone, Copy)]
-pub struct Link {
-    kept: u32,
-}
-
-const _: () = prove!(size_of::<Link>() == 4);
-
-impl Model for Link {
-    ghost use Rattle.std.specs.Prelude.{ℕ, Option};
-    ghost use Rattle.counted_tree.specs.Link.{link_of, kept_of, kept_of-link_of};
-
-    ghost Value = { Option ℕ };
-
-    ghost view = { λ l. link_of l.kept };
-
-    ghost inverse = { λ o. record { kept = kept_of o } };
-
-    ghost inverse_ok = { λ l h. kept_of-link_of l };
-}
-
-impl Link {
-    /// The link, to be kept.
-    pub fn new(link: Option<u32>) -> Link
-        requires { ForSome link (λ k. k + 1 < 2 ^ 22) }
-        ensures { result ≡ link }
-    {
-        Link {
-            kept: kept_of(link),
-        }
-    }
-
-    /// The link.
-    pub fn get(&self) -> Option<u32>
-        ensures { result ≡ self.now }
-    {
-        link_of(self.kept)
-    }
-}
-
-/// The number that a link is kept as.
+/// The number that a link is kept as. None is kept as 0, and each node's number as the one after it.
 pub fn kept_of(link: Option<u32>) -> u32
     requires { ForSome link (λ k. k + 1 < 2 ^ 22) }
     ensures link { link_of result ≡ link }

@@ -9,8 +9,8 @@ ghost use Rattle.counted_tree.specs.Greater.{last_greater};
 
 use crate::change::{hide, insert, last_greater_in, rank_in};
 use crate::entry::Entry;
-use crate::link::Link;
 use crate::nodes::Nodes;
+use crate::packed_root::PackedRoot;
 use crate::packed_row::PackedRow;
 use crate::root::Root;
 use crate::search::find_in;
@@ -26,7 +26,7 @@ use std::marker::Model;
 pub struct VersionTree {
     nodes: Nodes,
     table: Vec<PackedRow>,
-    roots: Vec<Root>,
+    roots: Vec<PackedRoot>,
     room: usize,
 }
 
@@ -102,7 +102,7 @@ impl VersionTree {
         ensures cost { steps.new ≤ steps.old + 2 * digits (length (version_list self.now version)) }
     {
         let root = root_of(self.roots.as_slice(), version);
-        let (elem, _) = find_in(&self.nodes, root.link.get(), false, k, steps)?;
+        let (elem, _) = find_in(&self.nodes, root.link, false, k, steps)?;
         Some(elem)
     }
 
@@ -114,7 +114,7 @@ impl VersionTree {
         ensures cost { steps.new ≤ steps.old + 2 * digits (length (version_list self.now version)) }
     {
         let root = root_of(self.roots.as_slice(), version);
-        find_in(&self.nodes, root.link.get(), true, k, steps)
+        find_in(&self.nodes, root.link, true, k, steps)
     }
 
     /// Appends the elements that a version shows, in order, by one pass over its tree: at most a step for each of its elements,
@@ -136,7 +136,7 @@ impl VersionTree {
         let root = root_of(self.roots.as_slice(), version);
         let shown = root.size.shown;
         into.reserve(shown as usize)?;
-        push_shown_in(&self.nodes, root.link.get(), shown, into, steps);
+        push_shown_in(&self.nodes, root.link, shown, into, steps);
         Ok(())
     }
 
@@ -166,13 +166,7 @@ impl VersionTree {
         ensures cost { steps.new ≤ steps.old + 2 * digits (length (newest_list self.now)) }
     {
         let root = last_root(self.roots.as_slice());
-        rank_in(
-            &self.nodes,
-            self.table.as_slice(),
-            root.link.get(),
-            elem,
-            steps,
-        )
+        rank_in(&self.nodes, self.table.as_slice(), root.link, elem, steps)
     }
 
     /// How many shown elements stand before one in the newest version. Takes no memory, and as many steps as `find`.
@@ -207,15 +201,15 @@ impl VersionTree {
         last_greater_in(
             &self.nodes,
             self.table.as_slice(),
-            root.link.get(),
+            root.link,
             before,
             key,
             steps,
         )
     }
 
-    /// Reserves `n` versions, if fewer are reserved: for each 31 nodes of 12 bytes, a row of the table of 8, a root of 12, and 4 for
-    /// the element's key and width, 396 bytes of which only what is written comes into memory. Refused memory changes nothing.
+    /// Reserves `n` versions, if fewer are reserved: for each 31 nodes of 12 bytes, a row of the table of 8, a root of 8, and 4 for
+    /// the element's key and width, 392 bytes of which only what is written comes into memory. Refused memory changes nothing.
     pub fn reserve(&mut self, n: usize) -> Result<(), AllocError>
         requires { length self.old.lists + n ≤ 131073 }
         ensures lists { self.new.lists ≡ self.old.lists }
@@ -257,18 +251,12 @@ impl VersionTree {
             wide,
             key,
         };
-        let (top, rank) = insert(
-            &mut self.nodes,
-            &mut self.table,
-            root.link.get(),
-            before,
-            entry,
-        );
+        let (top, rank) = insert(&mut self.nodes, &mut self.table, root.link, before, entry);
         self.room -= 1;
-        self.roots.push_reserved(Root {
-            link: Link::new(Some(top)),
+        self.roots.push_reserved(PackedRoot::pack(Root {
+            link: Some(top),
             size: root.size.plus(Size::of(&entry)),
-        });
+        }));
         rank
     }
 
@@ -283,17 +271,12 @@ impl VersionTree {
         ensures room { self.new.room + 1 ≡ self.old.room }
     {
         let root = last_root(self.roots.as_slice());
-        let (top, less) = hide(
-            &mut self.nodes,
-            self.table.as_slice(),
-            root.link.get(),
-            elem,
-        );
+        let (top, less) = hide(&mut self.nodes, self.table.as_slice(), root.link, elem);
         self.room -= 1;
-        self.roots.push_reserved(Root {
-            link: Link::new(Some(top)),
+        self.roots.push_reserved(PackedRoot::pack(Root {
+            link: Some(top),
             size: root.size.minus(less),
-        });
+        }));
     }
 
     /// Adds a version with the newest list again. Constant time.
@@ -305,28 +288,28 @@ impl VersionTree {
     {
         let root = last_root(self.roots.as_slice());
         self.room -= 1;
-        self.roots.push_reserved(root);
+        self.roots.push_reserved(PackedRoot::pack(root));
     }
 }
 
 /// A version's root, for version 0 that of the empty tree.
-fn root_of(roots: &[Root], version: usize) -> Root
+fn root_of(roots: &[PackedRoot], version: usize) -> Root
     requires { version ≤ length roots.now }
     ensures { result ≡ root_at roots.now version }
 {
     if version == 0 {
         empty()
     } else {
-        roots[version - 1]
+        roots[version - 1].unpack()
     }
 }
 
 /// The newest root.
-fn last_root(roots: &[Root]) -> Root
+fn last_root(roots: &[PackedRoot]) -> Root
     ensures { result ≡ newest_root roots.now }
 {
     match roots.last() {
-        Some(root) => *root,
+        Some(root) => root.unpack(),
         None => empty(),
     }
 }
@@ -336,7 +319,7 @@ fn empty() -> Root
     ensures { result ≡ no_root }
 {
     Root {
-        link: Link::new(None),
+        link: None,
         size: Size::none(),
     }
 }

@@ -18,12 +18,11 @@ returns-in_err-elem-clause-found c =
     c.root_of-root.ensures ∙ ap (λ rs. root_at rs c.args.version) c.as_slice.ensures.value in
     let many : c.args.version < length (lists_of ns roots) =
     subst (λ (v : Versions). c.args.version < length v.lists) (sym c.self.view_is) c.requires in
-    let list : version_list c.args.self.now c.args.version ≡ list_of ns c.get.result =
+    let list : version_list c.args.self.now c.args.version ≡ list_of ns c.root_of-root.result.link =
     ap (λ (v : Versions). version_list v c.args.version) (sym c.self.view_is)
-    ∙ list_at ns roots c.args.version (omega (arith, many, length-map roots (rooted ns))) ∙ ap (rooted ns) (sym root_is)
-    ∙ ap (list_of ns) (sym c.get.ensures) in
+    ∙ list_at ns roots c.args.version (omega (arith, many, length-map roots (rooted ns))) ∙ ap (rooted ns) (sym root_is) in
     c.from_residual.ensures ∙ sym (ap (λ xs. slice_get (visible xs) c.args.k) list
-    ∙ find-visible (list_of ns c.get.result) c.args.k ∙ ap (option_map (λ (p : ℕ × ℕ). p.0)) (sym c.in_err-elem.ensures.found))
+    ∙ find-visible (list_of ns c.root_of-root.result.link) c.args.k ∙ ap (option_map (λ (p : ℕ × ℕ). p.0)) (sym c.in_err-elem.ensures.found))
 
 pub returns-in_err-elem-clause-cost : goal.returns-in_err-elem-clause-cost
 returns-in_err-elem-clause-cost c =
@@ -33,10 +32,9 @@ returns-in_err-elem-clause-cost c =
     c.root_of-root.ensures ∙ ap (λ rs. root_at rs c.args.version) c.as_slice.ensures.value in
     let many : c.args.version < length (lists_of ns roots) =
     subst (λ (v : Versions). c.args.version < length v.lists) (sym c.self.view_is) c.requires in
-    let list : version_list c.args.self.now c.args.version ≡ list_of ns c.get.result =
+    let list : version_list c.args.self.now c.args.version ≡ list_of ns c.root_of-root.result.link =
     ap (λ (v : Versions). version_list v c.args.version) (sym c.self.view_is)
-    ∙ list_at ns roots c.args.version (omega (arith, many, length-map roots (rooted ns))) ∙ ap (rooted ns) (sym root_is)
-    ∙ ap (list_of ns) (sym c.get.ensures) in
+    ∙ list_at ns roots c.args.version (omega (arith, many, length-map roots (rooted ns))) ∙ ap (rooted ns) (sym root_is) in
     omega (arith, c.find_in.ensures.cost, ap (λ xs. digits (length xs)) list)
 
 pub returns-clause-found : goal.returns-clause-found
@@ -47,11 +45,10 @@ returns-clause-found c =
     c.root_of-root.ensures ∙ ap (λ rs. root_at rs c.args.version) c.as_slice.ensures.value in
     let many : c.args.version < length (lists_of ns roots) =
     subst (λ (v : Versions). c.args.version < length v.lists) (sym c.self.view_is) c.requires in
-    let list : version_list c.args.self.now c.args.version ≡ list_of ns c.get.result =
+    let list : version_list c.args.self.now c.args.version ≡ list_of ns c.root_of-root.result.link =
     ap (λ (v : Versions). version_list v c.args.version) (sym c.self.view_is)
-    ∙ list_at ns roots c.args.version (omega (arith, many, length-map roots (rooted ns))) ∙ ap (rooted ns) (sym root_is)
-    ∙ ap (list_of ns) (sym c.get.ensures) in
-    sym (ap (λ xs. slice_get (visible xs) c.args.k) list ∙ find-visible (list_of ns c.get.result) c.args.k
+    ∙ list_at ns roots c.args.version (omega (arith, many, length-map roots (rooted ns))) ∙ ap (rooted ns) (sym root_is) in
+    sym (ap (λ xs. slice_get (visible xs) c.args.k) list ∙ find-visible (list_of ns c.root_of-root.result.link) c.args.k
     ∙ ap (option_map (λ (p : ℕ × ℕ). p.0)) (sym c.in_ok-elem.ensures.found))
 
 pub returns-clause-cost : goal.returns-clause-cost
@@ -62,8 +59,7 @@ returns-clause-cost c =
     c.root_of-root.ensures ∙ ap (λ rs. root_at rs c.args.version) c.as_slice.ensures.value in
     let many : c.args.version < length (lists_of ns roots) =
     subst (λ (v : Versions). c.args.version < length v.lists) (sym c.self.view_is) c.requires in
-    let list : version_list c.args.self.now c.args.version ≡ list_of ns c.get.result =
+    let list : version_list c.args.self.now c.args.version ≡ list_of ns c.root_of-root.result.link =
     ap (λ (v : Versions). version_list v c.args.version) (sym c.self.view_is)
-    ∙ list_at ns roots c.args.version (omega (arith, many, length-map roots (rooted ns))) ∙ ap (rooted ns) (sym root_is)
-    ∙ ap (list_of ns) (sym c.get.ensures) in
+    ∙ list_at ns roots c.args.version (omega (arith, many, length-map roots (rooted ns))) ∙ ap (rooted ns) (sym root_is) in
     omega (arith, c.find_in.ensures.cost, ap (λ xs. digits (length xs)) list)

@@ -13,9 +13,8 @@ returns-clause-last c =
     let ns = c.self.inside.nodes.nodes in
     let roots = c.self.inside.roots.items in
     let root_is : c.last_root-root.result ≡ newest_root roots = c.last_root-root.ensures ∙ ap newest_root c.as_slice.ensures.value in
-    let newest : newest_list c.args.self.now ≡ list_of ns c.get.result =
-    ap (λ (v : Versions). newest_list v) (sym c.self.view_is) ∙ last_list ns roots ∙ ap (rooted ns) (sym root_is)
-    ∙ ap (list_of ns) (sym c.get.ensures) in
+    let newest : newest_list c.args.self.now ≡ list_of ns c.last_root-root.result.link =
+    ap (λ (v : Versions). newest_list v) (sym c.self.view_is) ∙ last_list ns roots ∙ ap (rooted ns) (sym root_is) in
     c.last_greater_in.ensures.last ∙ ap (last_greater c.args.before c.args.key) (sym newest)
 
 pub last_greater_in-requires-clause-there : goal.last_greater_in-requires-clause-there
@@ -23,9 +22,8 @@ last_greater_in-requires-clause-there c =
     let ns = c.self.inside.nodes.nodes in
     let roots = c.self.inside.roots.items in
     let root_is : c.last_root-root.result ≡ newest_root roots = c.last_root-root.ensures ∙ ap newest_root c.as_slice.ensures.value in
-    let newest : newest_list c.args.self.now ≡ list_of ns c.get.result =
-    ap (λ (v : Versions). newest_list v) (sym c.self.view_is) ∙ last_list ns roots ∙ ap (rooted ns) (sym root_is)
-    ∙ ap (list_of ns) (sym c.get.ensures) in
+    let newest : newest_list c.args.self.now ≡ list_of ns c.last_root-root.result.link =
+    ap (λ (v : Versions). newest_list v) (sym c.self.view_is) ∙ last_list ns roots ∙ ap (rooted ns) (sym root_is) in
     subst (λ xs. IfSome c.args.before (λ e. Lists e xs)) newest c.requires.there
 
 pub returns-clause-cost : goal.returns-clause-cost
@@ -33,7 +31,6 @@ returns-clause-cost c =
     let ns = c.self.inside.nodes.nodes in
     let roots = c.self.inside.roots.items in
     let root_is : c.last_root-root.result ≡ newest_root roots = c.last_root-root.ensures ∙ ap newest_root c.as_slice.ensures.value in
-    let newest : newest_list c.args.self.now ≡ list_of ns c.get.result =
-    ap (λ (v : Versions). newest_list v) (sym c.self.view_is) ∙ last_list ns roots ∙ ap (rooted ns) (sym root_is)
-    ∙ ap (list_of ns) (sym c.get.ensures) in
+    let newest : newest_list c.args.self.now ≡ list_of ns c.last_root-root.result.link =
+    ap (λ (v : Versions). newest_list v) (sym c.self.view_is) ∙ last_list ns roots ∙ ap (rooted ns) (sym root_is) in
     omega (arith, c.last_greater_in.ensures.cost, ap (λ xs. digits (length xs)) newest)

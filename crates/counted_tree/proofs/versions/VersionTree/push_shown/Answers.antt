@@ -18,13 +18,13 @@ pub push_shown_in-requires-clause-shown : goal.push_shown_in-requires-clause-sho
 push_shown_in-requires-clause-shown c =
     let ns = c.self.inside.nodes.nodes in
     let roots = c.self.inside.roots.items in
-    let top = c.get.result in
+    let top = c.root_of-root.result.link in
     let root_is : c.root_of-root.result ≡ root_at roots c.args.version =
     c.root_of-root.ensures ∙ ap (λ rs. root_at rs c.args.version) c.as_slice.ensures.value in
     let many : c.args.version < length (lists_of ns roots) =
     subst (λ (v : Versions). c.args.version < length v.lists) (sym c.self.view_is) c.requires in
     let within : c.args.version ≤ length roots = omega (arith, many, length-map roots (rooted ns)) in
-    let top_is : top ≡ (root_at roots c.args.version).link = c.get.ensures ∙ ap (λ (r : Root). r.link) root_is in
+    let top_is : top ≡ (root_at roots c.args.version).link = ap (λ (r : Root). r.link) root_is in
     let shows = root_shows c.self.inside.nodes roots c.self.inside.room c.args.version c.self.invariant.0 within in
     let shown : c.root_of-root.result.size.shown ≡ length (visible (list_of ns top)) =
     ap (λ (r : Root). r.size.shown) root_is ∙ shows.0 ∙ ap (λ l. length (visible (list_of ns l))) (sym top_is) in
@@ -34,13 +34,13 @@ pub returns-clause-few : goal.returns-clause-few
 returns-clause-few c =
     let ns = c.self.inside.nodes.nodes in
     let roots = c.self.inside.roots.items in
-    let top = c.get.result in
+    let top = c.root_of-root.result.link in
     let root_is : c.root_of-root.result ≡ root_at roots c.args.version =
     c.root_of-root.ensures ∙ ap (λ rs. root_at rs c.args.version) c.as_slice.ensures.value in
     let many : c.args.version < length (lists_of ns roots) =
     subst (λ (v : Versions). c.args.version < length v.lists) (sym c.self.view_is) c.requires in
     let within : c.args.version ≤ length roots = omega (arith, many, length-map roots (rooted ns)) in
-    let top_is : top ≡ (root_at roots c.args.version).link = c.get.ensures ∙ ap (λ (r : Root). r.link) root_is in
+    let top_is : top ≡ (root_at roots c.args.version).link = ap (λ (r : Root). r.link) root_is in
     let list : version_list c.args.self.now c.args.version ≡ list_of ns top =
     ap (λ (v : Versions). version_list v c.args.version) (sym c.self.view_is) ∙ list_at ns roots c.args.version within
     ∙ ap (list_of ns) (sym top_is) in

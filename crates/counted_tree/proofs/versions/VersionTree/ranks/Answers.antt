@@ -11,9 +11,8 @@ returns-clause-shown c =
     let ns = c.self.inside.nodes.nodes in
     let roots = c.self.inside.roots.items in
     let root_is : c.last_root-root.result ≡ newest_root roots = c.last_root-root.ensures ∙ ap newest_root c.as_slice.ensures.value in
-    let newest : newest_list c.args.self.now ≡ list_of ns c.get.result =
-    ap (λ (v : Versions). newest_list v) (sym c.self.view_is) ∙ last_list ns roots ∙ ap (rooted ns) (sym root_is)
-    ∙ ap (list_of ns) (sym c.get.ensures) in
+    let newest : newest_list c.args.self.now ≡ list_of ns c.last_root-root.result.link =
+    ap (λ (v : Versions). newest_list v) (sym c.self.view_is) ∙ last_list ns roots ∙ ap (rooted ns) (sym root_is) in
     c.rank_in.ensures.size.0 ∙ ap (λ xs. length (visible (before c.args.elem xs))) (sym newest)
 
 pub returns-clause-units : goal.returns-clause-units
@@ -21,7 +20,6 @@ returns-clause-units c =
     let ns = c.self.inside.nodes.nodes in
     let roots = c.self.inside.roots.items in
     let root_is : c.last_root-root.result ≡ newest_root roots = c.last_root-root.ensures ∙ ap newest_root c.as_slice.ensures.value in
-    let newest : newest_list c.args.self.now ≡ list_of ns c.get.result =
-    ap (λ (v : Versions). newest_list v) (sym c.self.view_is) ∙ last_list ns roots ∙ ap (rooted ns) (sym root_is)
-    ∙ ap (list_of ns) (sym c.get.ensures) in
+    let newest : newest_list c.args.self.now ≡ list_of ns c.last_root-root.result.link =
+    ap (λ (v : Versions). newest_list v) (sym c.self.view_is) ∙ last_list ns roots ∙ ap (rooted ns) (sym root_is) in
     c.rank_in.ensures.size.1 ∙ ap (λ xs. length (units (before c.args.elem xs))) (sym newest)
