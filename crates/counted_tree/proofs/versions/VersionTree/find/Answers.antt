@@ -22,7 +22,8 @@ returns-in_err-elem-clause-found c =
     ap (λ (v : Versions). version_list v c.args.version) (sym c.self.view_is)
     ∙ list_at ns roots c.args.version (omega (arith, many, length-map roots (rooted ns))) ∙ ap (rooted ns) (sym root_is) in
     c.from_residual.ensures ∙ sym (ap (λ xs. slice_get (visible xs) c.args.k) list
-    ∙ find-visible (list_of ns c.root_of-root.result.link) c.args.k ∙ ap (option_map (λ (p : ℕ × ℕ). p.0)) (sym c.in_err-elem.ensures.found))
+    ∙ find-visible (list_of ns c.root_of-root.result.link) c.args.k
+    ∙ ap (option_map (λ (p : ℕ × ℕ). p.0)) (sym c.in_err-elem.ensures.found))
 
 pub returns-in_err-elem-clause-cost : goal.returns-in_err-elem-clause-cost
 returns-in_err-elem-clause-cost c =
