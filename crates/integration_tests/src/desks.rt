@@ -11,7 +11,7 @@ pub(crate) fn desk_of(alloc: Global, site: u8) -> Result<RoomDesk, Fail> {
 }
 
 // The `n`-th submission of session 1, at the beginning of the empty version.
-pub(crate) fn insertion(alloc: Global, n: u32, text: &str) -> Result<Call, AllocError> {
+fn insertion(alloc: Global, n: u32, text: &str) -> Result<Call, AllocError> {
     Ok(Call::Ins {
         s: 1,
         n,

@@ -1,8 +1,8 @@
 //! Rooms of which one got forged operations of the other's site from a peer.
-use crate::carried::have_one_order;
 use crate::desks::{begins, desk_of};
 use causal_clock::{Clock, Op};
 use opid::{OpKind, Site};
+use replica_world::one_order;
 use room::{Call, Desk, Operations, Outcome, Reply, Room, RoomDesk};
 use std::alloc::Global;
 use std::test::Fail;
@@ -39,6 +39,12 @@ fn typed(alloc: Global, text: &str) -> Result<Room, Fail> {
         return Ok(desk.into_room());
     }
     Err(Fail::from("accepted"))
+}
+
+// Whether these two rooms have one order of elements.
+fn have_one_order(alloc: Global, one: Room, other: Room) -> Result<bool, Fail> {
+    let rooms = vec![in alloc; one, other]?;
+    Ok(one_order(&rooms))
 }
 
 // A peer gives site 0 this character as what site 1, whose text is the other, has typed.

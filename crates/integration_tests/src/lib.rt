@@ -1,9 +1,7 @@
-//! Tests of the line engine, of the server, of the lock and of rooms that carry to each other, over public calls of several
-//! crates. They stand apart from those crates, which would be proved once more for tests of their own.
+//! Tests of the line engine, of the server and of desks that carry to each other, over public calls of several crates. They stand
+//! apart from those crates, which would be proved once more for tests of their own.
 #![tactic(auto)]
 
-#[cfg(test)]
-mod carried;
 #[cfg(test)]
 mod clients;
 #[cfg(test)]
@@ -17,10 +15,6 @@ mod halls;
 #[cfg(test)]
 mod lines;
 #[cfg(test)]
-mod locks;
-#[cfg(test)]
 mod memory;
-#[cfg(test)]
-mod shared;
 #[cfg(test)]
 mod streams;

@@ -3,8 +3,7 @@ ghost use Rattle.std.specs.Prelude.{◌≡◌, IfSome};
 ghost use Rattle.std.specs.Thread.{IsSync};
 ghost use Rattle.shared_room.specs.Views.{IsPassOf};
 
-use crate::desks::insertion;
-use crate::shared::{TURNS, closed, count, finds, joins, shared};
+use crate::shared::{TURNS, closed, count, finds, front, joins, shared};
 use replica_world::one_order;
 use room::{DeskFault, Reply, Room};
 use shared_room::{Pass, PassDesk, SharedRoom};
@@ -32,12 +31,12 @@ fn types<R: Wait>(
     room: &SharedRoom,
     pass: &mut Pass,
     n: u32,
-    letter: &str,
+    letter: char,
 ) -> bool
     requires { IsPassOf room.now pass.old }
     ensures { IsPassOf room.now pass.new }
 {
-    match insertion(alloc, n, letter) {
+    match front(alloc, 1, n, 0, letter) {
         Ok(typed) => matches!(&room.call(rt, pass, typed), Ok(Reply::Ok { .. })),
         Err(_) => false,
     }
@@ -124,7 +123,7 @@ fn types_all<R: Wait + Clock>(
     alloc: Global,
     room: &SharedRoom,
     mut pass: Pass,
-    letter: &str,
+    letter: char,
     other: &str,
 ) -> bool
     requires { IsPassOf room.now pass }
@@ -153,10 +152,10 @@ fn type_at_both<R: Threads + Wait + Clock + Sync>(
         rt,
         || -> bool
             requires { IsSync R.row × IsPassOf ends.now.from.now a }
-        { types_all(rt, alloc, ends.from, a, "a", "b") },
+        { types_all(rt, alloc, ends.from, a, 'a', "b") },
         || -> bool
             requires { IsSync R.row × IsPassOf ends.now.to.now b }
-        { types_all(rt, alloc, ends.to, b, "b", "a") },
+        { types_all(rt, alloc, ends.to, b, 'b', "a") },
     );
     both.0 && both.1
 }
@@ -259,15 +258,11 @@ fn read_the_same(one: &Room, other: &Room) -> Result<bool, Fail> {
     )
 }
 
-// Whether these two rooms have one order of elements.
-pub(crate) fn have_one_order(alloc: Global, one: Room, other: Room) -> Result<bool, Fail> {
-    let rooms = vec![in alloc; one, other]?;
-    Ok(one_order(&rooms))
-}
-
 // Whether these two rooms read the same and have one order of elements.
 fn agree(alloc: Global, one: Room, other: Room) -> Result<bool, Fail> {
-    Ok(read_the_same(&one, &other)? && have_one_order(alloc, one, other)?)
+    let same = read_the_same(&one, &other)?;
+    let rooms = vec![in alloc; one, other]?;
+    Ok(same && one_order(&rooms))
 }
 
 #[test]

@@ -72,7 +72,7 @@ pub(crate) fn finds<R: Wait + Clock>(
 }
 
 // The `n`-th submission of a session, a letter in front of this version.
-fn front(alloc: Global, s: u32, n: u32, v: u32, letter: char) -> Result<Call, AllocError> {
+pub(crate) fn front(alloc: Global, s: u32, n: u32, v: u32, letter: char) -> Result<Call, AllocError> {
     let mut text = String::new(alloc);
     text.push(letter)?;
     Ok(Call::Ins {

@@ -1,5 +1,5 @@
 use Rattle.shared_room.specs.Views.{IsPassOf}
-use Rattle.integration_tests.proofs.shared.finds.Given as goal
+use Rattle.lock_tests.proofs.shared.finds.Given as goal
 
 abbrev pub invariant-loop : goal.invariant-loop
 invariant-loop g l = IsPassOf l.room l.pass

@@ -10,7 +10,7 @@ use Rattle.shared_room.specs.declared.shared.SharedRoom.{SharedRoom}
 use Rattle.shared_room.specs.Views.{IsPassOf}
 use Rattle.ws_server.specs.Carrying.{Calls, Hands, HandsTold, told_ops}
 use Rattle.ws_server.proofs.Lending.{desk_step, desk_fault}
-use Rattle.integration_tests.proofs.carried.carry_lent.Goals as goal
+use Rattle.lock_tests.proofs.carried.carry_lent.Goals as goal
 
 abbrev Stays : {H : Type 0} → PassDesk H → PassDesk H → Type 0
 Stays old new = (new.room.now ≡ old.room.now) × (new.pass.ghost_name ≡ old.pass.ghost_name)

@@ -1,5 +1,5 @@
 use Rattle.std.proofs.Common.{◌-◌}
-use Rattle.integration_tests.proofs.locks.+fn-take_together-join+arg2+fn-take_together-join+arg3+take_together.Given as goal
+use Rattle.lock_tests.proofs.locks.+fn-take_together-join+arg2+fn-take_together-join+arg3+take_together.Given as goal
 
 abbrev pub decreases-take_together : goal.decreases-take_together
 decreases-take_together g l = l.threads
