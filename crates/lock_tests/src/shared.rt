@@ -72,7 +72,13 @@ pub(crate) fn finds<R: Wait + Clock>(
 }
 
 // The `n`-th submission of a session, a letter in front of this version.
-pub(crate) fn front(alloc: Global, s: u32, n: u32, v: u32, letter: char) -> Result<Call, AllocError> {
+pub(crate) fn front(
+    alloc: Global,
+    s: u32,
+    n: u32,
+    v: u32,
+    letter: char,
+) -> Result<Call, AllocError> {
     let mut text = String::new(alloc);
     text.push(letter)?;
     Ok(Call::Ins {
@@ -93,7 +99,32 @@ fn finds_after<R: Wait>(rt: &R, room: &SharedRoom, pass: &mut Pass, call: Call, 
     called & reads(rt, room, pass, want)
 }
 
-// Each pass inserts a character through its own session and then finds it. Then they meet.
+// Each pass opens a session.
+fn both_join<R: Wait>(rt: &R, room: &SharedRoom, one: &mut Pass, other: &mut Pass) -> bool
+    requires { IsPassOf room.now one.old × IsPassOf room.now other.old }
+    ensures { IsPassOf room.now one.new × IsPassOf room.now other.new }
+{
+    let first = joins(rt, room, one);
+    joins(rt, room, other) & first
+}
+
+// Each pass inserts a character through its own session and then finds it.
+fn both_type<R: Wait>(
+    rt: &R,
+    room: &SharedRoom,
+    one: &mut Pass,
+    other: &mut Pass,
+    first: Call,
+    second: Call,
+) -> bool
+    requires { IsPassOf room.now one.old × IsPassOf room.now other.old }
+    ensures { IsPassOf room.now one.new × IsPassOf room.now other.new }
+{
+    let found = finds_after(rt, room, one, first, "a");
+    finds_after(rt, room, other, second, "b") & found
+}
+
+// Each pass opens a session and types through it. Then they meet.
 fn take_turns<R: Wait>(
     rt: &R,
     room: &SharedRoom,
@@ -105,11 +136,9 @@ fn take_turns<R: Wait>(
     requires { IsPassOf room.now one.old × IsPassOf room.now other.old }
     ensures { IsPassOf room.now one.new × IsPassOf room.now other.new }
 {
-    let mut all = joins(rt, room, one);
-    all &= joins(rt, room, other);
-    all &= finds_after(rt, room, one, first, "a");
-    all &= finds_after(rt, room, other, second, "b");
-    all && room.meet(rt, one, other).is_ok()
+    let mut all = both_join(rt, room, one, other);
+    all &= both_type(rt, room, one, other, first, second);
+    room.meet(rt, one, other).is_ok() & all
 }
 
 // Whether the six calls are recorded, each under the ticket after the one before. Both put their character in at the front of
@@ -293,6 +322,32 @@ fn types<R: Wait>(
     Ok(matches!(&room.call(rt, pass, Call::Leave { s }), Ok(Reply::Left)))
 }
 
+// Types through the pass, which it gives back.
+fn types_alone<R: Wait>(
+    rt: &R,
+    alloc: Global,
+    room: &SharedRoom,
+    mut pass: Pass,
+    place: u64,
+) -> (Pass, bool)
+    requires { IsPassOf room.now pass }
+    ensures { IsPassOf room.now result.0 }
+{
+    let all = types(rt, alloc, room, &mut pass, letter(place));
+    (pass, matches!(&all, Ok(true)))
+}
+
+// One pass in the place of two.
+fn joined(room: &SharedRoom, first: (Pass, bool), second: (Pass, bool)) -> (Pass, bool)
+    requires { IsPassOf room.now first.0 × IsPassOf room.now second.0 }
+    ensures { IsPassOf room.now result.0 }
+{
+    let (mut pass, one) = first;
+    let (other, two) = second;
+    room.join(&mut pass, other);
+    (pass, one & two)
+}
+
 // Types from as many threads, each with its part of the draws and its letter, and joins their passes again.
 fn type_together<R: Threads + Wait + Sync>(
     rt: &R,
@@ -306,8 +361,7 @@ fn type_together<R: Threads + Wait + Sync>(
     ensures { IsPassOf room.now result.0 }
 {
     if threads < 2 {
-        let all = types(rt, alloc, room, &mut pass, letter(place));
-        return (pass, matches!(&all, Ok(true)));
+        return types_alone(rt, alloc, room, pass, place);
     }
     let half = threads / 2;
     let draws = pass.left() / 2;
@@ -334,10 +388,7 @@ fn type_together<R: Threads + Wait + Sync>(
             )
         },
     );
-    let (mut pass, one) = first;
-    let (other, two) = second;
-    room.join(&mut pass, other);
-    (pass, one && two)
+    joined(room, first, second)
 }
 
 // Whether all calls are recorded, and the text has 99 of each letter and nothing else.
