@@ -21,6 +21,9 @@ pub struct Room {
     opened: usize,
 }
 
+// What a recorded call takes beside the memory of its own.
+const _: () = prove!(size_of::<(u64, Call)>() == 64);
+
 impl Model for Room {
     ghost use Rattle.room.specs.History.{Account};
 
