@@ -1,4 +1,4 @@
-//! A node as it is kept: 16 bytes.
+//! A node as it is kept: 12 bytes.
 ghost use Rattle.std.specs.Prelude.{◌≡◌, ◌<◌, Some, false};
 ghost use Rattle.std.specs.Option.{ForSome};
 
@@ -9,30 +9,32 @@ use std::marker::Model;
 /// What stands for no next element: the first number that no element has.
 const NONE: Elem = 131_072;
 
-/// A node. Its stamp is kept as sum and site, so that nothing stands between its fields.
+/// What stands beside the next element is below this: 2^6.
+const BESIDE: u32 = 64;
+
+/// A node. Its stamp is kept as sum and site, and what is small stands side by side in one number.
 #[derive(Clone, Copy)]
 pub struct PackedNode {
     sum: u32,
     ch: char,
-    next: Elem,
-    site: Site,
-    shown: bool,
+    /// The next element, the stamp's site, and whether the node is shown.
+    next_site_shown: u32,
 }
 
-const _: () = prove!(size_of::<PackedNode>() == 16);
+const _: () = prove!(size_of::<PackedNode>() == 12);
 
 impl Model for PackedNode {
     ghost use Rattle.rga_list.specs.declared.links.Node.{Node};
 
     ghost Value = { Node };
 
-    ghost use Rattle.rga_list.specs.Packed.{node_of, packed_next, packed_next-next_of};
+    ghost use Rattle.rga_list.specs.Packed.{node_of, inside_of, inside_of-node_of};
 
     ghost view = { node_of };
 
-    ghost inverse = { λ n. record { sum = n.stamp.sum; ch = n.ch; next = packed_next n.next; site = n.stamp.site; shown = n.shown } };
+    ghost inverse = { inside_of };
 
-    ghost inverse_ok = { λ a h. packed_next-next_of a };
+    ghost inverse_ok = { λ a h. inside_of-node_of a };
 }
 
 impl PackedNode {
@@ -43,12 +45,12 @@ impl PackedNode {
     {
         let Stamp { sum, site } = node.stamp;
         let ch = node.ch;
+        let next = node.next.unwrap_or(NONE);
+        let beside = u32::from(site.number()) * 2 + u32::from(node.shown);
         PackedNode {
             sum,
             ch,
-            next: node.next.unwrap_or(NONE),
-            site,
-            shown: node.shown,
+            next_site_shown: next * BESIDE + beside,
         }
     }
 
@@ -56,19 +58,15 @@ impl PackedNode {
     pub fn get(&self) -> Node
         ensures { result ≡ self.now }
     {
-        let next = if self.next == NONE {
-            None
-        } else {
-            Some(self.next)
-        };
+        let next = self.next_site_shown / BESIDE;
         Node {
             stamp: Stamp {
                 sum: self.sum,
-                site: self.site,
+                site: site_of((self.next_site_shown % BESIDE / 2) as u8),
             },
             ch: self.ch,
-            shown: self.shown,
-            next,
+            shown: self.next_site_shown % 2 == 1,
+            next: if next == NONE { None } else { Some(next) },
         }
     }
 
@@ -77,7 +75,7 @@ impl PackedNode {
         requires { next < 131072 }
         ensures { self.new ≡ record self.old { next = Some next } }
     {
-        self.next = next;
+        self.next_site_shown = next * BESIDE + self.next_site_shown % BESIDE;
     }
 
     /// Hides it, and says whether it was shown.
@@ -85,8 +83,19 @@ impl PackedNode {
         ensures node { self.new ≡ record self.old { shown = false } }
         ensures was { result ≡ self.old.shown }
     {
-        let was = self.shown;
-        self.shown = false;
+        let was = self.next_site_shown % 2 == 1;
+        self.next_site_shown = self.next_site_shown / 2 * 2;
         was
+    }
+}
+
+/// The site of the number.
+fn site_of(number: u8) -> Site
+    requires { number < 32 }
+    ensures { result ≡ number }
+{
+    match Site::new(number) {
+        Ok(site) => site,
+        Err(_) => unreachable!(),
     }
 }
