@@ -1,5 +1,5 @@
 -- The list as contracts see it, and what each call makes of it (Roh, Jeon, Kim and Lee 2011).
-use Rattle.std.specs.Prelude.{◌≡◌, ◌≢◌, ℕ, ◌<◌, ◌≤◌, Bool, true, false, ◌&&◌, not, ◌==◌, nat_le, if◌then◌else◌, Option, Some, None, List}
+use Rattle.std.specs.Prelude.{◌≡◌, ◌≢◌, ℕ, ◌<◌, ◌≤◌, Bool, true, false, ◌&&◌, ◌==◌, nat_le, if◌then◌else◌, Option, Some, None, List}
 use Rattle.std.specs.Prelude.{[], ◌∷◌, map, length}
 use Rattle.std.specs.List.{AllByRecursion, list_any}
 use Rattle.opid.specs.declared.stamp.Stamp.{Stamp}
