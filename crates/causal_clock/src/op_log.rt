@@ -9,11 +9,11 @@ ghost use Rattle.causal_clock.specs.Packed.{AreReserved, AreRows, IsPacked, chan
 use crate::changed::Changed;
 use crate::clock::Clock;
 use crate::op::Op;
-use crate::packed_kind::PackedKind;
+use crate::packed_kind::{PackedKind, site_of};
 use crate::reads::Reads;
 use crate::replay::Replay;
 use crate::row::{Row, read};
-use opid::{Refusal, SITES, Site};
+use opid::{Refusal, SITES};
 use std::alloc::Global;
 use std::marker::Model;
 use std::sync::ledger::Ledger;
@@ -223,7 +223,7 @@ fn push_changes(entries: &mut Vec<Changed>, whole: bool, before: &[u32; SITES], 
     for number in 0..SITES {
         let count = counts[number];
         if is_told(whole, before[number], count) {
-            entries.push_reserved(Changed::new(Site::numbered(number as u8), count));
+            entries.push_reserved(Changed::new(site_of(number as u8), count));
             told += 1;
         }
     }

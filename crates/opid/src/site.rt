@@ -40,14 +40,6 @@ impl Site {
         }
     }
 
-    /// The site of a number that is known to be one's. Constant time.
-    pub fn numbered(number: u8) -> Site
-        requires { number < 32 }
-        ensures { result ≡ number }
-    {
-        Site { number }
-    }
-
     /// The site's number. Constant time.
     pub fn number(self) -> u8
         ensures value { result ≡ self }

@@ -62,7 +62,7 @@ impl PackedNode {
         Node {
             stamp: Stamp {
                 sum: self.sum,
-                site: Site::numbered((self.next_site_shown % BESIDE / 2) as u8),
+                site: site_of((self.next_site_shown % BESIDE / 2) as u8),
             },
             ch: self.ch,
             shown: self.next_site_shown % 2 == 1,
@@ -86,5 +86,16 @@ impl PackedNode {
         let was = self.next_site_shown % 2 == 1;
         self.next_site_shown = self.next_site_shown / 2 * 2;
         was
+    }
+}
+
+/// The site of the number.
+fn site_of(number: u8) -> Site
+    requires { number < 32 }
+    ensures { result ≡ number }
+{
+    match Site::new(number) {
+        Ok(site) => site,
+        Err(_) => unreachable!(),
     }
 }
