@@ -1,4 +1,5 @@
-//! The tree of a node, once one of its sides has grown by an entry.
+//! The tree of a node, once one of its sides has grown by an entry. Both calls stand in the body of who makes them, so that a node
+//! that was read goes back into the vector without a way through memory.
 ghost use Rattle.std.specs.Prelude.{◌≡◌, ℕ, ◌+◌, ◌-◌, ◌<◌, ◌≤◌, ◌∷◌, ◌++◌, length, Some};
 ghost use Rattle.counted_tree.specs.declared.side.Side.TheVariants.{Left, Right};
 ghost use Rattle.counted_tree.specs.Entry.{IsKnown};
@@ -24,6 +25,7 @@ use crate::steps::Steps;
 
 /// The tree of a node whose left side has grown by an entry. The other side is looked at only where the left one is now as high as
 /// the whole was: else the whole stays as high as it was, and only the left side has to be hung.
+#[inline(always)]
 pub fn grow_left(
     nodes: &mut Nodes,
     table: &mut [PackedRow],
@@ -81,6 +83,7 @@ pub fn grow_left(
 
 /// The tree of a node whose right side has grown by an entry. The other side is looked at only where the right one is now as high as
 /// the whole was: else the whole stays as high as it was, and only the right side has to be hung.
+#[inline(always)]
 pub fn grow_right(
     nodes: &mut Nodes,
     table: &mut [PackedRow],
