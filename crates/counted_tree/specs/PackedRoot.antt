@@ -5,9 +5,9 @@ use Rattle.counted_tree.specs.declared.size.Size.{Size}
 use Rattle.counted_tree.specs.Link.{link_of}
 
 -- how much the tree of a root shows, by the number that stands for it
-abbrev size_of : ℕ → Size
-size_of n = record { shown = n % 2 ^ 18; units = n / 2 ^ 18 }
+abbrev unpacked_size : ℕ → Size
+unpacked_size n = record { shown = n % 2 ^ 18; units = n / 2 ^ 18 }
 
 -- the root that a number stands for
-abbrev pub root_of : ℕ → Root
-root_of n = record { link = link_of (n % 2 ^ 22); size = size_of (n / 2 ^ 22) }
+abbrev pub unpacked_root : ℕ → Root
+unpacked_root n = record { link = link_of (n % 2 ^ 22); size = unpacked_size (n / 2 ^ 22) }

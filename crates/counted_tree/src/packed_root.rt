@@ -26,14 +26,14 @@ impl Model for PackedRoot {
 
     ghost Value = { Root };
 
-    ghost use Rattle.counted_tree.specs.PackedRoot.{root_of};
+    ghost use Rattle.counted_tree.specs.PackedRoot.{unpacked_root};
 
-    ghost view = { λ r. root_of r.kept };
+    ghost view = { λ r. unpacked_root r.kept };
 }
 
 impl PackedRoot {
     /// A root, to be kept.
-    pub fn pack(root: Root) -> PackedRoot
+    pub fn new(root: Root) -> PackedRoot
         requires link { ForSome root.link (λ k. k + 1 < 2 ^ 22) }
         requires shown { root.size.shown < 2 ^ 18 }
         requires units { root.size.units < 2 ^ 19 }
@@ -46,7 +46,7 @@ impl PackedRoot {
     }
 
     /// The root.
-    pub fn unpack(&self) -> Root
+    pub fn get(&self) -> Root
         ensures { result ≡ self.now }
     {
         let counts = self.kept / LINKS;

@@ -253,7 +253,7 @@ impl VersionTree {
         };
         let (top, rank) = insert(&mut self.nodes, &mut self.table, root.link, before, entry);
         self.room -= 1;
-        self.roots.push_reserved(PackedRoot::pack(Root {
+        self.roots.push_reserved(PackedRoot::new(Root {
             link: Some(top),
             size: root.size.plus(Size::of(&entry)),
         }));
@@ -273,7 +273,7 @@ impl VersionTree {
         let root = last_root(self.roots.as_slice());
         let (top, less) = hide(&mut self.nodes, self.table.as_slice(), root.link, elem);
         self.room -= 1;
-        self.roots.push_reserved(PackedRoot::pack(Root {
+        self.roots.push_reserved(PackedRoot::new(Root {
             link: Some(top),
             size: root.size.minus(less),
         }));
@@ -288,7 +288,7 @@ impl VersionTree {
     {
         let root = last_root(self.roots.as_slice());
         self.room -= 1;
-        self.roots.push_reserved(PackedRoot::pack(root));
+        self.roots.push_reserved(PackedRoot::new(root));
     }
 }
 
@@ -300,7 +300,7 @@ fn root_of(roots: &[PackedRoot], version: usize) -> Root
     if version == 0 {
         empty()
     } else {
-        roots[version - 1].unpack()
+        roots[version - 1].get()
     }
 }
 
@@ -309,7 +309,7 @@ fn last_root(roots: &[PackedRoot]) -> Root
     ensures { result ≡ newest_root roots.now }
 {
     match roots.last() {
-        Some(root) => root.unpack(),
+        Some(root) => root.get(),
         None => empty(),
     }
 }
