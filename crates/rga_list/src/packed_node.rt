@@ -59,10 +59,13 @@ impl PackedNode {
         ensures { result ≡ self.now }
     {
         let next = self.next_site_shown / BESIDE;
+        let Ok(site) = Site::new((self.next_site_shown % BESIDE / 2) as u8) else {
+            unreachable!()
+        };
         Node {
             stamp: Stamp {
                 sum: self.sum,
-                site: site_of((self.next_site_shown % BESIDE / 2) as u8),
+                site,
             },
             ch: self.ch,
             shown: self.next_site_shown % 2 == 1,
@@ -86,16 +89,5 @@ impl PackedNode {
         let was = self.next_site_shown % 2 == 1;
         self.next_site_shown = self.next_site_shown / 2 * 2;
         was
-    }
-}
-
-/// The site of the number.
-fn site_of(number: u8) -> Site
-    requires { number < 32 }
-    ensures { result ≡ number }
-{
-    match Site::new(number) {
-        Ok(site) => site,
-        Err(_) => unreachable!(),
     }
 }

@@ -21,7 +21,7 @@ pub struct Room {
     opened: usize,
 }
 
-// What a recorded call takes beside the memory of its own.
+// What a recorded call takes, beside what its text or its operations take.
 const _: () = prove!(size_of::<(u64, Call)>() == 64);
 
 impl Model for Room {
