@@ -1,5 +1,5 @@
-//! Tests of the line engine, of the server and of desks that carry to each other, over public calls of several crates. They stand
-//! apart from those crates, which would be proved once more for tests of their own.
+//! Tests of the line engine, of the server, of desks that carry to each other and of forged operations, over public calls of several
+//! crates. They stand apart from those crates, which would be proved once more for tests of their own.
 #![tactic(auto)]
 
 #[cfg(test)]

@@ -337,8 +337,8 @@ fn types_alone<R: Wait>(
     (pass, matches!(&all, Ok(true)))
 }
 
-// One pass in the place of two.
-fn joined(room: &SharedRoom, first: (Pass, bool), second: (Pass, bool)) -> (Pass, bool)
+// Joins the second pass to the first, and whether both typed all.
+fn pass_of_both(room: &SharedRoom, first: (Pass, bool), second: (Pass, bool)) -> (Pass, bool)
     requires { IsPassOf room.now first.0 × IsPassOf room.now second.0 }
     ensures { IsPassOf room.now result.0 }
 {
@@ -388,7 +388,7 @@ fn type_together<R: Threads + Wait + Sync>(
             )
         },
     );
-    joined(room, first, second)
+    pass_of_both(room, first, second)
 }
 
 // Whether all calls are recorded, and the text has 99 of each letter and nothing else.
