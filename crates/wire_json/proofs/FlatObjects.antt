@@ -1,10 +1,11 @@
 -- The tokens of an object with whole numbers and texts are read as that object, in which its keys are looked up.
-use Rattle.std.proofs.Common.{◌≡◌, ℕ, zero, suc, ◌+◌, ◌*◌, ◌<◌, ◌^◌, ◌==◌, ◌&&◌, List, [], ◌∷◌, ◌++◌, length, take}
-use Rattle.std.proofs.Common.{get_or, slice_index, Option, Some, None, option_and_then, option_map, Ok, Err, IsUtf8, Bool, true, false}
+use Rattle.std.proofs.Common.{◌≡◌, ℕ, zero, suc, ◌+◌, ◌*◌, ◌<◌, ◌≤◌, ◌^◌, ◌==◌, ◌&&◌, List, [], ◌∷◌, ◌++◌, length, take, map, Bor}
+use Rattle.std.proofs.Common.{get_or, slice_index, Option, Some, None, option_and_then, option_map, Ok, Err, Bool, true, false}
 use Rattle.std.proofs.Common.{cond, if◌then◌else◌, bytes_eq}
 use Rattle.std.proofs.Common.{Ordering, Less, Equal, Greater, nat_cmp, is_eq, true≢false, refl, sym, ap, ◌∙◌, subst, add-one, lt-ltb, arith}
 use Rattle.std.proofs.Math.Seq.{take-suc}
 use Rattle.std.proofs.Math.Bool.{and-true}
+use Rattle.std.proofs.lemmas.List.Folds.{list_all_more, list_any_at}
 use Rattle.std.proofs.lemmas.Map.Text.{is_eq-slice_cmp}
 use Rattle.std.proofs.lemmas.Slice.Eq.{bytes_eq-Decides}
 use Rattle.std.specs.Prelude.{SomeIff, IfSome}
@@ -14,7 +15,6 @@ use Rattle.std.specs.Ordering.{match_ordering}
 use Rattle.fast_float.specs.Text.{scan, digits_of, IsInteger}
 use Rattle.json.specs.Token.{Token, begin_object, end_object, begin_array, end_array, key, string, number, boolean, null, bad}
 use Rattle.json.specs.Json as json
-use Rattle.json.specs.Lex.{tokens}
 use Rattle.json.specs.Json.{members, value, parse_map}
 use Rattle.serde_json.specs.Data as tree
 use Rattle.serde_json.specs.Data.{Data, Members, no_members, member, put, object, unsigned}
@@ -28,8 +28,7 @@ use Rattle.wire_json.specs.declared.flat.Member.{Member}
 use Rattle.wire_json.specs.declared.flat.Next.TheVariants as nexts
 use Rattle.wire_json.specs.Members.{or_refuse, is_known, are_among, only_keys}
 use Rattle.wire_json.specs.Operations.{items_told, list_at}
-use Rattle.wire_json.specs.Request.{json_of}
-use Rattle.wire_json.proofs.Steps.{json_read}
+use Rattle.wire_json.proofs.Lists.{list_any-map}
 use Rattle.wire_json.specs.Flat.{lone_value, value_of_tokens, primitive_data, put_all, flat_data}
 use Rattle.wire_json.specs.Flat.{IsPrimitive, ReadsNext, TellsMembers}
 
@@ -132,13 +131,13 @@ put_last : (ms : List Member) (m : Member) (old : Members)
 put_last [] m old = refl
 put_last (x ∷ ms) m old = put_last ms m (put x.key.now (primitive_data x.value) old)
 
--- a key is looked up in the members so far, and in one more
-pub looked_up : (q : List ℕ) (ms : List Member) (i : ℕ) (none : Member) (b : Bool)
-    → i < length ms → bytes_eq (get_or ms i none).key.now q ≡ b
-    → get_member q (put_all (take (i + 1) ms) no_members)
+-- a key is looked up in the first n members: in the last of these, whose number is i, and then in those before it
+pub looked_up : (q : List ℕ) (ms : List Member) (n i : ℕ) (none : Member) (b : Bool)
+    → n ≡ i + 1 → i < length ms → bytes_eq (get_or ms i none).key.now q ≡ b
+    → get_member q (put_all (take n ms) no_members)
     ≡ cond b (Some (primitive_data (get_or ms i none).value)) (get_member q (put_all (take i ms) no_members))
-looked_up q ms i none b within same =
-    ap (λ l. get_member q (put_all l no_members)) (ap (λ n. take n ms) (add-one i) ∙ take-suc ms i none within)
+looked_up q ms n i none b last within same =
+    ap (λ l. get_member q (put_all l no_members)) (ap (λ k. take k ms) (last ∙ add-one i) ∙ take-suc ms i none within)
     ∙ ap (get_member q) (put_last (take i ms) (get_or ms i none) no_members)
     ∙ get_put q (get_or ms i none).key.now (primitive_data (get_or ms i none).value) (put_all (take i ms) no_members) b same
 
@@ -198,6 +197,16 @@ among_put row k d (member l e ms) = among_put_at _ row k l d e ms refl (among_pu
 abbrev pub all_known : List (List ℕ) → List Member → Bool
 all_known row ms = list_all (λ m. is_known row m.key.now) ms
 
+-- the keys so far are of the row, and so is the next, which is the row's at its place
+pub one_more_known : (row : List (Bor (List ℕ))) (ms : List Member) (i : ℕ) (no_name : Bor (List ℕ)) (none : Member)
+    → i < length ms → length ms ≤ length row → bytes_eq (get_or row i no_name).now (get_or ms i none).key.now ≡ true
+    → all_known (map (λ name. name.now) row) (take i ms) ≡ true → all_known (map (λ name. name.now) row) (take (i + 1) ms) ≡ true
+one_more_known row ms i no_name none within enough same so_far =
+    list_all_more (λ m. is_known (map (λ name. name.now) row) m.key.now) ms i none within
+    ∙ ap (λ b. b && is_known (map (λ name. name.now) row) (get_or ms i none).key.now) so_far
+    ∙ list_any-map (λ name. bytes_eq name (get_or ms i none).key.now) (λ name. name.now) row
+    ∙ list_any_at (λ name. bytes_eq name.now (get_or ms i none).key.now) row i no_name (omega (arith, within, enough)) same
+
 keys_among : (row : List (List ℕ)) (ms : List Member) (old : Members)
     → are_among row (put_all ms old) ≡ all_known row ms && are_among row old
 keys_among row [] old = refl
@@ -214,11 +223,3 @@ pub only_of : (row : List (List ℕ)) (ms : List Member) → only_keys row (flat
 only_of row ms =
     ap (λ b. or_refuse {A = Unit {0}} BadField (if b then Some tt else None)) (keys_among row ms no_members ∙ and-true (all_known row ms))
     ∙ kept_or_refused (all_known row ms)
-
--- ---- from the bytes on
-
-pub told_by_bytes : {A : Type 0} (items : A → List Member) (bytes : List ℕ) → IsUtf8 bytes → (r : Option A)
-    → IfSome r (λ ms. value_of_tokens (tokens bytes) ≡ Some (flat_data (items ms)))
-    → IfSome r (λ ms. json_of bytes ≡ Ok (flat_data (items ms)))
-told_by_bytes items bytes u None h = tt
-told_by_bytes items bytes u (Some ms) h = json_read bytes (flat_data (items ms)) u h

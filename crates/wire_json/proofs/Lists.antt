@@ -1,8 +1,9 @@
 -- Writing the items of a list one after another, as a loop does.
-use Rattle.std.proofs.Common.{◌≡◌, ℕ, zero, suc, ◌+◌, ◌<◌, ◌≤◌, List, [], ◌∷◌, ◌++◌, length, take, get_or, refl, ap}
+use Rattle.std.proofs.Common.{◌≡◌, ℕ, zero, suc, ◌+◌, ◌<◌, ◌≤◌, List, [], ◌∷◌, ◌++◌, length, take, map, get_or, Bool, refl, ap}
 use Rattle.std.proofs.Common.{subst, ◌∙◌, add-one, append_assoc, arith}
 use Rattle.std.proofs.lemmas.List.{take_all}
-use Rattle.std.specs.List.{AllByRecursion, flat_map}
+use Rattle.std.specs.Prelude.{◌||◌}
+use Rattle.std.specs.List.{AllByRecursion, flat_map, list_any}
 use Rattle.json.specs.Token.{Token, begin_array, end_array}
 use Rattle.json.specs.Tree.{items_tokens}
 use Rattle.serde_json.specs.Data.{Data, array}
@@ -42,3 +43,8 @@ all_more P [] i x h a k = absurd (omega arith)
 all_more P (y ∷ xs) zero x h a k = (k, tt)
 all_more P (y ∷ xs) (suc i) x h a k =
     rw add-one (a.0, subst (λ n. AllByRecursion P (take n xs)) (add-one i) (all_more P xs i x (omega arith) a.1 k))
+
+-- a test of what each item is mapped to
+pub list_any-map : {A B : Type 0} (test : B → Bool) (f : A → B) (xs : List A) → list_any test (map f xs) ≡ list_any (λ x. test (f x)) xs
+list_any-map test f [] = refl
+list_any-map test f (x ∷ xs) = ap (λ b. test (f x) || b) (list_any-map test f xs)

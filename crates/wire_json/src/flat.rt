@@ -1,5 +1,5 @@
 //! JSON objects whose members are whole numbers and texts, read token by token, with no tree.
-ghost use Rattle.std.specs.Prelude.{◌≡◌, ◌≤◌, ◌<◌, ◌∷◌, [], length, Some, Ok, IfSome, slice_index, ◌==◌};
+ghost use Rattle.std.specs.Prelude.{◌≡◌, ◌≤◌, ◌<◌, ◌∷◌, [], length, true, Some, Ok, IfSome, slice_index, ◌==◌};
 ghost use Rattle.serde_json.specs.Data.{unsigned};
 ghost use Rattle.serde_json.specs.Read.{number_of};
 ghost use Rattle.json.specs.Token.{begin_object};
@@ -11,8 +11,8 @@ use arrayvec::ArrayVec;
 use fast_float::Numeral;
 use json::{Reader, Scratch, Token};
 
-// The most members of such an object.
-const MAX_MEMBERS: usize = 8;
+/// The most members of such an object.
+pub(crate) const MAX_MEMBERS: usize = 8;
 
 /// A member's value.
 #[derive(Clone, Copy, Drop)]
@@ -45,44 +45,51 @@ enum Next<'a> {
     Other,
 }
 
-/// The members of the object that the bytes are, if each is a whole number or a text and there are at most eight. `None` too where
-/// the scratch has too little room and memory is refused. Time in proportion to the bytes.
+/// Puts in the members of the object that the bytes are, if each is a whole number or a text and there are at most eight, and tells
+/// whether that is so. Not so too where the scratch has too little room and memory is refused. Time in proportion to the bytes. The
+/// members are written where the caller keeps them, since each move of all eight would be a copy.
 pub(crate) fn read_flat<'a>(
     scratch: &'a mut Scratch,
     bytes: &'a [u8],
-) -> Option<ArrayVec<Member<'a>, MAX_MEMBERS>>
-    ensures { IfSome result (λ ms. json_of bytes.now ≡ Ok (flat_data ms.items)) }
+    members: &mut ArrayVec<Member<'a>, MAX_MEMBERS>,
+) -> bool
+    requires { members.old.items ≡ [] }
+    ensures { result ≡ true → json_of bytes.now ≡ Ok (flat_data members.new.items) }
 {
     let Ok(text) = str::from_utf8(bytes) else {
-        return None;
+        return false;
     };
     let Ok(mut reader) = Reader::new(text, scratch) else {
-        return None;
+        return false;
     };
-    read_members(&mut reader)
+    read_members(&mut reader, members)
 }
 
-// The members of the one object that the reader has, if each is a whole number or a text and there are at most eight.
-fn read_members<'a>(reader: &mut Reader<'a>) -> Option<ArrayVec<Member<'a>, MAX_MEMBERS>>
-    ensures { IfSome result (λ ms. value_of_tokens reader.old ≡ Some (flat_data ms.items)) }
+// Puts in the members of the one object that the reader has, and tells whether each is a whole number or a text and there are at
+// most eight.
+fn read_members<'a>(
+    reader: &mut Reader<'a>,
+    members: &mut ArrayVec<Member<'a>, MAX_MEMBERS>,
+) -> bool
+    requires { members.old.items ≡ [] }
+    ensures { result ≡ true → value_of_tokens reader.old ≡ Some (flat_data members.new.items) }
 {
     let Some(Token::BeginObject) = reader.next() else {
-        return None;
+        return false;
     };
-    let mut members = ArrayVec::new();
     for _ in 0..=MAX_MEMBERS {
         match read_member(reader) {
             Next::Member(member) => {
                 if members.is_full() {
-                    return None;
+                    return false;
                 }
                 members.push(member);
             }
-            Next::End => return Some(members),
-            Next::Other => return None,
+            Next::End => return true,
+            Next::Other => return false,
         }
     }
-    None
+    false
 }
 
 fn read_member<'a>(reader: &mut Reader<'a>) -> Next<'a>

@@ -5,7 +5,7 @@ use Rattle.wire_json.proofs.FlatObjects.{one_more, whole_object}
 use Rattle.wire_json.proofs.flat.read_members.Goals as goal
 
 pub returns-in-End : goal.returns-in-End
-returns-in-End c =
+returns-in-End c = λ _.
     whole_object c.args.reader.now c.next.new.self c.loop.members.items c.loop.reader
     (c.in-Some-BeginObject.ensures.value ∙ ap (λ t. token_of t ∷ c.next.new.self) c.in-Some-BeginObject.field-0-is)
     c.loop.invariant c.in-End.ensures
