@@ -3,7 +3,8 @@ ghost use Rattle.std.specs.Prelude.{◌≡◌, IfSome};
 ghost use Rattle.std.specs.Thread.{IsSync};
 ghost use Rattle.shared_room.specs.Views.{IsPassOf};
 
-use crate::shared::{TURNS, closed, count, finds, front, joins, shared};
+use crate::shared::{TURNS, closed, finds, front, joins, shared};
+use crate::typing::count;
 use replica_world::one_order;
 use room::{DeskFault, Reply, Room};
 use shared_room::{Pass, PassDesk, SharedRoom};

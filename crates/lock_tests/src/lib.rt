@@ -6,6 +6,10 @@
 #[cfg(test)]
 mod carried;
 #[cfg(test)]
+mod lines;
+#[cfg(test)]
 mod locks;
 #[cfg(test)]
 mod shared;
+#[cfg(test)]
+mod typing;

@@ -1,5 +1,5 @@
 use Rattle.std.proofs.Common.{◌-◌}
-use Rattle.lock_tests.proofs.shared.+fn-type_together-join+arg2+fn-type_together-join+arg3+type_together.Given as goal
+use Rattle.lock_tests.proofs.typing.+fn-type_together-join+arg2+fn-type_together-join+arg3+type_together.Given as goal
 
 abbrev pub decreases-type_together : goal.decreases-type_together
 decreases-type_together g l = l.threads
