@@ -11,8 +11,8 @@ use arrayvec::ArrayVec;
 use fast_float::Numeral;
 use json::{Reader, Scratch, Token};
 
-/// The most members of such an object.
-pub(crate) const MAX_MEMBERS: usize = 8;
+// The most members of such an object.
+const MAX_MEMBERS: usize = 8;
 
 /// A member's value.
 #[derive(Clone, Copy, Drop)]
