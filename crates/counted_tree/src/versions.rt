@@ -216,6 +216,7 @@ impl VersionTree {
         ensures nodes { self.new.nodes ≡ self.old.nodes }
         ensures ok { OnOk result (self.new.room ≡ max self.old.room n) }
         ensures err { OnErr result (self.new.room ≡ self.old.room) }
+        ensures memory { OnErr result (self.old.room < n) }
     {
         if self.room < n {
             self.nodes.reserve(31 * n)?;

@@ -1,5 +1,5 @@
 //! The operations that are held back, in order of arrival.
-ghost use Rattle.std.specs.Prelude.{◌≡◌, ◌≤◌, ◌+◌, ◌⊎◌, [], true, Ok, Err, length, max, position, IfOk, IfErr, OnOk, OnErr, IfSome};
+ghost use Rattle.std.specs.Prelude.{◌≡◌, ◌<◌, ◌≤◌, ◌+◌, ◌⊎◌, [], true, Ok, Err, length, max, position, IfOk, IfErr, OnOk, OnErr, IfSome};
 ghost use Rattle.std.specs.Prelude.{OnSome, IfNone};
 ghost use Rattle.opid.specs.declared.refusal.Refusal.TheVariants.{Memory};
 ghost use Rattle.opid.specs.Clocks.{is_next};
@@ -119,13 +119,16 @@ impl Held {
         }
     }
 
-    /// Reserves memory, so that the next `n` operations that are kept aren't refused with `Memory`. Refused with
-    /// `Memory`.
+    /// Reserves memory, so that the next `n` operations that are kept aren't refused with `Memory`. Constant time where they are
+    /// reserved. Refused with `Memory`, only where fewer are.
     pub fn reserve(&mut self, n: usize) -> Result<(), Refusal>
         ensures ok { OnOk result (self.new ≡ record self.old { room = max self.old.room (length self.old.ops + n) }) }
         ensures err { OnErr result (self.new ≡ self.old) }
-        ensures memory { IfErr result (λ e. e ≡ Memory) }
+        ensures memory { IfErr result (λ e. (e ≡ Memory) × (self.old.room < length self.old.ops + n)) }
     {
+        if self.len() <= self.room && n <= self.room - self.len() {
+            return Ok(());
+        }
         self.ops.reserve(n)?;
         self.room = self.room.max(self.len() + n);
         Ok(())

@@ -1,5 +1,5 @@
 //! A replica of a document.
-ghost use Rattle.std.specs.Prelude.{◌≡◌, ◌≤◌, ◌+◌, ◌-◌, ◌⊎◌, ◌++◌, [], true, Some, None, Ok, Err};
+ghost use Rattle.std.specs.Prelude.{◌≡◌, ◌<◌, ◌≤◌, ◌+◌, ◌-◌, ◌⊎◌, ◌++◌, [], true, Some, None, Ok, Err};
 ghost use Rattle.std.specs.Prelude.{length, max, IsOk, IfOk, IfErr, OnOk, OnErr};
 ghost use Rattle.opid.specs.declared.refusal.Refusal.TheVariants.{Memory};
 ghost use Rattle.std.specs.Str.{chars};
@@ -257,12 +257,15 @@ impl Replica {
     }
 
     /// Reserves memory for `n` operations, those that are held back included: while fewer are held than there is room
-    /// for, `put` isn't refused with `Memory`. Refused with `Memory`.
+    /// for, `put` isn't refused with `Memory`. Refused with `Memory`, only where fewer are reserved.
     pub fn reserve(&mut self, n: usize) -> Result<(), Refusal>
         ensures ok { OnOk result (self.new ≡ record self.old { room = max self.old.room n }) }
         ensures err { OnErr result (self.new ≡ self.old) }
-        ensures memory { IfErr result (λ e. e ≡ Memory) }
+        ensures memory { IfErr result (λ e. (e ≡ Memory) × (self.old.room < n)) }
     {
+        if n <= self.room {
+            return Ok(());
+        }
         let left = MAX_OPERATIONS - self.version() as usize;
         let more = MAX_HELD.min(n).saturating_sub(self.held());
         self.log.reserve(left.min(n))?;

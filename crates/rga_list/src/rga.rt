@@ -134,11 +134,11 @@ impl Rga {
     /// Reserves memory for the next `n` insertions, so that they aren't refused with `Memory`. Constant time where it
     /// is there; else it is taken for at least 64 insertions at a time. As any site may insert, each of the 32 tables
     /// gets room for as many identifiers of 8 bytes, beside as many elements of 12: for 64 insertions that is some
-    /// 17 KB, whose reserve is kept. Refused with `Memory`.
+    /// 17 KB, whose reserve is kept. Refused with `Memory`, only where fewer are reserved.
     pub fn reserve(&mut self, n: usize) -> Result<(), Refusal>
         ensures ok { OnOk result (self.new ≡ record self.old { room = max self.old.room n }) }
         ensures err { OnErr result (self.new ≡ self.old) }
-        ensures memory { IfErr result (λ e. e ≡ Memory) }
+        ensures memory { IfErr result (λ e. (e ≡ Memory) × (self.old.room < n)) }
     {
         if n <= self.ahead {
             self.room = self.room.max(n);

@@ -134,12 +134,16 @@ impl Doc {
     }
 
     /// Reserves memory for the next `n` operations, so that they aren't refused with `Memory`: for each some 550
-    /// bytes, and what the linked order keeps for an insertion by any of 32 sites. Refused with `Memory`.
+    /// bytes, and what the linked order keeps for an insertion by any of 32 sites. Constant time where they are reserved. Refused with
+    /// `Memory`, only where fewer are.
     pub fn reserve(&mut self, n: usize) -> Result<(), Refusal>
         ensures ok { OnOk result (self.new ≡ record self.old { room = max self.old.room n }) }
         ensures err { OnErr result (self.new ≡ self.old) }
-        ensures memory { IfErr result (λ e. e ≡ Memory) }
+        ensures memory { IfErr result (λ e. (e ≡ Memory) × (self.old.room < n)) }
     {
+        if n <= self.room {
+            return Ok(());
+        }
         reserve_each(
             &mut self.log,
             &mut self.edits,
