@@ -1,4 +1,4 @@
--- Writing the items of a list one after another, as a loop does.
+-- The items of a list one after another, as a loop writes or tests them.
 use Rattle.std.proofs.Common.{◌≡◌, ℕ, zero, suc, ◌+◌, ◌<◌, ◌≤◌, List, [], ◌∷◌, ◌++◌, length, take, map, get_or, Bool, refl, ap}
 use Rattle.std.proofs.Common.{subst, ◌∙◌, add-one, append_assoc, arith}
 use Rattle.std.proofs.lemmas.List.{take_all}

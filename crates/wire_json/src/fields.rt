@@ -91,7 +91,7 @@ impl<'v> Fields<'v> {
     }
 }
 
-// The last value of a key. It stands in the body of who looks up, so that a key that is known there is compared in a step or two.
+// The last value of a key. It stands in the body of who looks up, where most keys are known.
 #[inline(always)]
 fn value_among<'v>(members: &[Member<'v>], key: &str) -> Option<Primitive<'v>>
     ensures { option_map primitive_data result ≡ get key.now (flat_data members.now) }
@@ -154,7 +154,7 @@ fn are_of(members: &[Member<'_>], row: &[&str]) -> bool
     are_in_order(members, row) || members.iter().all(|member| is_among(member.key, row))
 }
 
-// Whether each key is the row's at the same place, as most clients write them: then one comparison a key is enough.
+// True only where each key is of the row: the row's at the same place. Then one comparison a key is enough.
 fn are_in_order(members: &[Member<'_>], row: &[&str]) -> bool
     ensures { result ≡ true → list_all (λ m. is_known (map (λ name. name.now) row.now) m.key.now) members.now ≡ true }
 {

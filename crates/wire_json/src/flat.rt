@@ -46,7 +46,7 @@ enum Next<'a> {
 }
 
 /// Puts in the members of the object that the bytes are, if each is a whole number or a text and there are at most eight, and tells
-/// whether that is so. Not so too where the scratch has too little room and memory is refused. Time in proportion to the bytes. The
+/// whether that is so. False too where the scratch has too little room and memory is refused. Time in proportion to the bytes. The
 /// members are written where the caller keeps them, since each move of all eight would be a copy.
 pub(crate) fn read_flat<'a>(
     scratch: &'a mut Scratch,
