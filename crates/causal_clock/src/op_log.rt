@@ -111,11 +111,10 @@ impl OpLog {
         ensures err { OnErr result (self.new ≡ self.old) }
         ensures memory { IfErr result (λ e. (e ≡ Memory) × (self.old.room < n)) }
     {
-        if n <= self.room {
-            return Ok(());
+        if self.room < n {
+            reserve_each(&mut self.rows, &mut self.entries, n)?;
+            self.room = n;
         }
-        reserve_each(&mut self.rows, &mut self.entries, n)?;
-        self.room = self.room.max(n);
         Ok(())
     }
 

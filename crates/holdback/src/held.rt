@@ -130,7 +130,7 @@ impl Held {
             return Ok(());
         }
         self.ops.reserve(n)?;
-        self.room = self.room.max(self.len() + n);
+        self.room = self.len() + n;
         Ok(())
     }
 }

@@ -133,7 +133,7 @@ impl Places {
         let more = n.max(AT_ONCE);
         reserve_each(&mut self.rows, more)?;
         self.ahead = more;
-        self.room = self.room.max(n);
+        self.room = n;
         Ok(())
     }
 }

@@ -264,14 +264,13 @@ impl Replica {
         ensures err { OnErr result (self.new ≡ self.old) }
         ensures memory { IfErr result (λ e. (e ≡ Memory) × (self.old.room < n)) }
     {
-        if n <= self.room {
-            return Ok(());
+        if self.room < n {
+            let left = MAX_OPERATIONS - self.version() as usize;
+            let more = MAX_HELD.min(n).saturating_sub(self.held());
+            self.log.reserve(left.min(n))?;
+            self.held.reserve(more)?;
+            self.room = n;
         }
-        let left = MAX_OPERATIONS - self.version() as usize;
-        let more = MAX_HELD.min(n).saturating_sub(self.held());
-        self.log.reserve(left.min(n))?;
-        self.held.reserve(more)?;
-        self.room = self.room.max(n);
         Ok(())
     }
 

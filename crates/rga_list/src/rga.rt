@@ -148,7 +148,7 @@ impl Rga {
         self.nodes.reserve(more)?;
         reserve_each(&mut self.tables, more)?;
         self.ahead = more;
-        self.room = self.room.max(n);
+        self.room = n;
         Ok(())
     }
 

@@ -141,17 +141,16 @@ impl Doc {
         ensures err { OnErr result (self.new ≡ self.old) }
         ensures memory { IfErr result (λ e. (e ≡ Memory) × (self.old.room < n)) }
     {
-        if n <= self.room {
-            return Ok(());
+        if self.room < n {
+            reserve_each(
+                &mut self.log,
+                &mut self.edits,
+                &mut self.tree,
+                &mut self.list,
+                n,
+            )?;
+            self.room = n;
         }
-        reserve_each(
-            &mut self.log,
-            &mut self.edits,
-            &mut self.tree,
-            &mut self.list,
-            n,
-        )?;
-        self.room = self.room.max(n);
         Ok(())
     }
 

@@ -10,4 +10,4 @@ invariant_of-self-in_err-reserve_each c = (c.reserve_each.ensures.kept c.self.in
 
 pub invariant_of-self-2 : goal.invariant_of-self-2
 invariant_of-self-2 c =
-    (c.in_ok-reserve_each.ensures.ok, omega (arith, c.self.invariant.1, c.max-more.ensures, c.max-self-inside-2.ensures))
+    (c.in_ok-reserve_each.ensures.ok, omega (arith, c.self.invariant.1, c.max-more.ensures))

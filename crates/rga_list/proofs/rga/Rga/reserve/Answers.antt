@@ -26,5 +26,5 @@ invariant_of-self-2 c = (
     elements = omega (arith, c.reserve.ensures.len, c.in_ok-reserve.ensures.ok);
     ids = λ k l. c.in_ok-reserve_each.ensures.ok k (omega (arith, l, c.self.invariant.0.width));
   },
-  omega (arith, c.self.invariant.2, c.max-more.ensures, c.max-self-inside-2.ensures),
+  omega (arith, c.self.invariant.2, c.max-more.ensures),
 )
