@@ -1,19 +1,13 @@
-//! Tests of the line engine, of the server, of desks that carry to each other and of forged operations, over public calls of several
-//! crates. They stand apart from those crates, which would be proved once more for tests of their own.
+//! Tests of the server behind WebSockets, over public calls. They stand apart from that crate, which would be proved once more for
+//! tests of its own.
 #![tactic(auto)]
 
 #[cfg(test)]
 mod clients;
 #[cfg(test)]
-mod desks;
-#[cfg(test)]
-mod forged;
-#[cfg(test)]
 mod gates;
 #[cfg(test)]
 mod halls;
-#[cfg(test)]
-mod lines;
 #[cfg(test)]
 mod memory;
 #[cfg(test)]

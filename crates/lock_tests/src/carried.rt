@@ -3,8 +3,8 @@ ghost use Rattle.std.specs.Prelude.{◌≡◌, IfSome};
 ghost use Rattle.std.specs.Thread.{IsSync};
 ghost use Rattle.shared_room.specs.Views.{IsPassOf};
 
-use crate::shared::{TURNS, closed, finds, front, joins, shared};
-use crate::typing::count;
+use crate::shared::{TURNS, closed, count, finds, front, joins, shared};
+use line_engine::carry;
 use replica_world::one_order;
 use room::{DeskFault, Reply, Room};
 use shared_room::{Pass, PassDesk, SharedRoom};
@@ -13,7 +13,6 @@ use std::sync::Wait;
 use std::test::Fail;
 use std::thread::{Threads, join, sleep};
 use std::time::{Clock, Duration};
-use ws_server::carry;
 
 // How many characters each thread types.
 const TYPED: u32 = 99;

@@ -2,11 +2,11 @@
 ghost use Rattle.shared_room.specs.Views.{IsPassOf};
 
 use crate::shared::shared;
+use line_engine::{Counted, serve_through_pass};
 use shared_room::{Pass, SharedRoom};
 use std::alloc::Global;
 use std::sync::Wait;
 use std::test::Fail;
-use ws_server::{Counted, serve_through_pass};
 
 // Serves two lines that join.
 fn joins_once<R: Wait>(rt: &R, alloc: Global, room: &SharedRoom, pass: &mut Pass) -> bool

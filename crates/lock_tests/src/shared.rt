@@ -70,6 +70,11 @@ pub(crate) fn finds<R: Wait + Clock>(
     false
 }
 
+// How often the letter stands in the text.
+pub(crate) fn count(text: &str, letter: char) -> usize {
+    text.chars().filter(|c| *c == letter).count()
+}
+
 // The `n`-th submission of a session, a letter in front of this version.
 pub(crate) fn front(
     alloc: Global,

@@ -3,7 +3,7 @@ ghost use Rattle.std.specs.Prelude.{◌≤◌};
 ghost use Rattle.std.specs.Thread.{IsSync};
 ghost use Rattle.shared_room.specs.Views.{IsPassOf};
 
-use crate::shared::{closed, front, shared};
+use crate::shared::{closed, count, front, shared};
 use opid::Refusal;
 use room::{Call, Reply, Room};
 use shared_room::{Pass, SharedRoom};
@@ -11,11 +11,6 @@ use std::alloc::{AllocError, Global};
 use std::sync::Wait;
 use std::test::Fail;
 use std::thread::{Threads, join};
-
-// How often the letter stands in the text.
-pub(crate) fn count(text: &str, letter: char) -> usize {
-    text.chars().filter(|c| *c == letter).count()
-}
 
 // One of eight letters.
 fn letter(place: u64) -> char {

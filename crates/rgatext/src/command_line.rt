@@ -6,10 +6,11 @@ ghost use Rattle.rgatext.specs.declared.plan.Plan.{Plan};
 ghost use Rattle.rgatext.specs.CommandLine.{rgatext, lines_command, text_command, world_command, site_option, flag_option};
 ghost use Rattle.rgatext.specs.CommandLine.{version_option, sites_option, AsksForPlan, AsksNothing, ReadsTo, Refuses, ToldBy, is_set};
 
-use crate::plan::{Plan, PlanFault, Sites};
+use crate::plan::{Plan, PlanFault};
 use crate::serve_words::{serve_command, serve_plan};
 use clap::error::ErrorKind;
 use clap::{Arg, ArgAction, ArgMatches, Command, value_parser};
+use commands::Sites;
 use opid::Site;
 use std::alloc::{AllocError, Global};
 

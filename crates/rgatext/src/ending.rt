@@ -1,6 +1,6 @@
 //! How the program ends: what it tells, on which stream, and with which status.
 use crate::plan::PlanFault;
-use crate::stop::Stop;
+use commands::Stop;
 use std::fmt;
 
 /// How the program ends.

@@ -4,7 +4,7 @@ ghost use Rattle.std.specs.Thread.{IsSync};
 ghost use Rattle.ws_server.specs.Halls.{IsHallPassOf};
 ghost use Rattle.ws_server.specs.Names.{names_fit};
 
-use crate::stop::Stop;
+use commands::Stop;
 use log::{Log, warn};
 use opid::{Refusal, Site};
 use std::alloc::Global;

@@ -1,32 +1,25 @@
 //! The program: what its command line asks for, and what it then does.
 #![tactic(auto)]
 
-ghost use Rattle.rgatext.specs.Played.{IsPlayed};
+ghost use Rattle.rgatext.specs.Plans.{IsPlayed};
 
 mod command_line;
 mod ending;
 mod host;
 mod plan;
 mod play;
-mod play_lines;
-mod play_text;
-mod play_world;
-mod script;
-mod scripts;
-mod sending;
 mod serve_words;
-mod stop;
 
 use command_line::plan;
+use commands::Stop;
 use ending::Ending;
 use host::host;
+use line_engine::Counted;
 use plan::{Plan, PlanFault};
 use play::play;
 use std::alloc::AllocError;
 use std::process::ExitCode;
 use std::{env, io};
-use stop::Stop;
-use ws_server::Counted;
 
 // The words of the command line, the program's name first.
 fn words_of(rt: &HostRuntime) -> io::Result<Vec<String>> {

@@ -1,8 +1,8 @@
 //! What the program is to do, or why it can do nothing.
 
+use commands::Sites;
 use opid::Site;
 use std::alloc::AllocError;
-use std::marker::Model;
 use thiserror::Error;
 
 /// What the program is to do.
@@ -38,49 +38,6 @@ pub enum Plan {
         /// The names of the rooms.
         names: Vec<String>,
     },
-}
-
-/// How many sites a world begins with: 1 to 32.
-#[derive(Clone, Copy, Debug, PartialEq, Eq)]
-pub struct Sites {
-    count: u8,
-}
-
-impl Model for Sites {
-    ghost use Rattle.std.specs.Prelude.{ℕ, ◌≤◌};
-
-    ghost Value = { ℕ };
-
-    ghost view = { λ s. s.count };
-
-    ghost invariant = { λ s. (1 ≤ s.count) × (s.count ≤ 32) };
-
-    ghost inverse = { λ n. record { count = n } };
-}
-
-impl Sites {
-    ghost use Rattle.std.specs.Prelude.{◌≡◌, ◌<◌, ◌≤◌, ◌⊎◌, IfSome, IfNone};
-
-    /// So many sites, or none where they aren't 1 to 32.
-    pub fn new(count: u8) -> Option<Sites>
-        ensures some { IfSome result (λ sites. sites ≡ count) }
-        ensures none { IfNone result ((count < 1) ⊎ (32 < count)) }
-    {
-        if 1 <= count && count <= 32 {
-            Some(Sites { count })
-        } else {
-            None
-        }
-    }
-
-    /// How many.
-    pub fn count(self) -> u8
-        ensures value { result ≡ self }
-        ensures first { 1 ≤ result }
-        ensures most { result ≤ 32 }
-    {
-        self.count
-    }
 }
 
 /// Why there is no plan.

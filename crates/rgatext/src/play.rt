@@ -1,17 +1,15 @@
 //! Runs a plan over a reader and a writer.
 ghost use Rattle.std.specs.Prelude.{◌^◌, ◌<◌, ℕ, List, Result, Ok};
 ghost use Rattle.std.specs.Io.KnownBytes.{Appends, Consumes};
-ghost use Rattle.ws_server.specs.Counting.{Rises};
-ghost use Rattle.rgatext.specs.Played.{Plays, IsPlayed, served_end};
+ghost use Rattle.line_engine.specs.Counting.{Rises};
+ghost use Rattle.commands.specs.Played.{served_end};
+ghost use Rattle.rgatext.specs.Plans.{Plays, IsPlayed};
 
 use crate::plan::Plan;
-use crate::play_lines::play_lines;
-use crate::play_text::play_text;
-use crate::play_world::play_world;
-use crate::stop::Stop;
+use commands::{Stop, play_lines, play_text, play_world};
+use line_engine::{Counted, Source};
 use std::alloc::Global;
 use std::io::Write;
-use ws_server::{Counted, Source};
 
 /// Runs a plan other than `serve` from the reader to the writer.
 ///

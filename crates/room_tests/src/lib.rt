@@ -9,6 +9,8 @@ mod fixtures;
 #[cfg(test)]
 mod followed;
 #[cfg(test)]
+mod forged;
+#[cfg(test)]
 mod operations;
 #[cfg(test)]
 mod places;

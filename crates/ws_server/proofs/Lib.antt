@@ -1,14 +1,4 @@
-pub mod Known
-pub mod Cutting
 pub mod Answering
-pub mod Serving
-pub mod Held
-pub mod Reading
-pub mod Rounds
-pub mod Arms
-pub mod Making
 pub mod Opening
 pub mod Passes
 pub mod Sockets
-pub mod Following
-pub mod Lending

@@ -8,7 +8,7 @@ use Rattle.wire_json.specs.Text.{text as text_of}
 use Rattle.ws_server.specs.declared.hall.Hall.{Hall}
 use Rattle.ws_server.specs.Halls.{place_named}
 use Rattle.ws_server.specs.Frames.{OpensAt, OpensAsked, OpensRoom}
-use Rattle.ws_server.proofs.Answering.{within_limit}
+use Rattle.line_engine.proofs.Answering.{within_limit}
 
 pub opens_refused : {String : Type 0} (hall : Hall) (line : List ℕ) (refusal : Refusal) (asked : Result String Refusal) (opened : Option ℕ)
     → opened ≡ None → asked ≡ Err refusal → (65536 < length line → asked ≡ Err Why.TooLong)

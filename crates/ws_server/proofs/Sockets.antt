@@ -6,8 +6,8 @@ use Rattle.tungstenite.specs.Socket.{Socket, content_of}
 use Rattle.tungstenite.specs.declared.message.Message.{Message}
 use Rattle.tungstenite.specs.declared.error.Error.{Error}
 use Rattle.tungstenite.specs.declared.error.Error.TheVariants.{ConnectionClosed, OutOfMemory}
-use Rattle.ws_server.specs.declared.fault.ServeFault.{ServeFault}
-use Rattle.ws_server.specs.declared.fault.ServeFault.TheVariants.{Read, Write, Memory}
+use Rattle.line_engine.specs.declared.fault.ServeFault.{ServeFault}
+use Rattle.line_engine.specs.declared.fault.ServeFault.TheVariants.{Read, Write, Memory}
 use Rattle.ws_server.specs.declared.hall.Hall.{Hall}
 use Rattle.shared_room.specs.Views.{View}
 use Rattle.ws_server.specs.Frames.{Side, AnswersFrame}

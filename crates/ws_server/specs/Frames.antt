@@ -11,8 +11,8 @@ use Rattle.shared_room.specs.Views.{View, view, opening}
 use Rattle.ws_server.specs.declared.conn.Conn.{Conn}
 use Rattle.ws_server.specs.declared.hall.Hall.{Hall}
 use Rattle.ws_server.specs.Halls.{rooms_of, place_named}
-use Rattle.ws_server.specs.AnsweredRequests.{AnswersRequest}
-use Rattle.ws_server.specs.PassSteps.{pass_step, pass_fault}
+use Rattle.line_engine.specs.AnsweredRequests.{AnswersRequest}
+use Rattle.line_engine.specs.PassSteps.{pass_step, pass_fault}
 use Rattle.ws_server.specs.Gates.{Gated, gated_step, gated_fault}
 
 -- What serves a connection: what is kept of it, a pass of each room of the hall, and its gate.

@@ -1,16 +1,6 @@
-pub mod Lines
-pub mod AnsweredRequests
-pub mod AnswerLaws
-pub mod LineBytes
-pub mod ServedLines
-pub mod Calls
-pub mod Counting
-pub mod Turns
-pub mod PassSteps
 pub mod Halls
 pub mod Gates
 pub mod Frames
 pub mod Sockets
 pub mod Serving
 pub mod Names
-pub mod Carrying

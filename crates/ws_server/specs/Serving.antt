@@ -9,8 +9,8 @@ use Rattle.tungstenite.specs.declared.error.Error.TheVariants.{ConnectionClosed,
 use Rattle.shared_room.specs.declared.pass.Pass.{Pass}
 use Rattle.shared_room.specs.Views.{View}
 use Rattle.ws_server.specs.declared.conn.Conn.{Conn}
-use Rattle.ws_server.specs.declared.fault.ServeFault.{ServeFault}
-use Rattle.ws_server.specs.declared.fault.ServeFault.TheVariants.{Read, Write, Memory}
+use Rattle.line_engine.specs.declared.fault.ServeFault.{ServeFault}
+use Rattle.line_engine.specs.declared.fault.ServeFault.TheVariants.{Read, Write, Memory}
 use Rattle.ws_server.specs.declared.hall.Hall.{Hall}
 use Rattle.ws_server.specs.Frames.{Side, AnswersFrame}
 use Rattle.ws_server.specs.Gates.{TellsAfter}

@@ -2,19 +2,18 @@
 ghost use Rattle.std.specs.Prelude.{◌≡◌, ℕ, ◌<◌, List, Option, IfOk, IfErr, IfSome, MatchResult, None, Ok, length, string_bytes};
 ghost use Rattle.shared_room.specs.Turns.{Answers, FaultsPass};
 ghost use Rattle.shared_room.specs.Views.{view, opening, IsPassOf};
-ghost use Rattle.ws_server.specs.declared.fault.ServeFault.TheVariants.{Memory};
-ghost use Rattle.ws_server.specs.Lines.{ended};
-ghost use Rattle.ws_server.specs.LineBytes.{line_bytes};
+ghost use Rattle.line_engine.specs.declared.fault.ServeFault.TheVariants.{Memory};
+ghost use Rattle.line_engine.specs.Lines.{ended};
+ghost use Rattle.line_engine.specs.LineBytes.{line_bytes};
 ghost use Rattle.ws_server.specs.Halls.{rooms_of, IsHallPassOf, IsConnOf};
 ghost use Rattle.ws_server.specs.Frames.{AnswersOver, AnswersFrame, OpensRoom};
 ghost use Rattle.ws_server.specs.Gates.{next_call};
 
 use crate::conn::Conn;
-use crate::fault::ServeFault;
 use crate::gate::Witness;
 use crate::hall::{Hall, HallPass};
-use crate::reply_line::ReplyLine;
-use crate::requests::reply_of;
+use crate::message::string_of;
+use line_engine::{ReplyLine, ServeFault, reply_of};
 use opid::Refusal;
 use room::{Call, Desk, DeskFault, Reply};
 use shared_room::{Pass, PassDesk, SharedRoom};
@@ -178,7 +177,7 @@ pub fn answer_frame<R: Wait, G: Witness>(
     ensures memory { IfErr result (λ why. why ≡ Memory) }
 {
     let Answered { line, call: _ } = answer_message(rt, alloc, hall, pass, conn, bytes, gate)?;
-    match line.into_text(alloc) {
+    match string_of(alloc, line) {
         Ok(text) => Ok(text),
         Err(_) => Err(ServeFault::Memory),
     }

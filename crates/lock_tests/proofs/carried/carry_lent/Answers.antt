@@ -8,8 +8,8 @@ use Rattle.room.specs.declared.desk.DeskFault.{DeskFault}
 use Rattle.shared_room.specs.declared.desk.PassDesk.{PassDesk}
 use Rattle.shared_room.specs.declared.shared.SharedRoom.{SharedRoom}
 use Rattle.shared_room.specs.Views.{IsPassOf}
-use Rattle.ws_server.specs.Carrying.{Calls, Hands, HandsTold, told_ops}
-use Rattle.ws_server.proofs.Lending.{desk_step, desk_fault}
+use Rattle.line_engine.specs.Carrying.{Calls, Hands, HandsTold, told_ops}
+use Rattle.line_engine.proofs.Lending.{desk_step, desk_fault}
 use Rattle.lock_tests.proofs.carried.carry_lent.Goals as goal
 
 abbrev Stays : {H : Type 0} → PassDesk H → PassDesk H → Type 0

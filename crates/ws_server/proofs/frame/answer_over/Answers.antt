@@ -3,11 +3,12 @@ use Rattle.std.proofs.Common.{refl, ap, Err, None, Some, ◌∙◌}
 use Rattle.wire_json.specs.Text.{text}
 use Rattle.room.specs.declared.reply.Reply.TheVariants.{No}
 use Rattle.shared_room.specs.Views.{view, opening}
-use Rattle.ws_server.specs.Lines.{ended}
-use Rattle.ws_server.specs.PassSteps.{pass_step, pass_fault}
-use Rattle.ws_server.specs.AnsweredRequests.{reply_of}
+use Rattle.line_engine.specs.Lines.{ended}
+use Rattle.line_engine.specs.PassSteps.{pass_step, pass_fault}
+use Rattle.line_engine.specs.AnsweredRequests.{reply_of}
 use Rattle.ws_server.specs.Gates.{gated_step, gated_fault}
-use Rattle.ws_server.proofs.Answering.{AnswersRequest-gated, AnswersRequest-refused}
+use Rattle.line_engine.proofs.Answering.{AnswersRequest-refused}
+use Rattle.ws_server.proofs.Answering.{AnswersRequest-gated}
 use Rattle.ws_server.proofs.frame.answer_over.Goals as goal
 
 pub returns-in-Ok-clause-answered : goal.returns-in-Ok-clause-answered

@@ -1,0 +1,4 @@
+pub mod Played
+pub mod Script
+pub mod Worlds
+pub mod WorldLaws

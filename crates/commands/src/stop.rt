@@ -1,0 +1,41 @@
+//! Why a run stopped before its end.
+use line_engine::ServeFault;
+use opid::Refusal;
+use std::fmt;
+
+/// Why a run stopped before its end.
+#[derive(Clone, Copy, Debug, PartialEq, Eq)]
+pub enum Stop {
+    /// What was asked for is refused.
+    Refused(Refusal),
+    /// A read or a write failed, or memory was refused.
+    Fault(ServeFault),
+    /// A listener, a connection or a thread can't be had.
+    Socket,
+}
+
+impl Stop {
+    ghost use Rattle.std.specs.Prelude.{◌≡◌};
+    ghost use Rattle.opid.specs.declared.refusal.Refusal.TheVariants.{Memory};
+    ghost use Rattle.commands.specs.Played.{stop_of};
+
+    /// Why a refusal stops a run: for want of memory it is a fault. Constant time.
+    pub fn of(why: Refusal) -> Stop
+        ensures { result ≡ stop_of why }
+    {
+        match why {
+            Refusal::Memory => Stop::Fault(ServeFault::Memory),
+            _ => Stop::Refused(why),
+        }
+    }
+}
+
+impl fmt::Display for Stop {
+    fn fmt<W: fmt::Write>(&self, f: &mut fmt::Formatter<W>) -> fmt::Result {
+        match self {
+            Stop::Refused(why) => write!(f, "refused {} {}", why.number(), why.name()),
+            Stop::Fault(why) => write!(f, "{why}"),
+            Stop::Socket => f.write_str("fault socket"),
+        }
+    }
+}

@@ -1,0 +1,83 @@
+//! The line that is sent for an answer.
+ghost use Rattle.std.specs.Prelude.{◌≡◌, ℕ, List, IfOk, string_bytes};
+ghost use Rattle.room.specs.declared.reply.Reply.TheVariants.{No};
+ghost use Rattle.wire_json.specs.Text.{text};
+ghost use Rattle.line_engine.specs.Lines.{ended};
+ghost use Rattle.line_engine.specs.LineBytes.{line_bytes};
+
+use crate::fixed::refusal_line;
+use opid::Refusal;
+use room::Reply;
+use std::alloc::{AllocError, Global};
+use wire_json::write_reply;
+
+/// The line of an answer: its text, and LF. A message has the text alone, which is a line `without_end`.
+#[derive(Debug, Drop)]
+pub enum ReplyLine {
+    /// A line that was made.
+    Made(String),
+    /// A line that stands in the program, and needs no memory.
+    Fixed(&'static str),
+}
+
+impl ReplyLine {
+    /// The line of a reply. An error is for want of memory; a refusal's line needs none. Takes time and memory in
+    /// proportion to the text.
+    pub fn new(alloc: Global, reply: &Reply) -> Result<ReplyLine, AllocError>
+        ensures { IfOk result (λ made. line_bytes made ≡ ended (text reply.now)) }
+    {
+        if let Reply::No(why) = reply {
+            return Ok(ReplyLine::refusal(*why));
+        }
+        let Ok(mut line) = write_reply(alloc, reply) else {
+            return Err(AllocError);
+        };
+        line.push('\n')?;
+        Ok(ReplyLine::Made(line))
+    }
+
+    /// The line of a refusal. Constant time, and no memory.
+    pub fn refusal(why: Refusal) -> ReplyLine
+        ensures { line_bytes result ≡ ended (text (No why)) }
+    {
+        ReplyLine::Fixed(refusal_line(why))
+    }
+
+    /// The bytes, with the LF. Constant time.
+    pub fn as_bytes(&self) -> &[u8]
+        ensures { result.now ≡ line_bytes self.now }
+    {
+        match self {
+            ReplyLine::Made(line) => line.as_bytes(),
+            ReplyLine::Fixed(line) => line.as_bytes(),
+        }
+    }
+
+    /// The text alone, less the LF. Constant time, and no memory.
+    pub fn without_end(self) -> ReplyLine
+        requires { (answer : List ℕ) × (line_bytes self ≡ ended answer) }
+        ensures { (answer : List ℕ) → line_bytes self ≡ ended answer → line_bytes result ≡ answer }
+    {
+        match self {
+            ReplyLine::Made(line) => ReplyLine::Made(made_text(line)),
+            ReplyLine::Fixed(line) => ReplyLine::Fixed(fixed_text(line)),
+        }
+    }
+}
+
+// A line that was made, less its LF.
+fn made_text(mut line: String) -> String
+    requires { (answer : List ℕ) × (string_bytes line ≡ ended answer) }
+    ensures { (answer : List ℕ) → string_bytes line ≡ ended answer → string_bytes result ≡ answer }
+{
+    let _ = line.pop();
+    line
+}
+
+// A fixed line, less its LF.
+fn fixed_text(line: &'static str) -> &'static str
+    requires { (answer : List ℕ) × (line.now ≡ ended answer) }
+    ensures { (answer : List ℕ) → line.now ≡ ended answer → result.now ≡ answer }
+{
+    &line[..line.len() - 1]
+}
