@@ -8,13 +8,13 @@ ghost use Rattle.commands.specs.declared.script.Form.{Form};
 ghost use Rattle.commands.specs.Script.{IsWord, IsPlainNumber, IsForm, spaced, event_of, Asks};
 
 use memchr::memchr;
-use opid::{Refusal, Site};
+use opid::Refusal;
 use replica_world::Event;
 use std::alloc::Global;
 use std::str;
 use wire_json::{RequestReader, check_site};
 
-/// The most bytes of a line.
+/// The most bytes of a script's line, without its LF.
 pub(crate) const MAX_LINE_BYTES: usize = 65_600;
 
 /// What a line says, in one of the three forms of scripts.

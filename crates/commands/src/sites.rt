@@ -1,4 +1,4 @@
-//! How many sites a world begins with.
+//! A number from 1 to 32, for the sites of a world.
 use std::marker::Model;
 
 /// How many sites a world begins with: 1 to 32.
@@ -22,7 +22,7 @@ impl Model for Sites {
 impl Sites {
     ghost use Rattle.std.specs.Prelude.{◌≡◌, ◌<◌, ◌≤◌, ◌⊎◌, IfSome, IfNone};
 
-    /// So many sites, or none where they aren't 1 to 32.
+    /// So many sites, or none where they aren't 1 to 32. Constant time.
     pub fn new(count: u8) -> Option<Sites>
         ensures some { IfSome result (λ sites. sites ≡ count) }
         ensures none { IfNone result ((count < 1) ⊎ (32 < count)) }
@@ -34,7 +34,7 @@ impl Sites {
         }
     }
 
-    /// How many.
+    /// How many. Constant time.
     pub fn count(self) -> u8
         ensures value { result ≡ self }
         ensures first { 1 ≤ result }

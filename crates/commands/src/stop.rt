@@ -1,4 +1,4 @@
-//! Why a run stopped before its end.
+//! The refusals and faults at which a run ends.
 use line_engine::ServeFault;
 use opid::Refusal;
 use std::fmt;
@@ -10,7 +10,7 @@ pub enum Stop {
     Refused(Refusal),
     /// A read or a write failed, or memory was refused.
     Fault(ServeFault),
-    /// A listener, a connection or a thread can't be had.
+    /// A listener, a connection or a thread can't be had. No command of this crate ends so; the program's `serve` does.
     Socket,
 }
 

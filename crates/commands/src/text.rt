@@ -18,6 +18,10 @@ use std::io::Write;
 use versions::Characters;
 
 /// Prints the reading of a version, the newest unless one is named, of the snapshot that the whole input is, and LF.
+///
+/// Refused with `BadSnapshot` where the input is none, and with `BadVersion` where the version is above the newest; else a
+/// fault of a read, of the write or of memory. Takes time and memory in proportion to the input, which is in memory as a whole
+/// with its JSON value, and so is the text.
 pub fn play_text<R: Source, W: Write>(
     alloc: Global,
     version: Option<u32>,

@@ -22,6 +22,9 @@ use std::io::Write;
 
 /// Answers the events of a script over a world of empty rooms at the first sites, one a line, and then writes a line for
 /// each site: its number, its version and its text.
+///
+/// An error is a fault of the engine, of the last write or of memory. Takes the time of the engine and of the events, and memory
+/// for the engine's buffer and the rooms; the last lines are in memory as a whole.
 pub fn play_world<R: Source, W: Write>(
     alloc: Global,
     sites: Sites,

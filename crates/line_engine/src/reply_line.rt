@@ -1,5 +1,5 @@
 //! The line that is sent for an answer.
-ghost use Rattle.std.specs.Prelude.{◌≡◌, ℕ, List, IfOk, string_bytes};
+ghost use Rattle.std.specs.Prelude.{◌≡◌, IfOk};
 ghost use Rattle.room.specs.declared.reply.Reply.TheVariants.{No};
 ghost use Rattle.wire_json.specs.Text.{text};
 ghost use Rattle.line_engine.specs.Lines.{ended};
@@ -11,7 +11,7 @@ use room::Reply;
 use std::alloc::{AllocError, Global};
 use wire_json::write_reply;
 
-/// The line of an answer: its text, and LF. A message has the text alone, which is a line `without_end`.
+/// The line of an answer: its text, and LF.
 #[derive(Debug, Drop)]
 pub enum ReplyLine {
     /// A line that was made.
@@ -52,32 +52,4 @@ impl ReplyLine {
             ReplyLine::Fixed(line) => line.as_bytes(),
         }
     }
-
-    /// The text alone, less the LF. Constant time, and no memory.
-    pub fn without_end(self) -> ReplyLine
-        requires { (answer : List ℕ) × (line_bytes self ≡ ended answer) }
-        ensures { (answer : List ℕ) → line_bytes self ≡ ended answer → line_bytes result ≡ answer }
-    {
-        match self {
-            ReplyLine::Made(line) => ReplyLine::Made(made_text(line)),
-            ReplyLine::Fixed(line) => ReplyLine::Fixed(fixed_text(line)),
-        }
-    }
-}
-
-// A line that was made, less its LF.
-fn made_text(mut line: String) -> String
-    requires { (answer : List ℕ) × (string_bytes line ≡ ended answer) }
-    ensures { (answer : List ℕ) → string_bytes line ≡ ended answer → string_bytes result ≡ answer }
-{
-    let _ = line.pop();
-    line
-}
-
-// A fixed line, less its LF.
-fn fixed_text(line: &'static str) -> &'static str
-    requires { (answer : List ℕ) × (line.now ≡ ended answer) }
-    ensures { (answer : List ℕ) → line.now ≡ ended answer → result.now ≡ answer }
-{
-    &line[..line.len() - 1]
 }

@@ -1,6 +1,6 @@
-//! Tests of the lock, of the room that threads share behind it, and of what is carried between two such rooms, over public calls of
-//! several crates. They stand apart from those crates, which would be proved once more for tests of their own, and from those of
-//! connections, since one crate of all would be proved far more slowly than two.
+//! Tests of the lock, of the room that threads share behind it, and of lines and of what is carried over such rooms, over public
+//! calls of several crates. They stand apart from those crates, which would be proved once more for tests of their own, and from
+//! the other tests of lines and those of connections, since one crate of all would be proved far more slowly.
 #![tactic(auto)]
 
 #[cfg(test)]

@@ -5,6 +5,7 @@ ghost use Rattle.ws_server.specs.Halls.{IsHallPassOf};
 ghost use Rattle.ws_server.specs.Names.{names_fit};
 
 use commands::Stop;
+use line_engine::ServeFault;
 use log::{Log, warn};
 use opid::{Refusal, Site};
 use std::alloc::Global;
@@ -13,7 +14,7 @@ use std::net::{Net, TcpListener, TcpStream};
 use std::sync::{Mutex, Wait};
 use std::thread;
 use std::thread::Threads;
-use ws_server::{Gate, Hall, HallPass, ServeFault, names_fit, serve_socket};
+use ws_server::{Gate, Hall, HallPass, names_fit, serve_socket};
 
 // How many calls a connection may make in each room.
 const DRAWS: u64 = 2_097_152;

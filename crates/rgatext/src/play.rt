@@ -1,5 +1,5 @@
 //! Runs a plan over a reader and a writer.
-ghost use Rattle.std.specs.Prelude.{◌^◌, ◌<◌, ℕ, List, Result, Ok};
+ghost use Rattle.std.specs.Prelude.{◌^◌, ◌<◌, ℕ, List, Result};
 ghost use Rattle.std.specs.Io.KnownBytes.{Appends, Consumes};
 ghost use Rattle.line_engine.specs.Counting.{Rises};
 ghost use Rattle.commands.specs.Played.{served_end};
@@ -11,13 +11,8 @@ use line_engine::{Counted, Source};
 use std::alloc::Global;
 use std::io::Write;
 
-/// Runs a plan other than `serve` from the reader to the writer.
-///
-/// `lines` serves a room of its site, `text` prints a reading, and `world` plays a script. An `Err` tells the refusal or
-/// the fault that ended it: a snapshot that is none or whose log has an operation of the site, a version above the newest,
-/// a read or a write that failed, or memory that was refused. Takes the time of the engine and of the calls that the lines
-/// ask for, and memory for the engine's buffer and for the room or rooms; a snapshot that is read is in memory as a whole
-/// with its JSON value, and so is the text that is written of a snapshot, of a version or of a world's readings.
+/// Runs a plan other than `serve` from the reader to the writer, by its command: `lines` serves a room of its site, `text` prints
+/// a reading, and `world` plays a script. Errors and costs are the command's.
 pub fn play<R: Source, W: Write>(
     alloc: Global,
     plan: &Plan,

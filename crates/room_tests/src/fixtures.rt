@@ -1,7 +1,8 @@
-//! What tests of rooms share: an empty room, an insertion, replies, and what an editor shows.
+//! What tests of rooms share: an empty room, an insertion, replies, what an editor shows, and whether rooms have one order.
 ghost use Rattle.std.specs.Prelude.{◌≡◌, [], IfOk};
 
 use opid::Site;
+use replica_world::one_order;
 use room::{Call, Characters, Editor, Reply, Room};
 use std::alloc::Global;
 use std::test::Fail;
@@ -45,4 +46,10 @@ pub(crate) fn is_text(reply: &Reply, version: u32, text: &str) -> bool {
 /// Whether the editor has the text.
 pub(crate) fn shows(editor: &Editor, text: &str) -> bool {
     editor.text().characters().iter().copied().eq(text.chars())
+}
+
+/// Whether the two rooms have one order of elements.
+pub(crate) fn have_one_order(one: Room, other: Room) -> bool {
+    let rooms = [one, other];
+    one_order(&rooms)
 }

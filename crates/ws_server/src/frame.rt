@@ -12,7 +12,7 @@ ghost use Rattle.ws_server.specs.Gates.{next_call};
 use crate::conn::Conn;
 use crate::gate::Witness;
 use crate::hall::{Hall, HallPass};
-use crate::message::string_of;
+use crate::message::text_of;
 use line_engine::{ReplyLine, ServeFault, reply_of};
 use opid::Refusal;
 use room::{Call, Desk, DeskFault, Reply};
@@ -177,7 +177,7 @@ pub fn answer_frame<R: Wait, G: Witness>(
     ensures memory { IfErr result (λ why. why ≡ Memory) }
 {
     let Answered { line, call: _ } = answer_message(rt, alloc, hall, pass, conn, bytes, gate)?;
-    match string_of(alloc, line) {
+    match text_of(alloc, line) {
         Ok(text) => Ok(text),
         Err(_) => Err(ServeFault::Memory),
     }

@@ -1,5 +1,5 @@
-//! Rooms behind WebSockets: a hall of rooms by name, and an answer for each message. What its callers need of the line engine is
-//! here by name, too.
+//! Rooms behind WebSockets: a hall of rooms by name, and an answer for each message. It passes on `serve_lines`, `Counted`,
+//! `ServeFault` and `carry` of the line engine.
 #![tactic(auto)]
 
 mod channel;
