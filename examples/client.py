@@ -168,11 +168,10 @@ class Session:
             if len(edits) < MOST:
                 return played
 
-    def _submit(self, request, place):
+    def _submit(self, kind, place, **what):
         """Submits at a place of the session's text, as its next number. The version that it names is always one that
         was sent, so 8 doesn't come."""
-        more = {"s": self.session, "n": self.number + 1, "v": self.version, "k": place}
-        reply = self._answer({**request, **more})
+        reply = self._answer({"t": kind, "s": self.session, "n": self.number + 1, "v": self.version, "k": place, **what})
         if reply["from"] < self.reached:
             self._refuse(7)
         self.number, self.reached = self.number + 1, reply["to"]
@@ -180,12 +179,12 @@ class Session:
     def insert(self, place, text):
         """Puts a text in at a place. Its parts all name one version and place, so the last one is sent first."""
         for start in reversed(range(0, len(text), MOST)):
-            self._submit({"t": "ins", "x": text[start : start + MOST]}, place)
+            self._submit("ins", place, x=text[start : start + MOST])
 
     def delete(self, place, count):
         """Deletes characters from a place on. The places of the version that is named don't move."""
         for start in range(0, count, MOST):
-            self._submit({"t": "del", "c": min(MOST, count - start)}, place + start)
+            self._submit("del", place + start, c=min(MOST, count - start))
 
 
 if __name__ == "__main__":

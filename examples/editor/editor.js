@@ -224,8 +224,8 @@ class Editor {
   }
 
   // The reply to a submission; none where it was refused.
-  async accepted(request) {
-    const reply = await this.ask({ ...request, s: this.session, n: this.number + 1 });
+  async accepted({ t, ...asked }) {
+    const reply = await this.ask({ t, s: this.session, n: this.number + 1, ...asked });
     if (reply.r === "no") return this.refused(reply.n);
     this.number += 1;
     return reply;
