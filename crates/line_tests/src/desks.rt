@@ -6,8 +6,8 @@ use std::alloc::{AllocError, Global};
 use std::test::Fail;
 
 // A desk over an empty room of this site.
-pub(crate) fn desk_of(alloc: Global, site: u8) -> Result<RoomDesk, Fail> {
-    Ok(RoomDesk::new(Room::new(alloc, Site::new(site)?)))
+pub(crate) fn desk_of(alloc: Global, site: Site) -> RoomDesk {
+    RoomDesk::new(Room::new(alloc, site))
 }
 
 // The `n`-th submission of session 1, at the beginning of the empty version.
@@ -49,16 +49,17 @@ fn carry_each_way(alloc: Global, a: &mut RoomDesk, b: &mut RoomDesk, want: &str)
 }
 
 // Two rooms of these sites, of which the first is carried from first.
-fn rooms_carry(alloc: Global, first: u8, second: u8, want: &str) -> Result<bool, Fail> {
-    let mut a = desk_of(alloc, first)?;
-    let mut b = desk_of(alloc, second)?;
-    Ok(carry_each_way(alloc, &mut a, &mut b, want))
+fn rooms_carry(alloc: Global, first: Site, second: Site, want: &str) -> bool {
+    let mut a = desk_of(alloc, first);
+    let mut b = desk_of(alloc, second);
+    carry_each_way(alloc, &mut a, &mut b, want)
 }
 
 #[test]
 fn two_rooms_carry_to_each_other(rt: HostRuntime) -> Result<(), Fail> {
-    let mut all = rooms_carry(rt.alloc(), 0, 1, "ba")?;
-    all &= rooms_carry(rt.alloc(), 1, 0, "ab")?;
+    let (zero, one) = (Site::new(0)?, Site::new(1)?);
+    let mut all = rooms_carry(rt.alloc(), zero, one, "ba");
+    all &= rooms_carry(rt.alloc(), one, zero, "ab");
     assert!(rt; all);
     Ok(())
 }
@@ -78,10 +79,16 @@ fn carry_seventy(alloc: Global, from: &mut RoomDesk, to: &mut RoomDesk) -> bool 
     all && reads(to, ALL)
 }
 
+// The same between rooms of these sites.
+fn rooms_carry_seventy(alloc: Global, first: Site, second: Site) -> bool {
+    let mut from = desk_of(alloc, first);
+    let mut to = desk_of(alloc, second);
+    carry_seventy(alloc, &mut from, &mut to)
+}
+
 #[test]
 fn a_carry_takes_at_most_64(rt: HostRuntime) -> Result<(), Fail> {
-    let mut from = desk_of(rt.alloc(), 0)?;
-    let mut to = desk_of(rt.alloc(), 1)?;
-    assert!(rt; carry_seventy(rt.alloc(), &mut from, &mut to));
+    let (zero, one) = (Site::new(0)?, Site::new(1)?);
+    assert!(rt; rooms_carry_seventy(rt.alloc(), zero, one));
     Ok(())
 }

@@ -1,6 +1,7 @@
 //! The engine over a room, and over readers and writers that give little at a time, or fail.
 use crate::desks::{MANY, begins, desk_of, types};
 use line_engine::{Counted, ServeFault, serve_lines};
+use opid::Site;
 use room::RoomDesk;
 use std::alloc::Global;
 use std::cell::Cell;
@@ -91,42 +92,40 @@ struct Course {
     left: usize,
 }
 
-fn run(alloc: Global, reader: Slow<'_>, writer: Short<'_>) -> std::result::Result<Course, Fail> {
-    let mut desk = desk_of(alloc, 0)?;
+// The engine over an empty room of the site.
+fn run(alloc: Global, site: Site, reader: Slow<'_>, writer: Short<'_>) -> Course {
+    let mut desk = desk_of(alloc, site);
     let mut input = Counted::new(reader);
     let mut output = Counted::new(writer);
     let end = serve_lines(alloc, &mut desk, &mut input, &mut output);
     let failed = (input.failures(), output.failures());
     let reader = input.into_inner();
     let writer = output.into_inner();
-    Ok(Course {
+    Course {
         end,
         reads: reader.reads,
         writes: writer.writes,
         failed,
         left: writer.wanted.len(),
-    })
+    }
 }
 
 // Whether the input, given `step` bytes a read, is answered by these lines, each in a write of its own.
 fn is_answered(
     alloc: Global,
+    site: Site,
     input: &[u8],
     step: usize,
     want: &[u8],
     writes: usize,
-) -> std::result::Result<bool, Fail> {
+) -> bool {
     let course = run(
         alloc,
+        site,
         slow_reader(input, step, 0),
         short_writer(want, usize::MAX),
-    )?;
-    Ok(
-        course.end == Ok(())
-            && course.writes == writes
-            && course.failed == (0, 0)
-            && course.left == 0,
-    )
+    );
+    course.end == Ok(()) && course.writes == writes && course.failed == (0, 0) && course.left == 0
 }
 
 const JOINS: &[u8] = b"{\"t\":\"join\"}\n{\"t\":\"join\"}\n{\"t\":\"join\"}\n";
@@ -144,71 +143,72 @@ fn serves_each_line(rt: HostRuntime) -> std::result::Result<(), Fail> {
     let input = b"{\"t\":\"join\"}\n\n{\"t\":\"dance\"}\r\n[]\n{\"t\":\"read\"}";
     let want =
         b"{\"r\":\"joined\",\"s\":1,\"v\":0,\"x\":\"\"}\n{\"n\":1,\"r\":\"no\"}\n{\"n\":3,\"r\":\"no\"}\n{\"n\":2,\"r\":\"no\"}\n{\"r\":\"text\",\"v\":0,\"x\":\"\"}\n";
-    let mut all = is_answered(rt.alloc(), b"", 100, b"", 0)?;
+    let site = Site::new(0)?;
+    let mut all = is_answered(rt.alloc(), site, b"", 100, b"", 0);
     for step in [1, 3, 100] {
-        all &= is_answered(rt.alloc(), input, step, want, 5)?;
+        all &= is_answered(rt.alloc(), site, input, step, want, 5);
     }
     assert!(rt; all);
     Ok(())
 }
 
 // Where each read gives a byte, and this one fails: whether the requests that were read whole are answered, and no other.
-fn ends_at_read(alloc: Global, number: usize) -> std::result::Result<bool, Fail> {
+fn ends_at_read(alloc: Global, site: Site, number: usize) -> bool {
     let whole = number.saturating_sub(1) / REQUEST;
     let told = JOINED.get(..whole.saturating_mul(ANSWER)).unwrap_or(&[]);
     let course = run(
         alloc,
+        site,
         slow_reader(JOINS, 1, number),
         short_writer(told, usize::MAX),
-    )?;
-    Ok(
-        course
-            == Course {
-                end: Err(ServeFault::Read),
-                reads: number,
-                writes: whole,
-                failed: (1, 0),
-                left: 0,
-            },
-    )
+    );
+    course
+        == Course {
+            end: Err(ServeFault::Read),
+            reads: number,
+            writes: whole,
+            failed: (1, 0),
+            left: 0,
+        }
 }
 
 // The 40th read is the one that finds the end.
 #[test]
 fn tells_a_fault_of_each_read(rt: HostRuntime) -> std::result::Result<(), Fail> {
-    let mut all = is_answered(rt.alloc(), JOINS, 1, JOINED, 3)?;
+    let site = Site::new(0)?;
+    let mut all = is_answered(rt.alloc(), site, JOINS, 1, JOINED, 3);
     for number in 1..41 {
-        all &= ends_at_read(rt.alloc(), number)?;
+        all &= ends_at_read(rt.alloc(), site, number);
     }
     assert!(rt; all);
     Ok(())
 }
 
 // Where each write takes a byte, and this one takes none or fails: whether those before it have taken the beginning of the answers.
-fn ends_at_write(alloc: Global, number: usize, tells: bool) -> std::result::Result<bool, Fail> {
+fn ends_at_write(alloc: Global, site: Site, number: usize, tells: bool) -> bool {
     let mut writer = short_writer(JOINED, 1);
     writer.fails_at = number;
     writer.tells = tells;
-    let course = run(alloc, slow_reader(JOINS, 100, 0), writer)?;
-    Ok(
-        course.end == Err(ServeFault::Write)
-            && course.failed == (0, 1)
-            && course.writes == number
-            && course.left == JOINED.len().saturating_sub(number.saturating_sub(1)),
-    )
+    let course = run(alloc, site, slow_reader(JOINS, 100, 0), writer);
+    course.end == Err(ServeFault::Write)
+        && course.failed == (0, 1)
+        && course.writes == number
+        && course.left == JOINED.len().saturating_sub(number.saturating_sub(1))
 }
 
 #[test]
 fn tells_a_fault_of_each_write(rt: HostRuntime) -> std::result::Result<(), Fail> {
+    let site = Site::new(0)?;
     let course = run(
         rt.alloc(),
+        site,
         slow_reader(JOINS, 100, 0),
         short_writer(JOINED, 1),
-    )?;
+    );
     let mut all = course.end == Ok(()) && course.left == 0 && course.writes == JOINED.len();
     for number in 1..103 {
-        all &= ends_at_write(rt.alloc(), number, false)?;
-        all &= ends_at_write(rt.alloc(), number, true)?;
+        all &= ends_at_write(rt.alloc(), site, number, false);
+        all &= ends_at_write(rt.alloc(), site, number, true);
     }
     assert!(rt; all);
     Ok(())
@@ -304,22 +304,28 @@ fn goes_well(
     serve_lines(alloc, desk, &mut input, &mut output) == Ok(()) && !record.late.get()
 }
 
+// The same over an empty room of the site.
+fn goes_well_anew(alloc: Global, site: Site, bytes: &[u8], step: usize, record: &Record) -> bool {
+    let mut desk = desk_of(alloc, site);
+    goes_well(alloc, &mut desk, bytes, step, record)
+}
+
 // Whenever a block is asked for, all lines that were whole before it have been answered.
 #[test]
 fn answers_before_it_asks_for_more(rt: HostRuntime) -> std::result::Result<(), Fail> {
+    let site = Site::new(0)?;
     let record = Record::new();
-    let mut desk = desk_of(rt.alloc(), 0)?;
-    let all = goes_well(rt.alloc(), &mut desk, JOINS, 19, &record);
+    let all = goes_well_anew(rt.alloc(), site, JOINS, 19, &record);
     assert!(rt; all && record.answered.get() == 3);
     Ok(())
 }
 
 #[test]
 fn reads_in_blocks(rt: HostRuntime) -> std::result::Result<(), Fail> {
+    let site = Site::new(0)?;
     let record = Record::new();
-    let mut desk = desk_of(rt.alloc(), 0)?;
     let input = [b'\n'; 3000];
-    let all = goes_well(rt.alloc(), &mut desk, &input, usize::MAX, &record);
+    let all = goes_well_anew(rt.alloc(), site, &input, usize::MAX, &record);
     assert!(rt; all && record.reads.get() == 2 && record.answered.get() == 3000);
     Ok(())
 }
@@ -333,13 +339,18 @@ fn types_much(alloc: Global, desk: &mut RoomDesk) -> bool {
     all
 }
 
+// Whether a read is answered well once so much was typed in an empty room of the site.
+fn reads_much(alloc: Global, site: Site, record: &Record) -> bool {
+    let mut desk = desk_of(alloc, site);
+    types_much(alloc, &mut desk) && goes_well(alloc, &mut desk, b"{\"t\":\"read\"}\n", 100, record)
+}
+
 // An answer above 65,536 bytes is one write, too.
 #[test]
 fn a_long_answer_is_one_write(rt: HostRuntime) -> std::result::Result<(), Fail> {
+    let site = Site::new(0)?;
     let record = Record::new();
-    let mut desk = desk_of(rt.alloc(), 0)?;
-    let mut all = types_much(rt.alloc(), &mut desk);
-    all &= goes_well(rt.alloc(), &mut desk, b"{\"t\":\"read\"}\n", 100, &record);
+    let all = reads_much(rt.alloc(), site, &record);
     assert!(rt; all && record.answered.get() == 1 && record.longest.get() > 65_536);
     Ok(())
 }

@@ -2,6 +2,7 @@
 //! `bin/refused_memory` refuses each of them in turn.
 use crate::desks::desk_of;
 use line_engine::{Counted, ServeFault, serve_lines};
+use opid::Site;
 use room::RoomDesk;
 use std::alloc::Global;
 use std::test::Fail;
@@ -177,30 +178,36 @@ fn bears_want(alloc: Global, desk: &mut RoomDesk, lines: &[Line]) -> bool {
     true
 }
 
+// The same over a room of its own.
+fn bears_want_anew(alloc: Global, site: Site, lines: &[Line]) -> bool {
+    let mut desk = desk_of(alloc, site);
+    bears_want(alloc, &mut desk, lines)
+}
+
 #[test]
 fn a_join_and_an_insertion(rt: HostRuntime) -> Result<(), Fail> {
-    let mut desk = desk_of(rt.alloc(), 0)?;
-    assert!(rt; bears_want(rt.alloc(), &mut desk, INSERTS));
+    let site = Site::new(0)?;
+    assert!(rt; bears_want_anew(rt.alloc(), site, INSERTS));
     Ok(())
 }
 
 #[test]
 fn an_insertion_in_an_old_version(rt: HostRuntime) -> Result<(), Fail> {
-    let mut desk = desk_of(rt.alloc(), 0)?;
-    assert!(rt; bears_want(rt.alloc(), &mut desk, NAMES_AN_OLD_VERSION));
+    let site = Site::new(0)?;
+    assert!(rt; bears_want_anew(rt.alloc(), site, NAMES_AN_OLD_VERSION));
     Ok(())
 }
 
 #[test]
 fn what_is_early_is_held_back(rt: HostRuntime) -> Result<(), Fail> {
-    let mut desk = desk_of(rt.alloc(), 0)?;
-    assert!(rt; bears_want(rt.alloc(), &mut desk, HOLDS_BACK));
+    let site = Site::new(0)?;
+    assert!(rt; bears_want_anew(rt.alloc(), site, HOLDS_BACK));
     Ok(())
 }
 
 #[test]
 fn operations_that_are_refused(rt: HostRuntime) -> Result<(), Fail> {
-    let mut desk = desk_of(rt.alloc(), 0)?;
-    assert!(rt; bears_want(rt.alloc(), &mut desk, REFUSES));
+    let site = Site::new(0)?;
+    assert!(rt; bears_want_anew(rt.alloc(), site, REFUSES));
     Ok(())
 }

@@ -1,58 +1,82 @@
 //! Rooms of which one got forged operations of the other's site from a peer.
-use crate::fixtures::{empty_room, have_one_order, insertion};
+use crate::fixtures::have_one_order;
 use crate::operations::{at_head, operation};
-use room::{Call, Desk, Operations, Outcome, Reply, Room, RoomDesk};
+use opid::Site;
+use room::{Call, Characters, Desk, Operations, Outcome, Reply, Room, RoomDesk};
 use std::alloc::Global;
 use std::test::Fail;
 
 /// Whether the first operation of site 1 is taken, where it puts this character in at the beginning.
-fn takes(alloc: Global, desk: &mut RoomDesk, ch: char) -> Result<bool, Fail> {
-    let ops = Operations::new(vec![in alloc; operation(1, 0, 1, at_head(ch))?]?);
-    match desk.call(Call::Put(ops))? {
-        Reply::Put(outcomes) => Ok(outcomes.as_slice() == [Outcome::Took(1, 0)].as_slice()),
-        _ => Ok(false),
+fn takes(alloc: Global, desk: &mut RoomDesk, ch: char) -> bool {
+    let Ok(forged) = operation(1, 0, 1, at_head(ch)) else {
+        return false;
+    };
+    let Ok(ops) = vec![in alloc; forged] else {
+        return false;
+    };
+    match desk.call(Call::Put(Operations::new(ops))) {
+        Ok(Reply::Put(outcomes)) => outcomes.as_slice() == [Outcome::Took(1, 0)].as_slice(),
+        _ => false,
     }
-}
-
-/// A room of site 0, to which a peer has given an operation of site 1.
-fn given(alloc: Global, ch: char) -> Result<Room, Fail> {
-    let mut desk = RoomDesk::new(empty_room(alloc, 0)?);
-    if takes(alloc, &mut desk, ch)? {
-        return Ok(desk.into_room());
-    }
-    Err(Fail::from("taken"))
 }
 
 /// Whether the text is accepted as the first session's first submission.
-fn types(alloc: Global, desk: &mut RoomDesk, text: &str) -> Result<bool, Fail> {
-    let typed = insertion(alloc, 1, 1, 0, 0, text)?;
-    Ok(matches!(&desk.call(typed), Ok(Reply::Ok { .. })))
+fn types(alloc: Global, desk: &mut RoomDesk, text: &str) -> bool {
+    let Ok(x) = Characters::from_str(alloc, text) else {
+        return false;
+    };
+    matches!(
+        &desk.call(Call::Ins {
+            s: 1,
+            n: 1,
+            v: 0,
+            k: 0,
+            x
+        }),
+        Ok(Reply::Ok { .. })
+    )
 }
 
-/// Whether a session is opened and types this.
-fn begins(alloc: Global, desk: &mut RoomDesk, text: &str) -> Result<bool, Fail> {
-    Ok(desk.call(Call::Join { units: false }).is_ok() && types(alloc, desk, text)?)
+/// A room of the site to which a peer has given an operation of site 1, and whether it was taken.
+fn given(alloc: Global, site: Site, ch: char) -> (bool, Room) {
+    let mut desk = RoomDesk::new(Room::new(alloc, site));
+    let is_taken = takes(alloc, &mut desk, ch);
+    (is_taken, desk.into_room())
 }
 
-/// A room of site 1, in which a text was typed.
-fn typed(alloc: Global, text: &str) -> Result<Room, Fail> {
-    let mut desk = RoomDesk::new(empty_room(alloc, 1)?);
-    if begins(alloc, &mut desk, text)? {
-        return Ok(desk.into_room());
+/// A room of the site in which a text was typed, and whether it was accepted.
+fn typed(alloc: Global, site: Site, text: &str) -> (bool, Room) {
+    let mut desk = RoomDesk::new(Room::new(alloc, site));
+    let is_accepted = desk.call(Call::Join { units: false }).is_ok()
+        && types(alloc, &mut desk, text);
+    (is_accepted, desk.into_room())
+}
+
+/// A peer gives the first site this character as what the second, whose text is the other, has typed: whether they have one order
+/// of elements, where both were taken.
+fn keeps_the_order(alloc: Global, first: Site, second: Site, ch: char, text: &str) -> Option<bool> {
+    let (is_taken, one) = given(alloc, first, ch);
+    let (is_accepted, other) = typed(alloc, second, text);
+    let is_ordered = have_one_order(one, other);
+    if is_taken && is_accepted {
+        Some(is_ordered)
+    } else {
+        None
     }
-    Err(Fail::from("accepted"))
 }
 
-/// A peer gives site 0 this character as what site 1, whose text is the other, has typed.
-fn keeps_the_order(alloc: Global, ch: char, text: &str) -> Result<bool, Fail> {
-    Ok(have_one_order(given(alloc, ch)?, typed(alloc, text)?))
+/// The same where the second site has typed nothing.
+fn keeps_the_order_of_none(alloc: Global, first: Site, second: Site, ch: char) -> Option<bool> {
+    let (is_taken, one) = given(alloc, first, ch);
+    let is_ordered = have_one_order(one, Room::new(alloc, second));
+    if is_taken { Some(is_ordered) } else { None }
 }
 
 #[test]
 fn forged_operations_have_no_order(rt: HostRuntime) -> Result<(), Fail> {
-    let alloc = rt.alloc();
-    assert!(rt; keeps_the_order(alloc, 'a', "a")?);
-    assert!(rt; !keeps_the_order(alloc, 'b', "a")?);
-    assert!(rt; !have_one_order(given(alloc, 'a')?, empty_room(alloc, 1)?));
+    let (alloc, first, second) = (rt.alloc(), Site::new(0)?, Site::new(1)?);
+    assert!(rt; keeps_the_order(alloc, first, second, 'a', "a") == Some(true));
+    assert!(rt; keeps_the_order(alloc, first, second, 'b', "a") == Some(false));
+    assert!(rt; keeps_the_order_of_none(alloc, first, second, 'a') == Some(false));
     Ok(())
 }
