@@ -4,7 +4,7 @@ ghost use Rattle.std.specs.Prelude.{◌≡◌, [], IfOk};
 use opid::Site;
 use replica_world::one_order;
 use room::{Call, Characters, Editor, Reply, Room};
-use std::alloc::Global;
+use std::alloc::{AllocError, Global};
 use std::test::Fail;
 
 /// The room of a site, with an empty document.
@@ -22,7 +22,7 @@ pub(crate) fn insertion(
     v: u32,
     k: u32,
     text: &str,
-) -> Result<Call, Fail> {
+) -> Result<Call, AllocError> {
     let x = Characters::from_str(alloc, text)?;
     Ok(Call::Ins { s, n, v, k, x })
 }

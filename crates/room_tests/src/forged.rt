@@ -1,8 +1,8 @@
 //! Rooms of which one got forged operations of the other's site from a peer.
-use crate::fixtures::have_one_order;
+use crate::fixtures::{have_one_order, insertion};
 use crate::operations::{at_head, operation};
 use opid::Site;
-use room::{Call, Characters, Desk, Operations, Outcome, Reply, Room, RoomDesk};
+use room::{Call, Desk, Operations, Outcome, Reply, Room, RoomDesk};
 use std::alloc::Global;
 use std::test::Fail;
 
@@ -22,19 +22,10 @@ fn takes(alloc: Global, desk: &mut RoomDesk, ch: char) -> bool {
 
 /// Whether the text is accepted as the first session's first submission.
 fn types(alloc: Global, desk: &mut RoomDesk, text: &str) -> bool {
-    let Ok(x) = Characters::from_str(alloc, text) else {
-        return false;
-    };
-    matches!(
-        &desk.call(Call::Ins {
-            s: 1,
-            n: 1,
-            v: 0,
-            k: 0,
-            x
-        }),
-        Ok(Reply::Ok { .. })
-    )
+    match insertion(alloc, 1, 1, 0, 0, text) {
+        Ok(typed) => matches!(&desk.call(typed), Ok(Reply::Ok { .. })),
+        Err(_) => false,
+    }
 }
 
 /// A room of the site to which a peer has given an operation of site 1, and whether it was taken.
