@@ -19,7 +19,7 @@ pub struct Branch {
     pub elem: u32,
     /// The least key in it, `KEYS` where it is empty.
     pub least: u32,
-    pub height: u8,
+    pub height: u32,
 }
 
 impl Branch {

@@ -31,7 +31,7 @@ pub fn grow_left(
     table: &mut [PackedRow],
     node: Node,
     left: Branch,
-    entry: Entry,
+    entry: &Entry,
     steps: &mut Steps,
 ) -> Branch
     requires sound { AreSound nodes.old.nodes }
@@ -39,7 +39,7 @@ pub fn grow_left(
     requires known { IsKnown nodes.old.keys_and_widths node.entry }
     requires room { 3 ≤ nodes.old.node_room }
     requires left { IsBranch nodes.old left }
-    requires gains { Gains entry (entries (tree_in nodes.old node.left)) (entries (tree_in nodes.old left.link)) }
+    requires gains { Gains entry.now (entries (tree_in nodes.old node.left)) (entries (tree_in nodes.old left.link)) }
     requires rises { MayRise (tree_in nodes.old node.left) (tree_in nodes.old left.link) }
     requires few { length (entries (tree_in nodes.old left.link)) + length (entries (tree_in nodes.old node.right)) < 131072 }
     requires row { HasRow table.old (tree_of (trees nodes.old.nodes) node) }
@@ -55,7 +55,7 @@ pub fn grow_left(
     ensures hangs { Hangs table.old table.new (tree_in nodes.new result.link) }
 {
     let row = table[node.entry.elem as usize].get();
-    let left_size = node.left_size.plus(Size::of(&entry));
+    let left_size = node.left_size.plus(Size::of(entry));
     if left.height >= row.height {
         let right = branch_of(nodes, table, node.right, steps);
         return rebuild(nodes, table, left, left_size, node.entry, right, steps);
@@ -89,7 +89,7 @@ pub fn grow_right(
     table: &mut [PackedRow],
     node: Node,
     right: Branch,
-    entry: Entry,
+    entry: &Entry,
     steps: &mut Steps,
 ) -> Branch
     requires sound { AreSound nodes.old.nodes }
@@ -97,7 +97,7 @@ pub fn grow_right(
     requires known { IsKnown nodes.old.keys_and_widths node.entry }
     requires room { 3 ≤ nodes.old.node_room }
     requires right { IsBranch nodes.old right }
-    requires gains { Gains entry (entries (tree_in nodes.old node.right)) (entries (tree_in nodes.old right.link)) }
+    requires gains { Gains entry.now (entries (tree_in nodes.old node.right)) (entries (tree_in nodes.old right.link)) }
     requires rises { MayRise (tree_in nodes.old node.right) (tree_in nodes.old right.link) }
     requires few { length (entries (tree_in nodes.old node.left)) + length (entries (tree_in nodes.old right.link)) < 131072 }
     requires row { HasRow table.old (tree_of (trees nodes.old.nodes) node) }

@@ -41,7 +41,7 @@ impl PackedRow {
     {
         PackedRow {
             above: kept_of(row.above),
-            least_and_height: row.least * HEIGHTS + u32::from(row.height),
+            least_and_height: row.least * HEIGHTS + row.height,
         }
     }
 
@@ -52,7 +52,7 @@ impl PackedRow {
         Row {
             above: above_of(self.above),
             least: self.least_and_height / HEIGHTS,
-            height: (self.least_and_height % HEIGHTS) as u8,
+            height: self.least_and_height % HEIGHTS,
         }
     }
 }

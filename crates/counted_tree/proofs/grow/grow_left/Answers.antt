@@ -21,14 +21,14 @@ plus-left_size-requires-clause-shown c =
     let l = entries (tree_in c.args.nodes.now c.args.node.left) in
     let few = size_few c.args.node.left_size l c.requires.node.left_size in
     let one = ap (λ (s : Size). s.shown) c.of.ensures in
-    omega (arith, few.0, one, two_at_most false c.args.entry, gains_one c.args.entry l _ c.requires.gains, c.requires.few)
+    omega (arith, few.0, one, two_at_most false c.args.entry.now, gains_one c.args.entry.now l _ c.requires.gains, c.requires.few)
 
 pub plus-left_size-requires-clause-units : goal.plus-left_size-requires-clause-units
 plus-left_size-requires-clause-units c =
     let l = entries (tree_in c.args.nodes.now c.args.node.left) in
     let few = size_few c.args.node.left_size l c.requires.node.left_size in
     let one = ap (λ (s : Size). s.units) c.of.ensures in
-    omega (arith, few.1, one, two_at_most true c.args.entry, gains_one c.args.entry l _ c.requires.gains, c.requires.few)
+    omega (arith, few.1, one, two_at_most true c.args.entry.now, gains_one c.args.entry.now l _ c.requires.gains, c.requires.few)
 
 pub branch_of-right-requires-clause-link : goal.branch_of-right-requires-clause-link
 branch_of-right-requires-clause-link c =
@@ -40,7 +40,7 @@ rebuild-requires-clause-size c =
     let l = entries (tree_in a c.args.node.left) in
     let s = entries (tree_in a c.args.left.link) in
     more_size c.plus-left_size.result c.args.node.left_size c.of.result s l c.plus-left_size.ensures
-    (rw c.of.ensures (gains_size c.args.entry l s c.requires.gains)) c.requires.node.left_size
+    (rw c.of.ensures (gains_size c.args.entry.now l s c.requires.gains)) c.requires.node.left_size
 
 pub returns-then-left-row-clause-grown : goal.returns-then-left-row-clause-grown
 returns-then-left-row-clause-grown c =
@@ -83,7 +83,7 @@ append-number-requires-clause-node c =
     let below : height s < height (Fork l n.entry r) = omega (arith, row.1, c.requires.left.tells.height, c.if-left-row.false) in
     let stays = stays_left l r s n.entry c.requires.node.balanced c.requires.rises below in
     let size = more_size c.plus-left_size.result n.left_size c.of.result (entries s) (entries l) c.plus-left_size.ensures
-    (rw c.of.ensures (gains_size c.args.entry (entries l) (entries s) c.requires.gains)) c.requires.node.left_size in
+    (rw c.of.ensures (gains_size c.args.entry.now (entries l) (entries s) c.requires.gains)) c.requires.node.left_size in
     let right = link_later _ _ n.right (omega (arith, length-trees a.nodes)) c.requires.node.right_earlier in
     sound_node a _ c.requires.left.link right size c.requires.known.0
     (linked_balanced a.nodes c.args.left.link c.requires.sound c.requires.left.link, c.requires.node.balanced.1, stays.0.0, stays.0.1)
@@ -99,10 +99,15 @@ returns-clause-branch c =
     c.get-row.ensures in
     let below : height s < height (Fork l n.entry r) = omega (arith, row.1, c.requires.left.tells.height, c.if-left-row.false) in
     let stays = stays_left l r s n.entry c.requires.node.balanced c.requires.rises below in
-    let gains = gains_left c.args.entry n.entry (entries l) (entries s) (entries r) c.requires.gains in
+    let gains = gains_left c.args.entry.now n.entry (entries l) (entries s) (entries r) c.requires.gains in
     let over : IsBranchOf _ (Fork s n.entry r) = record {
       top = (refl, refl);
-      least = omega (arith, c.min.ensures, row.0, gains_least c.args.entry (entries (Fork l n.entry r)) (entries (Fork s n.entry r)) gains);
+      least = omega (
+        arith,
+        c.min.ensures,
+        row.0,
+        gains_least c.args.entry.now (entries (Fork l n.entry r)) (entries (Fork s n.entry r)) gains,
+      );
       height = omega (arith, row.1, stays.1);
     } in
     record { link = c.append-number.ensures.number; tells = subst (IsBranchOf _) (sym c.append-number.ensures.tree) over }

@@ -72,10 +72,15 @@ returns-clause-branch c =
     c.get-row.ensures in
     let below : height s < height (Fork l n.entry r) = omega (arith, row.1, c.requires.right.tells.height, c.if-right-row.false) in
     let stays = stays_right l r s n.entry c.requires.node.balanced c.requires.rises below in
-    let gains = gains_right c.args.entry n.entry (entries r) (entries s) (entries l) c.requires.gains in
+    let gains = gains_right c.args.entry.now n.entry (entries r) (entries s) (entries l) c.requires.gains in
     let over : IsBranchOf _ (Fork l n.entry s) = record {
       top = (refl, refl);
-      least = omega (arith, c.min.ensures, row.0, gains_least c.args.entry (entries (Fork l n.entry r)) (entries (Fork l n.entry s)) gains);
+      least = omega (
+        arith,
+        c.min.ensures,
+        row.0,
+        gains_least c.args.entry.now (entries (Fork l n.entry r)) (entries (Fork l n.entry s)) gains,
+      );
       height = omega (arith, row.1, stays.1);
     } in
     record { link = c.append-number.ensures.number; tells = subst (IsBranchOf _) (sym c.append-number.ensures.tree) over }
