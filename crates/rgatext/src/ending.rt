@@ -1,5 +1,5 @@
 //! How the program ends: what it tells, on which stream, and with which status.
-use crate::plan::PlanFault;
+use command_line::PlanFault;
 use commands::Stop;
 use std::fmt;
 

@@ -1,21 +1,17 @@
-//! The program: what its command line asks for, and what it then does.
+//! The program: it takes its words, does what they ask for, and tells how it ends.
 #![tactic(auto)]
 
 ghost use Rattle.rgatext.specs.Plans.{IsPlayed};
 
-mod command_line;
 mod ending;
 mod host;
-mod plan;
 mod play;
-mod serve_words;
 
-use command_line::plan;
+use command_line::{Plan, PlanFault, plan};
 use commands::Stop;
 use ending::Ending;
 use host::host;
 use line_engine::Counted;
-use plan::{Plan, PlanFault};
 use play::play;
 use std::alloc::AllocError;
 use std::process::ExitCode;

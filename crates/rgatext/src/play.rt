@@ -5,7 +5,7 @@ ghost use Rattle.line_engine.specs.Counting.{Rises};
 ghost use Rattle.commands.specs.Played.{served_end};
 ghost use Rattle.rgatext.specs.Plans.{Plays, IsPlayed};
 
-use crate::plan::Plan;
+use command_line::Plan;
 use commands::{Stop, play_lines, play_text, play_world};
 use line_engine::{Counted, Source};
 use std::alloc::Global;

@@ -6,10 +6,10 @@ use Rattle.clap.specs.Words.{App, HasKind, IsAmong, Kinds, Row, Text, fault_of, 
 use Rattle.clap.specs.Words.{subcommand_rows_of}
 use Rattle.clap.specs.declared.error.ErrorKind.{ErrorKind}
 use Rattle.clap.specs.declared.error.ErrorKind.TheVariants as kind
-use Rattle.rgatext.specs.declared.plan.PlanFault.{PlanFault}
-use Rattle.rgatext.specs.declared.plan.PlanFault.TheVariants.{Help, Words, Memory}
-use Rattle.rgatext.specs.CommandLine.{rgatext, Refuses, ToldBy, shows_text, blames_words}
-use Rattle.rgatext.proofs.command_line.plan.Goals as goal
+use Rattle.command_line.specs.declared.plans.PlanFault.{PlanFault}
+use Rattle.command_line.specs.declared.plans.PlanFault.TheVariants.{Help, Words, Memory}
+use Rattle.command_line.specs.CommandLine.{rgatext, Refuses, ToldBy, shows_text, blames_words}
+use Rattle.command_line.proofs.words.plan.Goals as goal
 
 of_error : (kinds : Kinds) (met : Option (Text × List Row)) (k : ErrorKind) (fault : PlanFault) → (k ≡ kind.OutOfMemory) ⊎ IsAmong k kinds
     → ToldBy k fault → Refuses kinds met fault

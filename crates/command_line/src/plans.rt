@@ -56,7 +56,7 @@ pub enum PlanFault {
 
 impl From<AllocError> for PlanFault {
     ghost use Rattle.std.specs.Prelude.{◌≡◌};
-    ghost use Rattle.rgatext.specs.declared.plan.PlanFault.TheVariants.{Memory};
+    ghost use Rattle.command_line.specs.declared.plans.PlanFault.TheVariants.{Memory};
 
     ghost from_gives = { λ _ e. e ≡ Memory };
 

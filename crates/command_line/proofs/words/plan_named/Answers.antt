@@ -2,9 +2,9 @@
 use Rattle.std.proofs.Common.{◌∙◌, ℕ, List, Option, Some, sym, subst, codes}
 use Rattle.clap.specs.Words.{found_of, rows_of}
 use Rattle.clap.proofs.WalkLemmas.{first_value-rows}
-use Rattle.rgatext.specs.CommandLine.{ReadsTo}
-use Rattle.rgatext.proofs.Planning.{lines_nothing, text_nothing, world_nothing}
-use Rattle.rgatext.proofs.command_line.plan_named.Goals as goal
+use Rattle.command_line.specs.CommandLine.{ReadsTo}
+use Rattle.command_line.proofs.Planning.{lines_nothing, text_nothing, world_nothing}
+use Rattle.command_line.proofs.words.plan_named.Goals as goal
 
 pub returns-in-Some-clause-some : goal.returns-in-Some-clause-some
 returns-in-Some-clause-some c =

@@ -2,9 +2,9 @@
 use Rattle.std.proofs.Common.{◌∙◌, ℕ, List, Option, Some, sym, ap, subst, codes, refl}
 use Rattle.clap.specs.Words.{found_of, rows_of}
 use Rattle.clap.proofs.WalkLemmas.{first_value-rows, raw_values-rows}
-use Rattle.rgatext.specs.CommandLine.{ReadsTo}
-use Rattle.rgatext.proofs.Planning.{serve_no_port, serve_no_site, serve_no_conns, serve_no_names}
-use Rattle.rgatext.proofs.serve_words.serve_plan.Goals as goal
+use Rattle.command_line.specs.CommandLine.{ReadsTo}
+use Rattle.command_line.proofs.Planning.{serve_no_port, serve_no_site, serve_no_conns, serve_no_names}
+use Rattle.command_line.proofs.serve_words.serve_plan.Goals as goal
 
 pub returns-in_ok-owned-in-Some-get_strs-clause-some : goal.returns-in_ok-owned-in-Some-get_strs-clause-some
 returns-in_ok-owned-in-Some-get_strs-clause-some c =

@@ -2,8 +2,8 @@
 use Rattle.std.proofs.Common.{◌∙◌, ap}
 use Rattle.clap.specs.Words.{found_of}
 use Rattle.clap.proofs.WalkLemmas.{first_value-rows}
-use Rattle.rgatext.specs.CommandLine.{is_set}
-use Rattle.rgatext.proofs.command_line.flag.Goals as goal
+use Rattle.command_line.specs.CommandLine.{is_set}
+use Rattle.command_line.proofs.words.flag.Goals as goal
 
 pub returns-in-Some : goal.returns-in-Some
 returns-in-Some c = c.eq.ensures ∙ ap is_set (c.in-Some.ensures ∙ first_value-rows (found_of c.args.used.now) c.args.name.now)

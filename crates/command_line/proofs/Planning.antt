@@ -2,8 +2,8 @@
 use Rattle.std.proofs.Common.{◌≡◌, ℕ, ◌≤◌, List, Option, None, Some, refl, sym, ap}
 use Rattle.std.proofs.Common.{◌∙◌, arith, codes, slice_index}
 use Rattle.clap.specs.Words.{Row, all_of, first_of}
-use Rattle.rgatext.specs.declared.plan.Plan.TheVariants.{Lines, Text as TextOf, Serve, World}
-use Rattle.rgatext.specs.CommandLine.{AsksNothing, ReadsTo}
+use Rattle.command_line.specs.declared.plans.Plan.TheVariants.{Lines, Text as TextOf, Serve, World}
+use Rattle.command_line.specs.CommandLine.{AsksNothing, ReadsTo}
 
 -- texts whose first bytes differ are two
 two_names : (name a b : List ℕ) (x y : ℕ) → slice_index a 0 ≡ x → slice_index b 0 ≡ y → (x ≡ y → ⊥) → name ≡ a → name ≡ b → ⊥
