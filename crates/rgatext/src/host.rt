@@ -14,7 +14,7 @@ use std::net::{Net, TcpListener, TcpStream};
 use std::sync::{Mutex, Wait};
 use std::thread;
 use std::thread::Threads;
-use ws_server::{Gate, Hall, HallPass, names_fit, serve_socket};
+use ws_server::{Gate, Hall, HallPass, serve_socket};
 
 // How many calls a connection may make in each room.
 const DRAWS: u64 = 2_097_152;
@@ -140,11 +140,9 @@ pub fn host<
 >(rt: &R, alloc: Global, port: u16, site: Site, conns: u32, names: &[String]) -> Result<(), Stop>
     ensures unfit { (names_fit names.now ≡ false) ↔ (result ≡ Err (Stop.Refused Refusal.BadField)) }
 {
-    if !names_fit(names) {
-        return Err(Stop::Refused(Refusal::BadField));
-    }
-    let Ok((hall, pass)) = Hall::new(alloc, site, names) else {
-        return Err(Stop::Fault(ServeFault::Memory));
+    let (hall, pass) = match Hall::new(alloc, site, names) {
+        Ok(made) => made,
+        Err(why) => return Err(Stop::of(why)),
     };
     let listener = listen(rt, port)?;
     let ends = Mutex::new(Vec::new(alloc));

@@ -1,18 +1,14 @@
 //! The program: it takes its words, does what they ask for, and tells how it ends.
 #![tactic(auto)]
 
-ghost use Rattle.rgatext.specs.Plans.{IsPlayed};
+ghost use Rattle.command_line.specs.Plans.{IsPlayed};
 
-mod ending;
 mod host;
-mod play;
 
-use command_line::{Plan, PlanFault, plan};
+use command_line::{Ending, Plan, PlanFault, plan, play};
 use commands::Stop;
-use ending::Ending;
 use host::host;
 use line_engine::Counted;
-use play::play;
 use std::alloc::AllocError;
 use std::process::ExitCode;
 use std::{env, io};

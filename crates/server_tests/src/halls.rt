@@ -17,7 +17,10 @@ pub(crate) fn hall_of(alloc: Global, names: &[&str]) -> Result<(Hall, HallPass),
     for name in names {
         owned.push(String::from_str(alloc, name)?)?;
     }
-    Hall::new(alloc, site, &owned)
+    match Hall::new(alloc, site, &owned) {
+        Ok(made) => Ok(made),
+        Err(_) => Err(AllocError),
+    }
 }
 
 // A gate that lets everything pass.

@@ -17,5 +17,4 @@ pub use frame::answer_frame;
 pub use gate::{Gate, Witness};
 pub use hall::{Hall, HallPass};
 pub use line_engine::{Counted, ServeFault, carry, serve_lines};
-pub use names::names_fit;
 pub use socket::{serve_one, serve_socket};

@@ -2,8 +2,8 @@
 use Rattle.std.specs.Prelude.{ℕ, Bool, true, false, Result, Ok, Err}
 use Rattle.commands.specs.declared.stop.Stop.{Stop}
 use Rattle.command_line.specs.declared.plans.PlanFault.TheVariants.{Help, Words, Memory}
-use Rattle.rgatext.specs.declared.ending.Ending.{Ending}
-use Rattle.rgatext.specs.declared.ending.Ending.TheVariants.{Done, Unplanned, Stopped}
+use Rattle.command_line.specs.declared.ending.Ending.{Ending}
+use Rattle.command_line.specs.declared.ending.Ending.TheVariants.{Done, Unplanned, Stopped}
 
 -- how the run of a plan ends
 abbrev pub ending_of : Result (Unit {0}) Stop → Ending

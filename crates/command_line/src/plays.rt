@@ -3,9 +3,9 @@ ghost use Rattle.std.specs.Prelude.{◌^◌, ◌<◌, ℕ, List, Result};
 ghost use Rattle.std.specs.Io.KnownBytes.{Appends, Consumes};
 ghost use Rattle.line_engine.specs.Counting.{Rises};
 ghost use Rattle.commands.specs.Played.{served_end};
-ghost use Rattle.rgatext.specs.Plans.{Plays, IsPlayed};
+ghost use Rattle.command_line.specs.Plans.{Plays, IsPlayed};
 
-use command_line::Plan;
+use crate::plans::Plan;
 use commands::{Stop, play_lines, play_text, play_world};
 use line_engine::{Counted, Source};
 use std::alloc::Global;

@@ -1,5 +1,5 @@
 //! How the program ends: what it tells, on which stream, and with which status.
-use command_line::PlanFault;
+use crate::plans::PlanFault;
 use commands::Stop;
 use std::fmt;
 
@@ -16,7 +16,7 @@ pub enum Ending {
 
 impl Ending {
     ghost use Rattle.std.specs.Prelude.{◌≡◌};
-    ghost use Rattle.rgatext.specs.Endings.{ending_of, status_of, is_output};
+    ghost use Rattle.command_line.specs.Endings.{ending_of, status_of, is_output};
 
     /// How the run of a plan ends. Constant time.
     pub fn of(ran: Result<(), Stop>) -> Ending
