@@ -60,6 +60,18 @@ nodes_pushed keys_and_widths packed r n e same k =
     ∙ get_or_from_slice_get keys_and_widths n.entry.elem (key_and_width_of n.entry) 0 k in
     map_push f packed r ∙ ap (λ m. map f packed ++ m ∷ []) (ap (λ t. node_of t r) at ∙ e)
 
+-- a copy of a node that is kept with a change stands for the node with that change
+pub nodes_copied : (keys_and_widths : List ℕ) (packed : List PackedNode) (i : ℕ) (r q : PackedNode) (change : Node → Node) (n : Node)
+    → slice_get packed i ≡ Some r → slice_get (nodes_of keys_and_widths packed) i ≡ Some n
+    → ((t : ℕ) → node_of t q ≡ change (node_of t r)) → elem_of q ≡ elem_of r
+    → nodes_of keys_and_widths (packed ++ q ∷ []) ≡ nodes_of keys_and_widths packed ++ change n ∷ []
+nodes_copied keys_and_widths packed i r q change n at there changes same =
+    let f : PackedNode → Node = λ p. node_of (get_or keys_and_widths (elem_of p) 0) p in
+    let read : Some (f r) ≡ Some n = sym (slice_get-map f packed i ∙ ap (option_map f) at) ∙ there in
+    let is : f r ≡ n = cc in
+    let copy : f q ≡ change (f r) = ap (λ j. node_of (get_or keys_and_widths j 0) q) same ∙ changes (get_or keys_and_widths (elem_of r) 0) in
+    map_push f packed q ∙ ap (λ m. map f packed ++ m ∷ []) (copy ∙ ap change is)
+
 -- a number that stands for a key and a width is read back from these
 key_and_width_by : (v : ℕ) (b : Bool) → (v % 2 == 1) ≡ b → v / 2 * 2 + cond b 1 0 ≡ v
 key_and_width_by v true e = omega (arith, eqb-true (v % 2) 1 e)

@@ -1,5 +1,5 @@
 //! A tree beside what a node over it has to know.
-ghost use Rattle.std.specs.Prelude.{◌≡◌, ◌+◌, ◌≤◌, length, None};
+ghost use Rattle.std.specs.Prelude.{◌≡◌, length, None};
 ghost use Rattle.counted_tree.specs.Arena.{IsLinkBelow, AreSound};
 ghost use Rattle.counted_tree.specs.Branch.{IsBranchOf, IsBranch};
 ghost use Rattle.counted_tree.specs.Change.{tree_in};
@@ -9,7 +9,6 @@ ghost use Rattle.counted_tree.specs.Tree.Tree.{Leaf};
 use crate::entry::KEYS;
 use crate::nodes::Nodes;
 use crate::packed_row::PackedRow;
-use crate::steps::Steps;
 
 /// A tree by its link, and what a node over it and the newest tree's table take from it, so that the tree is looked at once.
 #[derive(Clone, Copy)]
@@ -39,18 +38,17 @@ impl Branch {
 
 /// The part of the newest tree that a link names, of which the table has a row. Looks at one node, or where the tree is empty at
 /// none.
-pub fn branch_of(nodes: &Nodes, table: &[PackedRow], link: Option<u32>, steps: &mut Steps) -> Branch
+pub fn branch_of(nodes: &Nodes, table: &[PackedRow], link: Option<u32>) -> Branch
     requires sound { AreSound nodes.now.nodes }
     requires link { IsLinkBelow (length nodes.now.nodes) link }
     requires row { HasRow table.now (tree_in nodes.now link) }
     ensures link { result.link ≡ link }
     ensures branch { IsBranch nodes.now result }
-    ensures cost { steps.new ≤ steps.old + 1 }
 {
     let Some(at) = link else {
         return Branch::empty();
     };
-    let elem = nodes.look(at, steps).entry.elem;
+    let elem = nodes.read(at).entry.elem;
     let row = table[elem as usize].get();
     Branch {
         link,

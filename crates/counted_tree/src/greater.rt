@@ -8,7 +8,7 @@ ghost use Rattle.counted_tree.specs.Greater.{all_greater, passed, last_of, stop}
 ghost use Rattle.counted_tree.specs.Table.{HasRow, IsKept};
 
 use crate::branch::branch_of;
-use crate::build::open;
+use crate::build::look;
 use crate::nodes::Nodes;
 use crate::packed_row::PackedRow;
 use crate::side::Side;
@@ -30,7 +30,10 @@ fn are_greater(
 {
     match link {
         None => true,
-        Some(_) => key < branch_of(nodes, table, link, steps).least,
+        Some(_) => {
+            steps.tick();
+            key < branch_of(nodes, table, link).least
+        }
     }
 }
 
@@ -47,7 +50,7 @@ pub fn last_in(
     ensures cost { steps.new ≤ steps.old + height (tree_in nodes.now link) }
 {
     let Some(at) = link else { return last };
-    let node = open(nodes, at, steps);
+    let node = look(nodes, at, steps);
     last_in(nodes, node.right, Some(node.entry.elem), steps)
 }
 
@@ -68,7 +71,7 @@ pub fn passed_in(
     ensures cost { steps.new ≤ steps.old + 2 * height (tree_in nodes.now link) }
 {
     let Some(at) = link else { return last };
-    let node = open(nodes, at, steps);
+    let node = look(nodes, at, steps);
     if !are_greater(nodes, table, node.left, key, steps) {
         passed_in(nodes, table, node.left, key, last, steps)
     } else if node.entry.key <= key {
@@ -120,7 +123,7 @@ pub fn stop_at(
     ensures passed { result ≡ None → steps.new ≤ steps.old + 2 * height (tree_in nodes.now link) }
 {
     let Some(at) = link else { unreachable!() };
-    let node = open(nodes, at, steps);
+    let node = look(nodes, at, steps);
     match path.split_first() {
         None => stop_in(nodes, table, node.right, key, Some(node.entry.elem), steps),
         Some((Side::Right, rest)) => stop_at(nodes, table, node.right, rest, key, steps),

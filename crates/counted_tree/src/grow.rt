@@ -1,6 +1,6 @@
 //! The tree of a node, once one of its sides has grown by an entry. Both calls stand in the body of who makes them, so that a node
 //! that was read goes back into the vector without a way through memory.
-ghost use Rattle.std.specs.Prelude.{◌≡◌, ℕ, ◌+◌, ◌-◌, ◌<◌, ◌≤◌, ◌∷◌, ◌++◌, length, Some};
+ghost use Rattle.std.specs.Prelude.{◌≡◌, ℕ, ◌+◌, ◌-◌, ◌<◌, ◌≤◌, ◌∷◌, ◌++◌, length, slice_get, Some};
 ghost use Rattle.counted_tree.specs.declared.side.Side.TheVariants.{Left, Right};
 ghost use Rattle.counted_tree.specs.Entry.{IsKnown};
 ghost use Rattle.counted_tree.specs.Tree.{entries, height};
@@ -12,7 +12,6 @@ ghost use Rattle.counted_tree.specs.Table.{HasRow, PointsTo, IsReady, Hangs};
 
 use crate::above::Above;
 use crate::branch::{Branch, branch_of};
-use crate::build::append;
 use crate::entry::Entry;
 use crate::hang::hang;
 use crate::node::Node;
@@ -21,7 +20,6 @@ use crate::packed_row::PackedRow;
 use crate::rotate::rebuild;
 use crate::side::Side;
 use crate::size::Size;
-use crate::steps::Steps;
 
 /// The tree of a node whose left side has grown by an entry. The other side is looked at only where the left one is now as high as
 /// the whole was: else the whole stays as high as it was, and only the left side has to be hung.
@@ -29,12 +27,13 @@ use crate::steps::Steps;
 pub fn grow_left(
     nodes: &mut Nodes,
     table: &mut [PackedRow],
+    at: u32,
     node: Node,
     left: Branch,
     entry: &Entry,
-    steps: &mut Steps,
 ) -> Branch
     requires sound { AreSound nodes.old.nodes }
+    requires at { slice_get nodes.old.nodes at ≡ Some node }
     requires node { IsSoundNode (trees nodes.old.nodes) node }
     requires known { IsKnown nodes.old.keys_and_widths node.entry }
     requires room { 3 ≤ nodes.old.node_room }
@@ -57,22 +56,15 @@ pub fn grow_left(
     let row = table[node.entry.elem as usize].get();
     let left_size = node.left_size.plus(Size::of(entry));
     if left.height >= row.height {
-        let right = branch_of(nodes, table, node.right, steps);
-        return rebuild(nodes, table, left, left_size, node.entry, right, steps);
+        let right = branch_of(nodes, table, node.right);
+        return rebuild(nodes, table, left, left_size, node.entry, right);
     }
     let on_left = Above {
         elem: node.entry.elem,
         side: Side::Left,
     };
     hang(table, left, Some(on_left));
-    let number = append(
-        nodes,
-        Node {
-            left: left.link,
-            left_size,
-            ..node
-        },
-    );
+    let number = nodes.push_with_left(at, left.link, left_size);
     Branch {
         link: Some(number),
         elem: node.entry.elem,
@@ -87,12 +79,13 @@ pub fn grow_left(
 pub fn grow_right(
     nodes: &mut Nodes,
     table: &mut [PackedRow],
+    at: u32,
     node: Node,
     right: Branch,
     entry: &Entry,
-    steps: &mut Steps,
 ) -> Branch
     requires sound { AreSound nodes.old.nodes }
+    requires at { slice_get nodes.old.nodes at ≡ Some node }
     requires node { IsSoundNode (trees nodes.old.nodes) node }
     requires known { IsKnown nodes.old.keys_and_widths node.entry }
     requires room { 3 ≤ nodes.old.node_room }
@@ -114,21 +107,15 @@ pub fn grow_right(
 {
     let row = table[node.entry.elem as usize].get();
     if right.height >= row.height {
-        let left = branch_of(nodes, table, node.left, steps);
-        return rebuild(nodes, table, left, node.left_size, node.entry, right, steps);
+        let left = branch_of(nodes, table, node.left);
+        return rebuild(nodes, table, left, node.left_size, node.entry, right);
     }
     let on_right = Above {
         elem: node.entry.elem,
         side: Side::Right,
     };
     hang(table, right, Some(on_right));
-    let number = append(
-        nodes,
-        Node {
-            right: right.link,
-            ..node
-        },
-    );
+    let number = nodes.push_with_right(at, right.link);
     Branch {
         link: Some(number),
         elem: node.entry.elem,

@@ -12,11 +12,11 @@ use Rattle.counted_tree.proofs.greater.+stop_at.Goals as goal
 pub returns-in-Some-stop_at-clause-last : goal.returns-in-Some-stop_at-clause-last
 returns-in-Some-stop_at-clause-last t c =
     let a = c.args.nodes.now in
-    let n = c.open-node.result in
+    let n = c.look-node.result in
     let l = tree_in a n.left in
     let r = tree_in a n.right in
     let down = c.in-Some-Left-default.rest.now in
-    let whole : tree_in a c.args.link ≡ Fork l n.entry r = ap (tree_in a) c.in-Some.is ∙ c.open-node.ensures.tree in
+    let whole : tree_in a c.args.link ≡ Fork l n.entry r = ap (tree_in a) c.in-Some.is ∙ c.look-node.ensures.tree in
     let way : c.args.path.now ≡ Left ∷ down =
     cc (c.in-Some-Left-default.ensures.cases.0, c.in-Some-Left-default.field-0-0-is) in
     let goal_is : stop c.args.key (elem_at (tree_in a c.args.link) c.args.path.now) (after_at (tree_in a c.args.link) c.args.path.now)
@@ -27,11 +27,11 @@ returns-in-Some-stop_at-clause-last t c =
 pub returns-in-None-stop_at-clause-last : goal.returns-in-None-stop_at-clause-last
 returns-in-None-stop_at-clause-last t c =
     let a = c.args.nodes.now in
-    let n = c.open-node.result in
+    let n = c.look-node.result in
     let l = tree_in a n.left in
     let r = tree_in a n.right in
     let down = c.in-Some-Left-default.rest.now in
-    let whole : tree_in a c.args.link ≡ Fork l n.entry r = ap (tree_in a) c.in-Some.is ∙ c.open-node.ensures.tree in
+    let whole : tree_in a c.args.link ≡ Fork l n.entry r = ap (tree_in a) c.in-Some.is ∙ c.look-node.ensures.tree in
     let way : c.args.path.now ≡ Left ∷ down =
     cc (c.in-Some-Left-default.ensures.cases.0, c.in-Some-Left-default.field-0-0-is) in
     let goal_is : stop c.args.key (elem_at (tree_in a c.args.link) c.args.path.now) (after_at (tree_in a c.args.link) c.args.path.now)
@@ -48,11 +48,11 @@ returns-in-None-stop_at-clause-last t c =
 pub returns-in-None-stop_at-clause-passed : goal.returns-in-None-stop_at-clause-passed
 returns-in-None-stop_at-clause-passed t c = λ none.
     let a = c.args.nodes.now in
-    let n = c.open-node.result in
+    let n = c.look-node.result in
     let l = tree_in a n.left in
     let r = tree_in a n.right in
     let down = c.in-Some-Left-default.rest.now in
-    let whole : tree_in a c.args.link ≡ Fork l n.entry r = ap (tree_in a) c.in-Some.is ∙ c.open-node.ensures.tree in
+    let whole : tree_in a c.args.link ≡ Fork l n.entry r = ap (tree_in a) c.in-Some.is ∙ c.look-node.ensures.tree in
     let way : c.args.path.now ≡ Left ∷ down =
     cc (c.in-Some-Left-default.ensures.cases.0, c.in-Some-Left-default.field-0-0-is) in
     let there : IsSome (entry_at l down) = subst (λ u. IsSome (entry_at u (Left ∷ down))) whole
@@ -65,11 +65,11 @@ returns-in-None-stop_at-clause-passed t c = λ none.
 pub returns-in-None-2-clause-last : goal.returns-in-None-2-clause-last
 returns-in-None-2-clause-last t c =
     let a = c.args.nodes.now in
-    let n = c.open-node.result in
+    let n = c.look-node.result in
     let l = tree_in a n.left in
     let r = tree_in a n.right in
     let down = c.in-Some-Left-default.rest.now in
-    let whole : tree_in a c.args.link ≡ Fork l n.entry r = ap (tree_in a) c.in-Some.is ∙ c.open-node.ensures.tree in
+    let whole : tree_in a c.args.link ≡ Fork l n.entry r = ap (tree_in a) c.in-Some.is ∙ c.look-node.ensures.tree in
     let way : c.args.path.now ≡ Left ∷ down =
     cc (c.in-Some-Left-default.ensures.cases.0, c.in-Some-Left-default.field-0-0-is) in
     let goal_is : stop c.args.key (elem_at (tree_in a c.args.link) c.args.path.now) (after_at (tree_in a c.args.link) c.args.path.now)
@@ -86,14 +86,14 @@ returns-in-None-2-clause-last t c =
 pub returns-in-None-2-clause-passed : goal.returns-in-None-2-clause-passed
 returns-in-None-2-clause-passed t c = λ none.
     let a = c.args.nodes.now in
-    let n = c.open-node.result in
+    let n = c.look-node.result in
     let l = tree_in a n.left in
     let r = tree_in a n.right in
     let down = c.in-Some-Left-default.rest.now in
-    let whole : tree_in a c.args.link ≡ Fork l n.entry r = ap (tree_in a) c.in-Some.is ∙ c.open-node.ensures.tree in
+    let whole : tree_in a c.args.link ≡ Fork l n.entry r = ap (tree_in a) c.in-Some.is ∙ c.look-node.ensures.tree in
     let way : c.args.path.now ≡ Left ∷ down =
     cc (c.in-Some-Left-default.ensures.cases.0, c.in-Some-Left-default.field-0-0-is) in
     let right = c.stop_in-in-None-2.ensures.passed (stop_none c.args.key n.entry.elem (entries r)
     (sym c.stop_in-in-None-2.ensures.last ∙ none)) in
     let left = c.stop_at-in-Some-Left-default.ensures.passed c.in-None-stop_at.is in
-    omega (arith, right, left, ap height whole, c.open-node.ensures.step)
+    omega (arith, right, left, ap height whole, c.look-node.ensures.step)

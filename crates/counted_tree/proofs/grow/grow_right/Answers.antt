@@ -1,10 +1,11 @@
 use Rattle.std.proofs.Common.{◌≡◌, ◌∷◌, ◌-◌, ◌<◌, length, ap, arith, refl, sym, subst}
+use Rattle.std.proofs.lemmas.Option.{slice_get_within}
 use Rattle.counted_tree.specs.Tree.{entries, height}
 use Rattle.counted_tree.specs.Tree.Tree.{Fork}
 use Rattle.counted_tree.specs.Branch.{IsBranchOf}
 use Rattle.counted_tree.specs.Change.{tree_in, IsRebuilt}
 use Rattle.counted_tree.specs.Table.{Hangs}
-use Rattle.counted_tree.proofs.Adding.{sound_node}
+use Rattle.counted_tree.proofs.Copies.{copied_right}
 use Rattle.counted_tree.proofs.Branches.{branch_small, read_row, row_of_branch}
 use Rattle.counted_tree.proofs.Gains.{gains_right, gains_least}
 use Rattle.counted_tree.proofs.Growth.{length-trees, link_later, linked_balanced}
@@ -46,8 +47,11 @@ hang-requires-clause-height c =
     let small = branch_small c.args.nodes.now c.args.right c.requires.sound c.requires.right (omega (arith, c.requires.few)) in
     omega (arith, small.1)
 
-pub append-number-requires-clause-node : goal.append-number-requires-clause-node
-append-number-requires-clause-node c =
+pub push_with_right-number-requires-clause-at : goal.push_with_right-number-requires-clause-at
+push_with_right-number-requires-clause-at c = slice_get_within c.args.nodes.now.nodes c.args.at c.args.node c.requires.at
+
+pub returns-clause-adds : goal.returns-clause-adds
+returns-clause-adds c =
     let a = c.args.nodes.now in
     let n = c.args.node in
     let l = tree_in a n.left in
@@ -56,10 +60,10 @@ append-number-requires-clause-node c =
     let row = read_row c.args.table.now (Fork l n.entry r) l r n.entry c.get-row.result c.index-table-node.result refl c.requires.row
     c.get-row.ensures in
     let below : height s < height (Fork l n.entry r) = omega (arith, row.1, c.requires.right.tells.height, c.if-right-row.false) in
-    let stays = stays_right l r s n.entry c.requires.node.balanced c.requires.rises below in
-    let left = link_later _ _ n.left (omega (arith, length-trees a.nodes)) c.requires.node.left_earlier in
-    sound_node a _ left c.requires.right.link c.requires.node.left_size c.requires.known.0
-    (c.requires.node.balanced.0, linked_balanced a.nodes c.args.right.link c.requires.sound c.requires.right.link, stays.0.0, stays.0.1)
+    let copied = copied_right a c.push_with_right-number.new.self n c.args.right.link c.push_with_right-number.result c.requires.sound c.requires.node
+    c.requires.right.link c.requires.rises below (c.push_with_right-number.ensures.nodes n c.requires.at) c.push_with_right-number.ensures.room
+    c.push_with_right-number.ensures.keys_and_widths c.push_with_right-number.ensures.key_and_width_room c.push_with_right-number.ensures.number in
+    copied.adds
 
 pub returns-clause-branch : goal.returns-clause-branch
 returns-clause-branch c =
@@ -71,6 +75,9 @@ returns-clause-branch c =
     let row = read_row c.args.table.now (Fork l n.entry r) l r n.entry c.get-row.result c.index-table-node.result refl c.requires.row
     c.get-row.ensures in
     let below : height s < height (Fork l n.entry r) = omega (arith, row.1, c.requires.right.tells.height, c.if-right-row.false) in
+    let copied = copied_right a c.push_with_right-number.new.self n c.args.right.link c.push_with_right-number.result c.requires.sound c.requires.node
+    c.requires.right.link c.requires.rises below (c.push_with_right-number.ensures.nodes n c.requires.at) c.push_with_right-number.ensures.room
+    c.push_with_right-number.ensures.keys_and_widths c.push_with_right-number.ensures.key_and_width_room c.push_with_right-number.ensures.number in
     let stays = stays_right l r s n.entry c.requires.node.balanced c.requires.rises below in
     let gains = gains_right c.args.entry.now n.entry (entries r) (entries s) (entries l) c.requires.gains in
     let over : IsBranchOf _ (Fork l n.entry s) = record {
@@ -83,7 +90,7 @@ returns-clause-branch c =
       );
       height = omega (arith, row.1, stays.1);
     } in
-    record { link = c.append-number.ensures.number; tells = subst (IsBranchOf _) (sym c.append-number.ensures.tree) over }
+    record { link = copied.number; tells = subst (IsBranchOf _) (sym copied.tree) over }
 
 pub returns-clause-grown : goal.returns-clause-grown
 returns-clause-grown c =
@@ -95,18 +102,44 @@ returns-clause-grown c =
     let row = read_row c.args.table.now (Fork l n.entry r) l r n.entry c.get-row.result c.index-table-node.result refl c.requires.row
     c.get-row.ensures in
     let below : height s < height (Fork l n.entry r) = omega (arith, row.1, c.requires.right.tells.height, c.if-right-row.false) in
+    let copied = copied_right a c.push_with_right-number.new.self n c.args.right.link c.push_with_right-number.result c.requires.sound c.requires.node
+    c.requires.right.link c.requires.rises below (c.push_with_right-number.ensures.nodes n c.requires.at) c.push_with_right-number.ensures.room
+    c.push_with_right-number.ensures.keys_and_widths c.push_with_right-number.ensures.key_and_width_room c.push_with_right-number.ensures.number in
     let stays = stays_right l r s n.entry c.requires.node.balanced c.requires.rises below in
     let p = plain_fork l s n.entry c.requires.node.balanced.0
     (linked_balanced a.nodes c.args.right.link c.requires.sound c.requires.right.link) stays.0 in
-    let one : length c.append-number.new.nodes.nodes - length a.nodes ≡ 1 = omega (arith, c.append-number.ensures.count) in
-    λ made g. grown_right l r s _ n.entry made (length c.append-number.new.nodes.nodes - length a.nodes) c.requires.node.balanced g
-    (subst (IsRebuilt l n.entry s) (sym c.append-number.ensures.tree) p) (omega (arith, one)) (λ _. one)
+    let one : length c.push_with_right-number.new.self.nodes - length a.nodes ≡ 1 = omega (arith, copied.count) in
+    λ made g. grown_right l r s _ n.entry made (length c.push_with_right-number.new.self.nodes - length a.nodes) c.requires.node.balanced g
+    (subst (IsRebuilt l n.entry s) (sym copied.tree) p) (omega (arith, one)) (λ _. one)
+
+pub returns-clause-lists : goal.returns-clause-lists
+returns-clause-lists c =
+    let a = c.args.nodes.now in
+    let n = c.args.node in
+    let l = tree_in a n.left in
+    let r = tree_in a n.right in
+    let s = tree_in a c.args.right.link in
+    let row = read_row c.args.table.now (Fork l n.entry r) l r n.entry c.get-row.result c.index-table-node.result refl c.requires.row
+    c.get-row.ensures in
+    let below : height s < height (Fork l n.entry r) = omega (arith, row.1, c.requires.right.tells.height, c.if-right-row.false) in
+    let copied = copied_right a c.push_with_right-number.new.self n c.args.right.link c.push_with_right-number.result c.requires.sound c.requires.node
+    c.requires.right.link c.requires.rises below (c.push_with_right-number.ensures.nodes n c.requires.at) c.push_with_right-number.ensures.room
+    c.push_with_right-number.ensures.keys_and_widths c.push_with_right-number.ensures.key_and_width_room c.push_with_right-number.ensures.number in
+    ap entries copied.tree
 
 pub returns-clause-hangs : goal.returns-clause-hangs
 returns-clause-hangs c =
     let a = c.args.nodes.now in
     let n = c.args.node in
+    let l = tree_in a n.left in
+    let r = tree_in a n.right in
     let s = tree_in a c.args.right.link in
-    subst (Hangs c.args.table.now c.hang.new.table) (sym c.append-number.ensures.tree)
+    let row = read_row c.args.table.now (Fork l n.entry r) l r n.entry c.get-row.result c.index-table-node.result refl c.requires.row
+    c.get-row.ensures in
+    let below : height s < height (Fork l n.entry r) = omega (arith, row.1, c.requires.right.tells.height, c.if-right-row.false) in
+    let copied = copied_right a c.push_with_right-number.new.self n c.args.right.link c.push_with_right-number.result c.requires.sound c.requires.node
+    c.requires.right.link c.requires.rises below (c.push_with_right-number.ensures.nodes n c.requires.at) c.push_with_right-number.ensures.room
+    c.push_with_right-number.ensures.keys_and_widths c.push_with_right-number.ensures.key_and_width_room c.push_with_right-number.ensures.number in
+    subst (Hangs c.args.table.now c.hang.new.table) (sym copied.tree)
     (hangs_right_side (tree_in a n.left) s n.entry c.args.table.now c.hang.new.table c.requires.ready c.requires.other
     (c.hang.ensures s c.requires.right.tells))

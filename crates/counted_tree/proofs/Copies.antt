@@ -1,0 +1,56 @@
+-- A copy of a node, once one of its sides has grown and is still lower than the whole.
+use Rattle.std.proofs.Common.{◌≡◌, ℕ, ◌+◌, ◌<◌, [], ◌∷◌, ◌++◌, length, Option, Some, ap, ◌∙◌, arith}
+use Rattle.std.proofs.lemmas.List.{length_push}
+use Rattle.counted_tree.specs.declared.node.Node.{Node}
+use Rattle.counted_tree.specs.declared.size.Size.{Size}
+use Rattle.counted_tree.specs.Size.{IsSizeOf}
+use Rattle.counted_tree.specs.Store.{Store}
+use Rattle.counted_tree.specs.Tree.{entries, height}
+use Rattle.counted_tree.specs.Arena.{IsLinkBelow, IsSoundNode, AreSound, trees, tree_of}
+use Rattle.counted_tree.specs.Change.{tree_in, Adds}
+use Rattle.counted_tree.specs.Grown.{MayRise}
+use Rattle.counted_tree.proofs.Adding.{adds_push, sound_node, tree_pushed}
+use Rattle.counted_tree.proofs.Growth.{length-trees, link_later, linked_balanced}
+use Rattle.counted_tree.proofs.Grows.{stays_left, stays_right}
+use Rattle.counted_tree.proofs.Listed.{adds_weaker}
+
+-- the node was appended as the one with this number
+pub record IsAppended (a b : Store) (n : Node) (k : ℕ) : Type 0 where
+  pub adds : Adds a b 3
+  pub count : length b.nodes ≡ length a.nodes + 1
+  pub number : k < length b.nodes
+  pub tree : tree_in b (Some k) ≡ tree_of (trees a.nodes) n
+
+appended : (a b : Store) (n : Node) (k : ℕ) → AreSound a.nodes → IsSoundNode (trees a.nodes) n → b.nodes ≡ a.nodes ++ n ∷ []
+    → b.node_room + 1 ≡ a.node_room → b.keys_and_widths ≡ a.keys_and_widths → b.key_and_width_room ≡ a.key_and_width_room
+    → k ≡ length a.nodes → IsAppended a b n k
+appended a b n k sound node nodes room keys_and_widths key_and_width_room number =
+    let long : length b.nodes ≡ length a.nodes + 1 = ap length nodes ∙ length_push a.nodes n in
+    record {
+      adds = adds_weaker a b 1 3 (omega arith) (adds_push a b n sound node nodes room keys_and_widths key_and_width_room);
+      count = long;
+      number = omega (arith, long, number);
+      tree = tree_pushed a b n k nodes number;
+    }
+
+pub copied_left : (a b : Store) (n : Node) (s : Option ℕ) (size : Size) (k : ℕ) → AreSound a.nodes → IsSoundNode (trees a.nodes) n
+    → IsLinkBelow (length a.nodes) s → MayRise (tree_in a n.left) (tree_in a s) → height (tree_in a s) < height (tree_of (trees a.nodes) n)
+    → IsSizeOf size (entries (tree_in a s)) → b.nodes ≡ a.nodes ++ record n { left = s; left_size = size } ∷ []
+    → b.node_room + 1 ≡ a.node_room → b.keys_and_widths ≡ a.keys_and_widths → b.key_and_width_room ≡ a.key_and_width_room
+    → k ≡ length a.nodes → IsAppended a b (record n { left = s; left_size = size }) k
+copied_left a b n s size k sound node below rises low shows =
+    let stays = stays_left (tree_in a n.left) (tree_in a n.right) (tree_in a s) n.entry node.balanced rises low in
+    let right = link_later _ _ n.right (omega (arith, length-trees a.nodes)) node.right_earlier in
+    appended a b (record n { left = s; left_size = size }) k sound (sound_node a (record n { left = s; left_size = size }) below right shows
+    node.small (linked_balanced a.nodes s sound below, node.balanced.1, stays.0.0, stays.0.1))
+
+pub copied_right : (a b : Store) (n : Node) (s : Option ℕ) (k : ℕ) → AreSound a.nodes → IsSoundNode (trees a.nodes) n
+    → IsLinkBelow (length a.nodes) s → MayRise (tree_in a n.right) (tree_in a s) → height (tree_in a s) < height (tree_of (trees a.nodes) n)
+    → b.nodes ≡ a.nodes ++ record n { right = s } ∷ []
+    → b.node_room + 1 ≡ a.node_room → b.keys_and_widths ≡ a.keys_and_widths → b.key_and_width_room ≡ a.key_and_width_room
+    → k ≡ length a.nodes → IsAppended a b (record n { right = s }) k
+copied_right a b n s k sound node below rises low =
+    let stays = stays_right (tree_in a n.left) (tree_in a n.right) (tree_in a s) n.entry node.balanced rises low in
+    let left = link_later _ _ n.left (omega (arith, length-trees a.nodes)) node.left_earlier in
+    appended a b (record n { right = s }) k sound (sound_node a (record n { right = s }) left below node.left_size node.small
+    (node.balanced.0, linked_balanced a.nodes s sound below, stays.0.0, stays.0.1))
