@@ -34,18 +34,21 @@ appended a b n k sound node nodes room keys_and_widths key_and_width_room number
     }
 
 pub copied_left : (a b : Store) (n : Node) (s : Option ℕ) (size : Size) (k : ℕ) → AreSound a.nodes → IsSoundNode (trees a.nodes) n
-    → IsLinkBelow (length a.nodes) s → MayRise (tree_in a n.left) (tree_in a s) → height (tree_in a s) < height (tree_of (trees a.nodes) n)
+    → IsLinkBelow (length a.nodes) s → MayRise (tree_in a n.left) (tree_in a s) → height (tree_in a s) < height
+    (tree_of (trees a.nodes) n)
     → IsSizeOf size (entries (tree_in a s)) → b.nodes ≡ a.nodes ++ record n { left = s; left_size = size } ∷ []
     → b.node_room + 1 ≡ a.node_room → b.keys_and_widths ≡ a.keys_and_widths → b.key_and_width_room ≡ a.key_and_width_room
     → k ≡ length a.nodes → IsAppended a b (record n { left = s; left_size = size }) k
 copied_left a b n s size k sound node below rises low shows =
     let stays = stays_left (tree_in a n.left) (tree_in a n.right) (tree_in a s) n.entry node.balanced rises low in
     let right = link_later _ _ n.right (omega (arith, length-trees a.nodes)) node.right_earlier in
-    appended a b (record n { left = s; left_size = size }) k sound (sound_node a (record n { left = s; left_size = size }) below right shows
+    appended a b (record n { left = s; left_size = size }) k sound
+    (sound_node a (record n { left = s; left_size = size }) below right shows
     node.small (linked_balanced a.nodes s sound below, node.balanced.1, stays.0.0, stays.0.1))
 
 pub copied_right : (a b : Store) (n : Node) (s : Option ℕ) (k : ℕ) → AreSound a.nodes → IsSoundNode (trees a.nodes) n
-    → IsLinkBelow (length a.nodes) s → MayRise (tree_in a n.right) (tree_in a s) → height (tree_in a s) < height (tree_of (trees a.nodes) n)
+    → IsLinkBelow (length a.nodes) s → MayRise (tree_in a n.right) (tree_in a s) → height (tree_in a s) < height
+    (tree_of (trees a.nodes) n)
     → b.nodes ≡ a.nodes ++ record n { right = s } ∷ []
     → b.node_room + 1 ≡ a.node_room → b.keys_and_widths ≡ a.keys_and_widths → b.key_and_width_room ≡ a.key_and_width_room
     → k ≡ length a.nodes → IsAppended a b (record n { right = s }) k

@@ -69,7 +69,8 @@ nodes_copied keys_and_widths packed i r q change n at there changes same =
     let f : PackedNode → Node = λ p. node_of (get_or keys_and_widths (elem_of p) 0) p in
     let read : Some (f r) ≡ Some n = sym (slice_get-map f packed i ∙ ap (option_map f) at) ∙ there in
     let is : f r ≡ n = cc in
-    let copy : f q ≡ change (f r) = ap (λ j. node_of (get_or keys_and_widths j 0) q) same ∙ changes (get_or keys_and_widths (elem_of r) 0) in
+    let copy : f q ≡ change (f r) = ap (λ j. node_of (get_or keys_and_widths j 0) q) same ∙ changes
+    (get_or keys_and_widths (elem_of r) 0) in
     map_push f packed q ∙ ap (λ m. map f packed ++ m ∷ []) (copy ∙ ap change is)
 
 -- a number that stands for a key and a width is read back from these

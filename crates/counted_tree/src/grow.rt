@@ -1,5 +1,5 @@
-//! The tree of a node, once one of its sides has grown by an entry. Both calls stand in the body of who makes them, so that a node
-//! that was read goes back into the vector without a way through memory.
+//! The tree of a node, once one of its sides has grown by an entry. Both calls stand in the body of who makes them, so that only what
+//! they use of the node is unpacked: mostly the copy differs in one link, and only the slow way reads the whole node, once more.
 ghost use Rattle.std.specs.Prelude.{◌≡◌, ℕ, ◌+◌, ◌-◌, ◌<◌, ◌≤◌, ◌∷◌, ◌++◌, length, slice_get, Some};
 ghost use Rattle.counted_tree.specs.declared.side.Side.TheVariants.{Left, Right};
 ghost use Rattle.counted_tree.specs.Entry.{IsKnown};
@@ -12,6 +12,7 @@ ghost use Rattle.counted_tree.specs.Table.{HasRow, PointsTo, IsReady, Hangs};
 
 use crate::above::Above;
 use crate::branch::{Branch, branch_of};
+use crate::build::open;
 use crate::entry::Entry;
 use crate::hang::hang;
 use crate::node::Node;
@@ -56,6 +57,7 @@ pub fn grow_left(
     let row = table[node.entry.elem as usize].get();
     let left_size = node.left_size.plus(Size::of(entry));
     if left.height >= row.height {
+        let node = open(nodes, at);
         let right = branch_of(nodes, table, node.right);
         return rebuild(nodes, table, left, left_size, node.entry, right);
     }
@@ -63,8 +65,9 @@ pub fn grow_left(
         elem: node.entry.elem,
         side: Side::Left,
     };
-    hang(table, left, Some(on_left));
+    let Some(_) = left.link else { unreachable!() };
     let number = nodes.push_with_left(at, left.link, left_size);
+    hang(table, left, Some(on_left));
     Branch {
         link: Some(number),
         elem: node.entry.elem,
@@ -107,6 +110,7 @@ pub fn grow_right(
 {
     let row = table[node.entry.elem as usize].get();
     if right.height >= row.height {
+        let node = open(nodes, at);
         let left = branch_of(nodes, table, node.left);
         return rebuild(nodes, table, left, node.left_size, node.entry, right);
     }
@@ -114,8 +118,9 @@ pub fn grow_right(
         elem: node.entry.elem,
         side: Side::Right,
     };
-    hang(table, right, Some(on_right));
+    let Some(_) = right.link else { unreachable!() };
     let number = nodes.push_with_right(at, right.link);
+    hang(table, right, Some(on_right));
     Branch {
         link: Some(number),
         elem: node.entry.elem,

@@ -1,4 +1,4 @@
-use Rattle.std.proofs.Common.{◌≡◌, ◌∷◌, ◌-◌, ◌<◌, true, false, length, ap, arith, refl, sym, subst}
+use Rattle.std.proofs.Common.{◌≡◌, ◌∷◌, ◌-◌, ◌<◌, true, false, length, Some, ap, ◌∙◌, arith, refl, sym, subst}
 use Rattle.std.proofs.lemmas.Option.{slice_get_within}
 use Rattle.counted_tree.specs.declared.size.Size.{Size}
 use Rattle.counted_tree.specs.Tree.{entries, height}
@@ -10,7 +10,7 @@ use Rattle.counted_tree.proofs.Copies.{copied_left}
 use Rattle.counted_tree.proofs.Branches.{branch_small, read_row, row_of_branch}
 use Rattle.counted_tree.proofs.Counts.{two_at_most, units_few}
 use Rattle.counted_tree.proofs.Gains.{gains_left, gains_least, gains_one, gains_size}
-use Rattle.counted_tree.proofs.Growth.{length-trees, link_later, linked_balanced}
+use Rattle.counted_tree.proofs.Growth.{linked_balanced}
 use Rattle.counted_tree.proofs.Grows.{grown_left, stays_left}
 use Rattle.counted_tree.proofs.Rotations.{plain_fork}
 use Rattle.counted_tree.proofs.Sizes.{more_size, size_few}
@@ -31,10 +31,6 @@ plus-left_size-requires-clause-units c =
     let one = ap (λ (s : Size). s.units) c.of.ensures in
     omega (arith, few.1, one, two_at_most true c.args.entry.now, gains_one c.args.entry.now l _ c.requires.gains, c.requires.few)
 
-pub branch_of-right-requires-clause-link : goal.branch_of-right-requires-clause-link
-branch_of-right-requires-clause-link c =
-    link_later _ _ c.args.node.right (omega (arith, length-trees c.args.nodes.now.nodes)) c.requires.node.right_earlier
-
 pub rebuild-requires-clause-size : goal.rebuild-requires-clause-size
 rebuild-requires-clause-size c =
     let a = c.args.nodes.now in
@@ -49,11 +45,13 @@ returns-then-left-row-clause-grown c =
     let d = c.rebuild.new.nodes in
     let n = c.args.node in
     let e = ap (tree_in a) c.branch_of-right.ensures.link in
+    let read : Some c.open-node.result ≡ Some n = sym c.open-node.ensures.node ∙ c.requires.at in
+    let again : c.open-node.result ≡ n = cc in
     let p : IsRebuilt (tree_in a c.args.left.link) n.entry (tree_in a n.right) (tree_in d c.rebuild.result.link) =
-    rw e at c.rebuild.ensures.rebuilt in
+    rw (e, again) at c.rebuild.ensures.rebuilt in
     λ made g. grown_left (tree_in a n.left) (tree_in a n.right) _ (tree_in d c.rebuild.result.link) n.entry made
     (length d.nodes - length a.nodes) c.requires.node.balanced g p (omega (arith, c.rebuild.ensures.adds.at_most))
-    (λ h. omega (arith, c.rebuild.ensures.plain (rw e h)))
+    (λ h. omega (arith, c.rebuild.ensures.plain (rw (e, again) h)))
 
 pub hang-requires-clause-row : goal.hang-requires-clause-row
 hang-requires-clause-row c =
@@ -115,9 +113,12 @@ returns-clause-adds c =
     let below : height s < height (Fork l n.entry r) = omega (arith, row.1, c.requires.left.tells.height, c.if-left-row.false) in
     let size = more_size c.plus-left_size.result n.left_size c.of.result (entries s) (entries l) c.plus-left_size.ensures
     (rw c.of.ensures (gains_size c.args.entry.now (entries l) (entries s) c.requires.gains)) c.requires.node.left_size in
-    let copied = copied_left a c.push_with_left-number.new.self n c.args.left.link c.plus-left_size.result c.push_with_left-number.result c.requires.sound
-    c.requires.node c.requires.left.link c.requires.rises below size (c.push_with_left-number.ensures.nodes n c.requires.at) c.push_with_left-number.ensures.room
-    c.push_with_left-number.ensures.keys_and_widths c.push_with_left-number.ensures.key_and_width_room c.push_with_left-number.ensures.number in
+    let copied = copied_left a c.push_with_left-number.new.self n c.args.left.link c.plus-left_size.result
+    c.push_with_left-number.result c.requires.sound
+    c.requires.node c.requires.left.link c.requires.rises below size (c.push_with_left-number.ensures.nodes n c.requires.at)
+    c.push_with_left-number.ensures.room
+    c.push_with_left-number.ensures.keys_and_widths c.push_with_left-number.ensures.key_and_width_room
+    c.push_with_left-number.ensures.number in
     copied.adds
 
 pub returns-clause-branch : goal.returns-clause-branch
@@ -132,9 +133,12 @@ returns-clause-branch c =
     let below : height s < height (Fork l n.entry r) = omega (arith, row.1, c.requires.left.tells.height, c.if-left-row.false) in
     let size = more_size c.plus-left_size.result n.left_size c.of.result (entries s) (entries l) c.plus-left_size.ensures
     (rw c.of.ensures (gains_size c.args.entry.now (entries l) (entries s) c.requires.gains)) c.requires.node.left_size in
-    let copied = copied_left a c.push_with_left-number.new.self n c.args.left.link c.plus-left_size.result c.push_with_left-number.result c.requires.sound
-    c.requires.node c.requires.left.link c.requires.rises below size (c.push_with_left-number.ensures.nodes n c.requires.at) c.push_with_left-number.ensures.room
-    c.push_with_left-number.ensures.keys_and_widths c.push_with_left-number.ensures.key_and_width_room c.push_with_left-number.ensures.number in
+    let copied = copied_left a c.push_with_left-number.new.self n c.args.left.link c.plus-left_size.result
+    c.push_with_left-number.result c.requires.sound
+    c.requires.node c.requires.left.link c.requires.rises below size (c.push_with_left-number.ensures.nodes n c.requires.at)
+    c.push_with_left-number.ensures.room
+    c.push_with_left-number.ensures.keys_and_widths c.push_with_left-number.ensures.key_and_width_room
+    c.push_with_left-number.ensures.number in
     let stays = stays_left l r s n.entry c.requires.node.balanced c.requires.rises below in
     let gains = gains_left c.args.entry.now n.entry (entries l) (entries s) (entries r) c.requires.gains in
     let over : IsBranchOf _ (Fork s n.entry r) = record {
@@ -161,9 +165,12 @@ returns-clause-grown c =
     let below : height s < height (Fork l n.entry r) = omega (arith, row.1, c.requires.left.tells.height, c.if-left-row.false) in
     let size = more_size c.plus-left_size.result n.left_size c.of.result (entries s) (entries l) c.plus-left_size.ensures
     (rw c.of.ensures (gains_size c.args.entry.now (entries l) (entries s) c.requires.gains)) c.requires.node.left_size in
-    let copied = copied_left a c.push_with_left-number.new.self n c.args.left.link c.plus-left_size.result c.push_with_left-number.result c.requires.sound
-    c.requires.node c.requires.left.link c.requires.rises below size (c.push_with_left-number.ensures.nodes n c.requires.at) c.push_with_left-number.ensures.room
-    c.push_with_left-number.ensures.keys_and_widths c.push_with_left-number.ensures.key_and_width_room c.push_with_left-number.ensures.number in
+    let copied = copied_left a c.push_with_left-number.new.self n c.args.left.link c.plus-left_size.result
+    c.push_with_left-number.result c.requires.sound
+    c.requires.node c.requires.left.link c.requires.rises below size (c.push_with_left-number.ensures.nodes n c.requires.at)
+    c.push_with_left-number.ensures.room
+    c.push_with_left-number.ensures.keys_and_widths c.push_with_left-number.ensures.key_and_width_room
+    c.push_with_left-number.ensures.number in
     let stays = stays_left l r s n.entry c.requires.node.balanced c.requires.rises below in
     let p = plain_fork s r n.entry (linked_balanced a.nodes c.args.left.link c.requires.sound c.requires.left.link)
     c.requires.node.balanced.1 stays.0 in
@@ -183,9 +190,12 @@ returns-clause-lists c =
     let below : height s < height (Fork l n.entry r) = omega (arith, row.1, c.requires.left.tells.height, c.if-left-row.false) in
     let size = more_size c.plus-left_size.result n.left_size c.of.result (entries s) (entries l) c.plus-left_size.ensures
     (rw c.of.ensures (gains_size c.args.entry.now (entries l) (entries s) c.requires.gains)) c.requires.node.left_size in
-    let copied = copied_left a c.push_with_left-number.new.self n c.args.left.link c.plus-left_size.result c.push_with_left-number.result c.requires.sound
-    c.requires.node c.requires.left.link c.requires.rises below size (c.push_with_left-number.ensures.nodes n c.requires.at) c.push_with_left-number.ensures.room
-    c.push_with_left-number.ensures.keys_and_widths c.push_with_left-number.ensures.key_and_width_room c.push_with_left-number.ensures.number in
+    let copied = copied_left a c.push_with_left-number.new.self n c.args.left.link c.plus-left_size.result
+    c.push_with_left-number.result c.requires.sound
+    c.requires.node c.requires.left.link c.requires.rises below size (c.push_with_left-number.ensures.nodes n c.requires.at)
+    c.push_with_left-number.ensures.room
+    c.push_with_left-number.ensures.keys_and_widths c.push_with_left-number.ensures.key_and_width_room
+    c.push_with_left-number.ensures.number in
     ap entries copied.tree
 
 pub returns-clause-hangs : goal.returns-clause-hangs
@@ -200,9 +210,12 @@ returns-clause-hangs c =
     let below : height s < height (Fork l n.entry r) = omega (arith, row.1, c.requires.left.tells.height, c.if-left-row.false) in
     let size = more_size c.plus-left_size.result n.left_size c.of.result (entries s) (entries l) c.plus-left_size.ensures
     (rw c.of.ensures (gains_size c.args.entry.now (entries l) (entries s) c.requires.gains)) c.requires.node.left_size in
-    let copied = copied_left a c.push_with_left-number.new.self n c.args.left.link c.plus-left_size.result c.push_with_left-number.result c.requires.sound
-    c.requires.node c.requires.left.link c.requires.rises below size (c.push_with_left-number.ensures.nodes n c.requires.at) c.push_with_left-number.ensures.room
-    c.push_with_left-number.ensures.keys_and_widths c.push_with_left-number.ensures.key_and_width_room c.push_with_left-number.ensures.number in
+    let copied = copied_left a c.push_with_left-number.new.self n c.args.left.link c.plus-left_size.result
+    c.push_with_left-number.result c.requires.sound
+    c.requires.node c.requires.left.link c.requires.rises below size (c.push_with_left-number.ensures.nodes n c.requires.at)
+    c.push_with_left-number.ensures.room
+    c.push_with_left-number.ensures.keys_and_widths c.push_with_left-number.ensures.key_and_width_room
+    c.push_with_left-number.ensures.number in
     subst (Hangs c.args.table.now c.hang.new.table) (sym copied.tree)
     (hangs_left_side s (tree_in a n.right) n.entry c.args.table.now c.hang.new.table c.requires.ready c.requires.other
     (c.hang.ensures s c.requires.left.tells))

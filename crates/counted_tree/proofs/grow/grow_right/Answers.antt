@@ -1,4 +1,4 @@
-use Rattle.std.proofs.Common.{◌≡◌, ◌∷◌, ◌-◌, ◌<◌, length, ap, arith, refl, sym, subst}
+use Rattle.std.proofs.Common.{◌≡◌, ◌∷◌, ◌-◌, ◌<◌, length, Some, ap, ◌∙◌, arith, refl, sym, subst}
 use Rattle.std.proofs.lemmas.Option.{slice_get_within}
 use Rattle.counted_tree.specs.Tree.{entries, height}
 use Rattle.counted_tree.specs.Tree.Tree.{Fork}
@@ -8,15 +8,11 @@ use Rattle.counted_tree.specs.Table.{Hangs}
 use Rattle.counted_tree.proofs.Copies.{copied_right}
 use Rattle.counted_tree.proofs.Branches.{branch_small, read_row, row_of_branch}
 use Rattle.counted_tree.proofs.Gains.{gains_right, gains_least}
-use Rattle.counted_tree.proofs.Growth.{length-trees, link_later, linked_balanced}
+use Rattle.counted_tree.proofs.Growth.{linked_balanced}
 use Rattle.counted_tree.proofs.Grows.{grown_right, stays_right}
 use Rattle.counted_tree.proofs.Rotations.{plain_fork}
 use Rattle.counted_tree.proofs.Tables.{hangs_right_side, own_split, top_below}
 use Rattle.counted_tree.proofs.grow.grow_right.Goals as goal
-
-pub branch_of-left-requires-clause-link : goal.branch_of-left-requires-clause-link
-branch_of-left-requires-clause-link c =
-    link_later _ _ c.args.node.left (omega (arith, length-trees c.args.nodes.now.nodes)) c.requires.node.left_earlier
 
 pub returns-then-right-row-clause-grown : goal.returns-then-right-row-clause-grown
 returns-then-right-row-clause-grown c =
@@ -24,11 +20,13 @@ returns-then-right-row-clause-grown c =
     let d = c.rebuild.new.nodes in
     let n = c.args.node in
     let e = ap (tree_in a) c.branch_of-left.ensures.link in
+    let read : Some c.open-node.result ≡ Some n = sym c.open-node.ensures.node ∙ c.requires.at in
+    let again : c.open-node.result ≡ n = cc in
     let p : IsRebuilt (tree_in a n.left) n.entry (tree_in a c.args.right.link) (tree_in d c.rebuild.result.link) =
-    rw e at c.rebuild.ensures.rebuilt in
+    rw (e, again) at c.rebuild.ensures.rebuilt in
     λ made g. grown_right (tree_in a n.left) (tree_in a n.right) _ (tree_in d c.rebuild.result.link) n.entry made
     (length d.nodes - length a.nodes) c.requires.node.balanced g p (omega (arith, c.rebuild.ensures.adds.at_most))
-    (λ h. omega (arith, c.rebuild.ensures.plain (rw e h)))
+    (λ h. omega (arith, c.rebuild.ensures.plain (rw (e, again) h)))
 
 pub hang-requires-clause-row : goal.hang-requires-clause-row
 hang-requires-clause-row c =
@@ -60,9 +58,12 @@ returns-clause-adds c =
     let row = read_row c.args.table.now (Fork l n.entry r) l r n.entry c.get-row.result c.index-table-node.result refl c.requires.row
     c.get-row.ensures in
     let below : height s < height (Fork l n.entry r) = omega (arith, row.1, c.requires.right.tells.height, c.if-right-row.false) in
-    let copied = copied_right a c.push_with_right-number.new.self n c.args.right.link c.push_with_right-number.result c.requires.sound c.requires.node
-    c.requires.right.link c.requires.rises below (c.push_with_right-number.ensures.nodes n c.requires.at) c.push_with_right-number.ensures.room
-    c.push_with_right-number.ensures.keys_and_widths c.push_with_right-number.ensures.key_and_width_room c.push_with_right-number.ensures.number in
+    let copied = copied_right a c.push_with_right-number.new.self n c.args.right.link c.push_with_right-number.result
+    c.requires.sound c.requires.node
+    c.requires.right.link c.requires.rises below (c.push_with_right-number.ensures.nodes n c.requires.at)
+    c.push_with_right-number.ensures.room
+    c.push_with_right-number.ensures.keys_and_widths c.push_with_right-number.ensures.key_and_width_room
+    c.push_with_right-number.ensures.number in
     copied.adds
 
 pub returns-clause-branch : goal.returns-clause-branch
@@ -75,9 +76,12 @@ returns-clause-branch c =
     let row = read_row c.args.table.now (Fork l n.entry r) l r n.entry c.get-row.result c.index-table-node.result refl c.requires.row
     c.get-row.ensures in
     let below : height s < height (Fork l n.entry r) = omega (arith, row.1, c.requires.right.tells.height, c.if-right-row.false) in
-    let copied = copied_right a c.push_with_right-number.new.self n c.args.right.link c.push_with_right-number.result c.requires.sound c.requires.node
-    c.requires.right.link c.requires.rises below (c.push_with_right-number.ensures.nodes n c.requires.at) c.push_with_right-number.ensures.room
-    c.push_with_right-number.ensures.keys_and_widths c.push_with_right-number.ensures.key_and_width_room c.push_with_right-number.ensures.number in
+    let copied = copied_right a c.push_with_right-number.new.self n c.args.right.link c.push_with_right-number.result
+    c.requires.sound c.requires.node
+    c.requires.right.link c.requires.rises below (c.push_with_right-number.ensures.nodes n c.requires.at)
+    c.push_with_right-number.ensures.room
+    c.push_with_right-number.ensures.keys_and_widths c.push_with_right-number.ensures.key_and_width_room
+    c.push_with_right-number.ensures.number in
     let stays = stays_right l r s n.entry c.requires.node.balanced c.requires.rises below in
     let gains = gains_right c.args.entry.now n.entry (entries r) (entries s) (entries l) c.requires.gains in
     let over : IsBranchOf _ (Fork l n.entry s) = record {
@@ -102,14 +106,18 @@ returns-clause-grown c =
     let row = read_row c.args.table.now (Fork l n.entry r) l r n.entry c.get-row.result c.index-table-node.result refl c.requires.row
     c.get-row.ensures in
     let below : height s < height (Fork l n.entry r) = omega (arith, row.1, c.requires.right.tells.height, c.if-right-row.false) in
-    let copied = copied_right a c.push_with_right-number.new.self n c.args.right.link c.push_with_right-number.result c.requires.sound c.requires.node
-    c.requires.right.link c.requires.rises below (c.push_with_right-number.ensures.nodes n c.requires.at) c.push_with_right-number.ensures.room
-    c.push_with_right-number.ensures.keys_and_widths c.push_with_right-number.ensures.key_and_width_room c.push_with_right-number.ensures.number in
+    let copied = copied_right a c.push_with_right-number.new.self n c.args.right.link c.push_with_right-number.result
+    c.requires.sound c.requires.node
+    c.requires.right.link c.requires.rises below (c.push_with_right-number.ensures.nodes n c.requires.at)
+    c.push_with_right-number.ensures.room
+    c.push_with_right-number.ensures.keys_and_widths c.push_with_right-number.ensures.key_and_width_room
+    c.push_with_right-number.ensures.number in
     let stays = stays_right l r s n.entry c.requires.node.balanced c.requires.rises below in
     let p = plain_fork l s n.entry c.requires.node.balanced.0
     (linked_balanced a.nodes c.args.right.link c.requires.sound c.requires.right.link) stays.0 in
     let one : length c.push_with_right-number.new.self.nodes - length a.nodes ≡ 1 = omega (arith, copied.count) in
-    λ made g. grown_right l r s _ n.entry made (length c.push_with_right-number.new.self.nodes - length a.nodes) c.requires.node.balanced g
+    λ made g. grown_right l r s _ n.entry made (length c.push_with_right-number.new.self.nodes - length a.nodes)
+    c.requires.node.balanced g
     (subst (IsRebuilt l n.entry s) (sym copied.tree) p) (omega (arith, one)) (λ _. one)
 
 pub returns-clause-lists : goal.returns-clause-lists
@@ -122,9 +130,12 @@ returns-clause-lists c =
     let row = read_row c.args.table.now (Fork l n.entry r) l r n.entry c.get-row.result c.index-table-node.result refl c.requires.row
     c.get-row.ensures in
     let below : height s < height (Fork l n.entry r) = omega (arith, row.1, c.requires.right.tells.height, c.if-right-row.false) in
-    let copied = copied_right a c.push_with_right-number.new.self n c.args.right.link c.push_with_right-number.result c.requires.sound c.requires.node
-    c.requires.right.link c.requires.rises below (c.push_with_right-number.ensures.nodes n c.requires.at) c.push_with_right-number.ensures.room
-    c.push_with_right-number.ensures.keys_and_widths c.push_with_right-number.ensures.key_and_width_room c.push_with_right-number.ensures.number in
+    let copied = copied_right a c.push_with_right-number.new.self n c.args.right.link c.push_with_right-number.result
+    c.requires.sound c.requires.node
+    c.requires.right.link c.requires.rises below (c.push_with_right-number.ensures.nodes n c.requires.at)
+    c.push_with_right-number.ensures.room
+    c.push_with_right-number.ensures.keys_and_widths c.push_with_right-number.ensures.key_and_width_room
+    c.push_with_right-number.ensures.number in
     ap entries copied.tree
 
 pub returns-clause-hangs : goal.returns-clause-hangs
@@ -137,9 +148,12 @@ returns-clause-hangs c =
     let row = read_row c.args.table.now (Fork l n.entry r) l r n.entry c.get-row.result c.index-table-node.result refl c.requires.row
     c.get-row.ensures in
     let below : height s < height (Fork l n.entry r) = omega (arith, row.1, c.requires.right.tells.height, c.if-right-row.false) in
-    let copied = copied_right a c.push_with_right-number.new.self n c.args.right.link c.push_with_right-number.result c.requires.sound c.requires.node
-    c.requires.right.link c.requires.rises below (c.push_with_right-number.ensures.nodes n c.requires.at) c.push_with_right-number.ensures.room
-    c.push_with_right-number.ensures.keys_and_widths c.push_with_right-number.ensures.key_and_width_room c.push_with_right-number.ensures.number in
+    let copied = copied_right a c.push_with_right-number.new.self n c.args.right.link c.push_with_right-number.result
+    c.requires.sound c.requires.node
+    c.requires.right.link c.requires.rises below (c.push_with_right-number.ensures.nodes n c.requires.at)
+    c.push_with_right-number.ensures.room
+    c.push_with_right-number.ensures.keys_and_widths c.push_with_right-number.ensures.key_and_width_room
+    c.push_with_right-number.ensures.number in
     subst (Hangs c.args.table.now c.hang.new.table) (sym copied.tree)
     (hangs_right_side (tree_in a n.left) s n.entry c.args.table.now c.hang.new.table c.requires.ready c.requires.other
     (c.hang.ensures s c.requires.right.tells))

@@ -11,7 +11,8 @@ invariant_of-self c =
     let keys_and_widths = c.self.inside.keys_and_widths.items in
     let packed = c.index-packed.result.now in
     let room = ap (λ (s : Store). s.node_room) c.self.view_is in
-    let long : length (nodes_of keys_and_widths nodes) ≡ length c.args.self.now.nodes = ap (λ (s : Store). length s.nodes) c.self.view_is in
+    let long : length (nodes_of keys_and_widths nodes) ≡ length c.args.self.now.nodes = ap (λ (s : Store). length s.nodes)
+    c.self.view_is in
     let at : slice_get nodes c.args.at ≡ Some packed =
     read_at nodes c.args.at packed (omega (arith, long, length-nodes_of keys_and_widths nodes, c.requires.at)) c.index-packed.ensures in
     let below = elem_below_at (length keys_and_widths) nodes c.args.at packed c.self.invariant.3 at in (
@@ -28,11 +29,13 @@ returns-clause-nodes c =
     let nodes = c.self.inside.nodes.items in
     let keys_and_widths = c.self.inside.keys_and_widths.items in
     let packed = c.index-packed.result.now in
-    let long : length (nodes_of keys_and_widths nodes) ≡ length c.args.self.now.nodes = ap (λ (s : Store). length s.nodes) c.self.view_is in
+    let long : length (nodes_of keys_and_widths nodes) ≡ length c.args.self.now.nodes = ap (λ (s : Store). length s.nodes)
+    c.self.view_is in
     let at : slice_get nodes c.args.at ≡ Some packed =
     read_at nodes c.args.at packed (omega (arith, long, length-nodes_of keys_and_widths nodes, c.requires.at)) c.index-packed.ensures in
     let change : Node → Node = λ n. record n { right = c.args.right } in
     λ n there. ap (nodes_of keys_and_widths) c.push_reserved.ensures.items
     ∙ nodes_copied keys_and_widths nodes c.args.at packed c.with_right.result change n at
-    (subst (λ (s : Store). slice_get s.nodes c.args.at ≡ Some n) (sym c.self.view_is) there) c.with_right.ensures.node c.with_right.ensures.elem
+    (subst (λ (s : Store). slice_get s.nodes c.args.at ≡ Some n) (sym c.self.view_is) there) c.with_right.ensures.node
+    c.with_right.ensures.elem
     ∙ ap (λ (s : Store). s.nodes ++ change n ∷ []) c.self.view_is
