@@ -12,11 +12,10 @@ use Rattle.counted_tree.specs.Grown.{MayRise}
 use Rattle.counted_tree.proofs.Adding.{adds_push, sound_node, tree_pushed}
 use Rattle.counted_tree.proofs.Growth.{length-trees, link_later, linked_balanced}
 use Rattle.counted_tree.proofs.Grows.{stays_left, stays_right}
-use Rattle.counted_tree.proofs.Listed.{adds_weaker}
 
 -- the node was appended as the one with this number
 pub record IsAppended (a b : Store) (n : Node) (k : ℕ) : Type 0 where
-  pub adds : Adds a b 3
+  pub adds : Adds a b 1
   pub count : length b.nodes ≡ length a.nodes + 1
   pub number : k < length b.nodes
   pub tree : tree_in b (Some k) ≡ tree_of (trees a.nodes) n
@@ -27,7 +26,7 @@ appended : (a b : Store) (n : Node) (k : ℕ) → AreSound a.nodes → IsSoundNo
 appended a b n k sound node nodes room keys_and_widths key_and_width_room number =
     let long : length b.nodes ≡ length a.nodes + 1 = ap length nodes ∙ length_push a.nodes n in
     record {
-      adds = adds_weaker a b 1 3 (omega arith) (adds_push a b n sound node nodes room keys_and_widths key_and_width_room);
+      adds = adds_push a b n sound node nodes room keys_and_widths key_and_width_room;
       count = long;
       number = omega (arith, long, number);
       tree = tree_pushed a b n k nodes number;

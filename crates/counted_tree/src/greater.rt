@@ -7,7 +7,6 @@ ghost use Rattle.counted_tree.specs.Along.{entry_at, after_at, elem_at};
 ghost use Rattle.counted_tree.specs.Greater.{all_greater, passed, last_of, stop};
 ghost use Rattle.counted_tree.specs.Table.{HasRow, IsKept};
 
-use crate::branch::branch_of;
 use crate::build::look;
 use crate::nodes::Nodes;
 use crate::packed_row::PackedRow;
@@ -28,13 +27,10 @@ fn are_greater(
     ensures greater { result ≡ all_greater key (entries (tree_in nodes.now link)) }
     ensures cost { steps.new ≤ steps.old + 1 }
 {
-    match link {
-        None => true,
-        Some(_) => {
-            steps.tick();
-            key < branch_of(nodes, table, link).least
-        }
-    }
+    let Some(at) = link else { return true };
+    let node = look(nodes, at, steps);
+    let row = table[node.entry.elem as usize].get();
+    key < row.least
 }
 
 /// The last element of the tree, or the given one where the tree is empty.

@@ -1,8 +1,7 @@
 //! The tree of a node, once one of its sides has grown by an entry. Both calls stand in the body of who makes them, so that only what
-//! they use of the node is unpacked: mostly the copy differs in one link, and only the slow way reads the whole node, once more.
+//! they use of the node is unpacked: a copy differs in one side, and the whole node is read once more only where it is built anew.
 ghost use Rattle.std.specs.Prelude.{◌≡◌, ℕ, ◌+◌, ◌-◌, ◌<◌, ◌≤◌, ◌∷◌, ◌++◌, length, slice_get, Some};
 ghost use Rattle.counted_tree.specs.declared.side.Side.TheVariants.{Left, Right};
-ghost use Rattle.counted_tree.specs.Entry.{IsKnown};
 ghost use Rattle.counted_tree.specs.Tree.{entries, height};
 ghost use Rattle.counted_tree.specs.Arena.{IsSoundNode, AreSound, trees, tree_of};
 ghost use Rattle.counted_tree.specs.Branch.{IsBranch};
@@ -36,7 +35,6 @@ pub fn grow_left(
     requires sound { AreSound nodes.old.nodes }
     requires at { slice_get nodes.old.nodes at ≡ Some node }
     requires node { IsSoundNode (trees nodes.old.nodes) node }
-    requires known { IsKnown nodes.old.keys_and_widths node.entry }
     requires room { 3 ≤ nodes.old.node_room }
     requires left { IsBranch nodes.old left }
     requires gains { Gains entry.now (entries (tree_in nodes.old node.left)) (entries (tree_in nodes.old left.link)) }
@@ -57,6 +55,7 @@ pub fn grow_left(
     let row = table[node.entry.elem as usize].get();
     let left_size = node.left_size.plus(Size::of(entry));
     if left.height >= row.height {
+        // Read again, which costs less than to keep all of it.
         let node = open(nodes, at);
         let right = branch_of(nodes, table, node.right);
         return rebuild(nodes, table, left, left_size, node.entry, right);
@@ -65,6 +64,7 @@ pub fn grow_left(
         elem: node.entry.elem,
         side: Side::Left,
     };
+    // A side that has grown isn't empty, which spares the copy a case.
     let Some(_) = left.link else { unreachable!() };
     let number = nodes.push_with_left(at, left.link, left_size);
     hang(table, left, Some(on_left));
@@ -90,7 +90,6 @@ pub fn grow_right(
     requires sound { AreSound nodes.old.nodes }
     requires at { slice_get nodes.old.nodes at ≡ Some node }
     requires node { IsSoundNode (trees nodes.old.nodes) node }
-    requires known { IsKnown nodes.old.keys_and_widths node.entry }
     requires room { 3 ≤ nodes.old.node_room }
     requires right { IsBranch nodes.old right }
     requires gains { Gains entry.now (entries (tree_in nodes.old node.right)) (entries (tree_in nodes.old right.link)) }
@@ -110,6 +109,7 @@ pub fn grow_right(
 {
     let row = table[node.entry.elem as usize].get();
     if right.height >= row.height {
+        // Read again, which costs less than to keep all of it.
         let node = open(nodes, at);
         let left = branch_of(nodes, table, node.left);
         return rebuild(nodes, table, left, node.left_size, node.entry, right);
@@ -118,6 +118,7 @@ pub fn grow_right(
         elem: node.entry.elem,
         side: Side::Right,
     };
+    // A side that has grown isn't empty, which spares the copy a case.
     let Some(_) = right.link else { unreachable!() };
     let number = nodes.push_with_right(at, right.link);
     hang(table, right, Some(on_right));

@@ -4,16 +4,26 @@ use Rattle.counted_tree.specs.Arena.{IsLinkBelow}
 use Rattle.counted_tree.specs.Entry.{least_key}
 use Rattle.counted_tree.specs.Tree.{entries}
 use Rattle.counted_tree.specs.Change.{tree_in}
+use Rattle.counted_tree.proofs.Branches.{read_row, row_there}
 use Rattle.counted_tree.proofs.Passing.{by_least, least_small}
 use Rattle.counted_tree.proofs.greater.are_greater.Goals as goal
 
-pub returns-in-Some-clause-greater : goal.returns-in-Some-clause-greater
-returns-in-Some-clause-greater c =
+pub bounds-table-node : goal.bounds-table-node
+bounds-table-node c =
+    let a = c.args.nodes.now in
+    let n = c.look-node.result in
+    row_there c.args.table.now (tree_in a c.args.link) (tree_in a n.left) (tree_in a n.right) n.entry
+    (ap (tree_in a) c.in-Some.is ∙ c.look-node.ensures.tree) c.requires.row
+
+pub returns-clause-greater : goal.returns-clause-greater
+returns-clause-greater c =
     let a = c.args.nodes.now in
     let t = tree_in a c.args.link in
+    let n = c.look-node.result in
     let below = subst (IsLinkBelow (length a.nodes)) c.in-Some.is c.requires.link in
     let small : least_key (entries t) < 2 ^ 23 = subst (λ l. least_key (entries (tree_in a l)) < 2 ^ 23) (sym c.in-Some.is)
-    (least_small a c.in-Some.field-0 c.requires.sound below) in
-    let least : c.branch_of.result.least ≡ least_key (entries t) =
-    c.branch_of.ensures.branch.tells.least ∙ ap (λ l. least_key (entries (tree_in a l))) c.branch_of.ensures.link in
+    (least_small a c.in-Some.at c.requires.sound below) in
+    let row = read_row c.args.table.now t (tree_in a n.left) (tree_in a n.right) n.entry c.get-row.result c.index-table-node.result
+    (ap (tree_in a) c.in-Some.is ∙ c.look-node.ensures.tree) c.requires.row (c.get-row.ensures ∙ c.index-table-node.is) in
+    let least : c.get-row.result.least ≡ least_key (entries t) = row.0 in
     rw least (by_least c.args.key (entries t) small)

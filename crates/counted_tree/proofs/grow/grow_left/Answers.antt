@@ -15,6 +15,7 @@ use Rattle.counted_tree.proofs.Grows.{grown_left, stays_left}
 use Rattle.counted_tree.proofs.Rotations.{plain_fork}
 use Rattle.counted_tree.proofs.Sizes.{more_size, size_few}
 use Rattle.counted_tree.proofs.Tables.{hangs_left_side, own_split, top_below}
+use Rattle.counted_tree.proofs.Listed.{adds_weaker}
 use Rattle.counted_tree.proofs.grow.grow_left.Goals as goal
 
 pub plus-left_size-requires-clause-shown : goal.plus-left_size-requires-clause-shown
@@ -70,8 +71,8 @@ hang-requires-clause-height c =
     let small = branch_small c.args.nodes.now c.args.left c.requires.sound c.requires.left (omega (arith, c.requires.few)) in
     omega (arith, small.1)
 
-pub push_with_left-number-requires-clause-at : goal.push_with_left-number-requires-clause-at
-push_with_left-number-requires-clause-at c = slice_get_within c.args.nodes.now.nodes c.args.at c.args.node c.requires.at
+pub push_with_left-number-requires-clause-number : goal.push_with_left-number-requires-clause-number
+push_with_left-number-requires-clause-number c = slice_get_within c.args.nodes.now.nodes c.args.at c.args.node c.requires.at
 
 pub push_with_left-number-requires-clause-shown : goal.push_with_left-number-requires-clause-shown
 push_with_left-number-requires-clause-shown c =
@@ -119,7 +120,7 @@ returns-clause-adds c =
     c.push_with_left-number.ensures.room
     c.push_with_left-number.ensures.keys_and_widths c.push_with_left-number.ensures.key_and_width_room
     c.push_with_left-number.ensures.number in
-    copied.adds
+    adds_weaker _ _ 1 3 (omega arith) copied.adds
 
 pub returns-clause-branch : goal.returns-clause-branch
 returns-clause-branch c =

@@ -12,6 +12,7 @@ use Rattle.counted_tree.proofs.Growth.{linked_balanced}
 use Rattle.counted_tree.proofs.Grows.{grown_right, stays_right}
 use Rattle.counted_tree.proofs.Rotations.{plain_fork}
 use Rattle.counted_tree.proofs.Tables.{hangs_right_side, own_split, top_below}
+use Rattle.counted_tree.proofs.Listed.{adds_weaker}
 use Rattle.counted_tree.proofs.grow.grow_right.Goals as goal
 
 pub returns-then-right-row-clause-grown : goal.returns-then-right-row-clause-grown
@@ -45,8 +46,8 @@ hang-requires-clause-height c =
     let small = branch_small c.args.nodes.now c.args.right c.requires.sound c.requires.right (omega (arith, c.requires.few)) in
     omega (arith, small.1)
 
-pub push_with_right-number-requires-clause-at : goal.push_with_right-number-requires-clause-at
-push_with_right-number-requires-clause-at c = slice_get_within c.args.nodes.now.nodes c.args.at c.args.node c.requires.at
+pub push_with_right-number-requires-clause-number : goal.push_with_right-number-requires-clause-number
+push_with_right-number-requires-clause-number c = slice_get_within c.args.nodes.now.nodes c.args.at c.args.node c.requires.at
 
 pub returns-clause-adds : goal.returns-clause-adds
 returns-clause-adds c =
@@ -64,7 +65,7 @@ returns-clause-adds c =
     c.push_with_right-number.ensures.room
     c.push_with_right-number.ensures.keys_and_widths c.push_with_right-number.ensures.key_and_width_room
     c.push_with_right-number.ensures.number in
-    copied.adds
+    adds_weaker _ _ 1 3 (omega arith) copied.adds
 
 pub returns-clause-branch : goal.returns-clause-branch
 returns-clause-branch c =

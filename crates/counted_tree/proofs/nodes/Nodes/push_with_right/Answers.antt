@@ -14,7 +14,7 @@ invariant_of-self c =
     let long : length (nodes_of keys_and_widths nodes) ≡ length c.args.self.now.nodes = ap (λ (s : Store). length s.nodes)
     c.self.view_is in
     let at : slice_get nodes c.args.at ≡ Some packed =
-    read_at nodes c.args.at packed (omega (arith, long, length-nodes_of keys_and_widths nodes, c.requires.at)) c.index-packed.ensures in
+    read_at nodes c.args.at packed (omega (arith, long, length-nodes_of keys_and_widths nodes, c.requires.number)) c.index-packed.ensures in
     let below = elem_below_at (length keys_and_widths) nodes c.args.at packed c.self.invariant.3 at in (
       omega (arith, room, c.requires.room),
       omega (arith, room, c.requires.room),
@@ -32,7 +32,7 @@ returns-clause-nodes c =
     let long : length (nodes_of keys_and_widths nodes) ≡ length c.args.self.now.nodes = ap (λ (s : Store). length s.nodes)
     c.self.view_is in
     let at : slice_get nodes c.args.at ≡ Some packed =
-    read_at nodes c.args.at packed (omega (arith, long, length-nodes_of keys_and_widths nodes, c.requires.at)) c.index-packed.ensures in
+    read_at nodes c.args.at packed (omega (arith, long, length-nodes_of keys_and_widths nodes, c.requires.number)) c.index-packed.ensures in
     let change : Node → Node = λ n. record n { right = c.args.right } in
     λ n there. ap (nodes_of keys_and_widths) c.push_reserved.ensures.items
     ∙ nodes_copied keys_and_widths nodes c.args.at packed c.with_right.result change n at
