@@ -7,7 +7,7 @@ use Rattle.std.proofs.Math.Seq.{take-add}
 use Rattle.opid.specs.Operations.{Operation}
 use Rattle.opid.specs.Reading.{reading, reading_at, reading_in, reading_in_at}
 use Rattle.opid.specs.Splice.{play_in}
-use Rattle.opid.specs.Edits.{edit_after_in, edits_from_in, edits_in, edits}
+use Rattle.opid.specs.Edits.{edit_after_in, edits_from_in, edits_in}
 use Rattle.opid.specs.Lawful.{GoesOn, IsLawful}
 use Rattle.opid.proofs.Logs.{IsLawful-push, IsLawful-take, goes_on_after}
 use Rattle.opid.proofs.Played.{edit_in-leads}
