@@ -1,3 +1,3 @@
 pub mod CommandLine
 pub mod Endings
-pub mod Plans
+pub mod Plays

@@ -3,7 +3,7 @@ ghost use Rattle.std.specs.Prelude.{◌^◌, ◌<◌, ℕ, List, Result};
 ghost use Rattle.std.specs.Io.KnownBytes.{Appends, Consumes};
 ghost use Rattle.line_engine.specs.Counting.{Rises};
 ghost use Rattle.commands.specs.Played.{served_end};
-ghost use Rattle.command_line.specs.Plans.{Plays, IsPlayed};
+ghost use Rattle.command_line.specs.Plays.{Plays, IsPlayed};
 
 use crate::plans::Plan;
 use commands::{Stop, play_lines, play_text, play_world};

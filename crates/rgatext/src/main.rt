@@ -1,7 +1,7 @@
 //! The program: it takes its words, does what they ask for, and tells how it ends.
 #![tactic(auto)]
 
-ghost use Rattle.command_line.specs.Plans.{IsPlayed};
+ghost use Rattle.command_line.specs.Plays.{IsPlayed};
 
 mod host;
 
