@@ -145,30 +145,39 @@ fn take_turns<R: Wait>(
     room.meet(rt, one, other).is_ok() & all
 }
 
+// The pass takes turns with one of its own making, which has no draw left then.
+fn two_take_turns<R: Wait>(rt: &R, alloc: Global, room: &SharedRoom, one: &mut Pass) -> bool
+    requires { IsPassOf room.now one.old }
+    ensures { IsPassOf room.now one.new }
+{
+    let Ok(mut other) = room.split(one, 4) else {
+        return false;
+    };
+    let (Ok(first), Ok(second)) = (front(alloc, 1, 1, 0, 'a'), front(alloc, 2, 1, 0, 'b')) else {
+        return false;
+    };
+    take_turns(rt, room, one, &mut other, first, second) && other.left() == 0
+}
+
 // Whether the six calls are recorded, each under the ticket after the one before. Both put their character in at the front of
 // version 0, so the later one's stands first.
-fn has_their_calls(room: &Room) -> Result<bool, Refusal> {
-    let text = room.replica().doc().reading(room.replica().version())?;
+fn has_their_calls(room: &Room) -> bool {
+    let Ok(text) = room.replica().doc().reading(room.replica().version()) else {
+        return false;
+    };
     let mut all = room.history().len() == 6 && text.as_str() == "ba";
     for (place, (ticket, _)) in room.history().iter().enumerate() {
         all &= *ticket == place as u64;
     }
-    Ok(all)
+    all
 }
 
 #[test]
 fn passes_take_their_turns_and_meet(rt: HostRuntime) -> Result<(), Fail> {
     let (room, mut one) = shared(rt.alloc(), 0)?;
-    let Ok(mut other) = room.split(&mut one, 4) else {
-        return Err(Fail::from("draws"));
-    };
-    let first = front(rt.alloc(), 1, 1, 0, 'a')?;
-    let second = front(rt.alloc(), 2, 1, 0, 'b')?;
-    let all = take_turns(&rt, &room, &mut one, &mut other, first, second) && other.left() == 0;
-    let Some(closed) = closed(room, one) else {
-        return Err(Fail::from("closed"));
-    };
-    assert!(rt; all && has_their_calls(&closed)?);
+    let all = two_take_turns(&rt, rt.alloc(), &room, &mut one);
+    let has = closed(room, one).is_some_and(|closed| has_their_calls(&closed));
+    assert!(rt; all && has);
     Ok(())
 }
 
@@ -191,24 +200,24 @@ fn a_lone_pass_is_never_busy(rt: HostRuntime) -> Result<(), Fail> {
 }
 
 // A pass of one draw makes one call, whatever it asks for then, and uses no draw of a pass that it is to meet.
-fn makes_one_call<R: Wait>(rt: &R, room: &SharedRoom, one: &mut Pass, pass: &mut Pass) -> bool
-    requires { IsPassOf room.now one.old × IsPassOf room.now pass.old }
+fn makes_one_call<R: Wait>(rt: &R, room: &SharedRoom, pass: &mut Pass) -> bool
+    requires { IsPassOf room.now pass.old }
 {
+    let Ok(mut one) = room.split(pass, 1) else {
+        return false;
+    };
     let left = pass.left();
-    let mut all = room.call(rt, one, Call::Read).is_ok();
-    all &= matches!(&room.call(rt, one, Call::Read), Err(Refusal::Worn));
-    all &= matches!(&room.try_call(one, Call::Read), Err(Refusal::Worn));
-    all &= room.meet(rt, one, pass).is_err();
+    let mut all = room.call(rt, &mut one, Call::Read).is_ok();
+    all &= matches!(&room.call(rt, &mut one, Call::Read), Err(Refusal::Worn));
+    all &= matches!(&room.try_call(&mut one, Call::Read), Err(Refusal::Worn));
+    all &= room.meet(rt, &mut one, pass).is_err();
     all && one.left() == 0 && pass.left() == left
 }
 
 #[test]
 fn one_draw_is_one_call(rt: HostRuntime) -> Result<(), Fail> {
     let (room, mut pass) = shared(rt.alloc(), 0)?;
-    let Ok(mut one) = room.split(&mut pass, 1) else {
-        return Err(Fail::from("draws"));
-    };
-    assert!(rt; makes_one_call(&rt, &room, &mut one, &mut pass));
+    assert!(rt; makes_one_call(&rt, &room, &mut pass));
     Ok(())
 }
 
@@ -248,15 +257,28 @@ fn both_find<R: Threads + Wait + Clock + Sync>(
     both.0 && both.1
 }
 
+// Opens two sessions, for a thread each.
+fn two_find<R: Threads + Wait + Clock + Sync>(
+    rt: &R,
+    alloc: Global,
+    room: &SharedRoom,
+    mut pass: Pass,
+) -> bool
+    requires { IsPassOf room.now pass }
+{
+    let both = joins(rt, room, &mut pass) && joins(rt, room, &mut pass);
+    let Ok(other) = room.split(&mut pass, 2 * u64::from(TURNS)) else {
+        return false;
+    };
+    let (Ok(first), Ok(second)) = (front(alloc, 1, 1, 0, 'a'), front(alloc, 2, 1, 0, 'b')) else {
+        return false;
+    };
+    both_find(rt, room, pass, other, first, second) && both
+}
+
 #[test]
 fn two_threads_find_each_other(rt: HostRuntime) -> Result<(), Fail> {
-    let (room, mut pass) = shared(rt.alloc(), 0)?;
-    let both = joins(&rt, &room, &mut pass) && joins(&rt, &room, &mut pass);
-    let Ok(other) = room.split(&mut pass, 2 * u64::from(TURNS)) else {
-        return Err(Fail::from("draws"));
-    };
-    let first = front(rt.alloc(), 1, 1, 0, 'a')?;
-    let second = front(rt.alloc(), 2, 1, 0, 'b')?;
-    assert!(rt; both_find(&rt, &room, pass, other, first, second) && both);
+    let (room, pass) = shared(rt.alloc(), 0)?;
+    assert!(rt; two_find(&rt, rt.alloc(), &room, pass));
     Ok(())
 }

@@ -4,7 +4,6 @@ ghost use Rattle.std.specs.Thread.{IsSync};
 ghost use Rattle.shared_room.specs.Views.{IsPassOf};
 
 use crate::shared::{closed, count, front, shared};
-use opid::Refusal;
 use room::{Call, Reply, Room};
 use shared_room::{Pass, SharedRoom};
 use std::alloc::{AllocError, Global};
@@ -142,27 +141,40 @@ fn type_together<R: Threads + Wait + Sync>(
 }
 
 // Whether all calls are recorded, and the text has 99 of each letter and nothing else.
-fn has_all(room: &Room) -> Result<bool, Refusal> {
-    let text = room.replica().doc().reading(room.replica().version())?;
+fn has_all(room: &Room) -> bool {
+    let Ok(text) = room.replica().doc().reading(room.replica().version()) else {
+        return false;
+    };
     let mut all = room.history().len() == 1600 && text.as_str().len() == 792;
     for place in 0..8 {
         all &= count(text.as_str(), letter(place)) == 99;
     }
-    Ok(all)
+    all
+}
+
+// Eight threads type with the draws of a part of the pass, which joins it again: all draws but theirs are left.
+fn eight_type<R: Threads + Wait + Sync>(
+    rt: &R,
+    alloc: Global,
+    room: &SharedRoom,
+    first: &mut Pass,
+) -> bool
+    requires { IsPassOf room.now first.old }
+    ensures { IsPassOf room.now first.new }
+{
+    let Ok(pool) = room.split(first, 1600) else {
+        return false;
+    };
+    let (pool, all) = type_together(rt, alloc, room, pool, 8, 0);
+    room.join(first, pool);
+    all && first.left() == 4_611_686_018_427_386_304
 }
 
 #[test]
 fn eight_threads_type_into_one_room(rt: HostRuntime) -> Result<(), Fail> {
     let (room, mut first) = shared(rt.alloc(), 0)?;
-    let Ok(pool) = room.split(&mut first, 1600) else {
-        return Err(Fail::from("draws"));
-    };
-    let (pool, all) = type_together(&rt, rt.alloc(), &room, pool, 8, 0);
-    room.join(&mut first, pool);
-    assert!(rt; all && first.left() == 4_611_686_018_427_386_304);
-    let Some(closed) = closed(room, first) else {
-        return Err(Fail::from("closed"));
-    };
-    assert!(rt; has_all(&closed)?);
+    let all = eight_type(&rt, rt.alloc(), &room, &mut first);
+    let has = closed(room, first).is_some_and(|closed| has_all(&closed));
+    assert!(rt; all && has);
     Ok(())
 }
