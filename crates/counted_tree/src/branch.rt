@@ -6,6 +6,7 @@ ghost use Rattle.counted_tree.specs.Change.{tree_in};
 ghost use Rattle.counted_tree.specs.Table.{HasRow};
 ghost use Rattle.counted_tree.specs.Tree.Tree.{Leaf};
 
+use crate::build::open;
 use crate::entry::KEYS;
 use crate::nodes::Nodes;
 use crate::packed_row::PackedRow;
@@ -36,8 +37,8 @@ impl Branch {
     }
 }
 
-/// The part of the newest tree that a link names, of which the table has a row. Looks at one node, or where the tree is empty at
-/// none.
+/// The part of the newest tree that a link names, of which the table has a row. Reads one node, or none where the tree is
+/// empty.
 pub fn branch_of(nodes: &Nodes, table: &[PackedRow], link: Option<u32>) -> Branch
     requires sound { AreSound nodes.now.nodes }
     requires link { IsLinkBelow (length nodes.now.nodes) link }
@@ -48,7 +49,7 @@ pub fn branch_of(nodes: &Nodes, table: &[PackedRow], link: Option<u32>) -> Branc
     let Some(at) = link else {
         return Branch::empty();
     };
-    let elem = nodes.read(at).entry.elem;
+    let elem = open(nodes, at).entry.elem;
     let row = table[elem as usize].get();
     Branch {
         link,

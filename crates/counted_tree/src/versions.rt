@@ -230,7 +230,7 @@ impl VersionTree {
 
     /// Adds a version with a further element, shown, right after another one, or before all others: its key, below 2^23,
     /// and whether it has two units stay with it for good. Tells how many shown elements stand before it, and how many units
-    /// these have, as `ranks` would. Takes memory from the reserve alone, and a logarithmic number of steps and nodes.
+    /// these have, as `ranks` would. Takes memory from the reserve alone, and reads and makes a logarithmic number of nodes.
     pub fn insert_after(&mut self, before: Option<u32>, elem: u32, key: u32, wide: bool) -> Size
         requires room { 1 ≤ self.old.room }
         requires there { IfSome before (λ e. Lists e (newest_list self.old)) }
@@ -261,8 +261,8 @@ impl VersionTree {
         rank
     }
 
-    /// Adds a version with an element hidden. Takes memory from the reserve alone, and a logarithmic number of steps and
-    /// nodes.
+    /// Adds a version with an element hidden. Takes memory from the reserve alone, and reads and makes a logarithmic number
+    /// of nodes.
     pub fn hide(&mut self, elem: u32)
         requires room { 1 ≤ self.old.room }
         requires shown { Shows elem (newest_list self.old) }

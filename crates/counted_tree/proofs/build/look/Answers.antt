@@ -12,6 +12,7 @@ returns c =
       balanced = o.balanced;
       known = (o.small, c.look.ensures.told);
       size = o.size;
+      node = c.look.ensures.node;
       step =
           omega (arith, c.look.ensures.step);
     }

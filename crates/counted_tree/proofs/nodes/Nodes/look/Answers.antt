@@ -5,7 +5,7 @@ use Rattle.counted_tree.specs.Entry.{key_and_width_of}
 use Rattle.counted_tree.specs.PackedNode.{elem_of, node_of}
 use Rattle.counted_tree.specs.Store.{Store, nodes_of}
 use Rattle.counted_tree.proofs.Stored.{elem_below_at, read_at, node_at, key_and_width_back, length-nodes_of}
-use Rattle.counted_tree.proofs.nodes.Nodes.read.Goals as goal
+use Rattle.counted_tree.proofs.nodes.Nodes.look.Goals as goal
 
 pub index-requires : goal.index-requires
 index-requires c =
