@@ -257,7 +257,7 @@ fn both_find<R: Threads + Wait + Clock + Sync>(
     both.0 && both.1
 }
 
-// Opens two sessions, for a thread each.
+// Opens two sessions, by each of which a thread then types and finds the other's character.
 fn two_find<R: Threads + Wait + Clock + Sync>(
     rt: &R,
     alloc: Global,
