@@ -61,4 +61,21 @@ def editors(count):
     return lines
 
 
+def reads(deletions, count):
+    """An editor that inserts 69,760 characters in runs of 64 at random places and deletes so many times 64, and pulls each at
+    once, and then so many reads."""
+    dice = random.Random(2)
+    lines, version, shown = [request(t="join")], 0, 0
+    for number in range(1, 1_091 + deletions):
+        if number <= 1_090:
+            lines.append(request(t="ins", s=1, n=number, v=version, k=dice.randint(0, shown), x="x" * 64))
+            shown += 64
+        else:
+            lines.append(request(t="del", s=1, n=number, v=version, k=dice.randint(0, shown - 64), c=64))
+            shown -= 64
+        lines.append(request(t="pull", s=1, have=version, max=64))
+        version += 64
+    return lines + [request(t="read")] * count
+
+
 INPUTS = {"typing": typing, "places": places, "runs": runs, "editors": editors}
