@@ -62,19 +62,14 @@ def editors(count):
 
 
 def reads(deletions, count):
-    """An editor that inserts 69,760 characters in runs of 64 at random places and deletes so many times 64, and pulls each at
+    """Runs of 64 at random places, 69,760 characters in all, of which so many times 64 are then deleted, each deletion pulled at
     once, and then so many reads."""
+    lines = one_editor(69_760, lambda dice, version: dice.randint(0, version), lambda dice: 64)
     dice = random.Random(2)
-    lines, version, shown = [request(t="join")], 0, 0
-    for number in range(1, 1_091 + deletions):
-        if number <= 1_090:
-            lines.append(request(t="ins", s=1, n=number, v=version, k=dice.randint(0, shown), x="x" * 64))
-            shown += 64
-        else:
-            lines.append(request(t="del", s=1, n=number, v=version, k=dice.randint(0, shown - 64), c=64))
-            shown -= 64
-        lines.append(request(t="pull", s=1, have=version, max=64))
-        version += 64
+    for done in range(0, 64 * deletions, 64):
+        place = dice.randint(0, 69_760 - done - 64)
+        lines.append(request(t="del", s=1, n=1_091 + done // 64, v=69_760 + done, k=place, c=64))
+        lines.append(request(t="pull", s=1, have=69_760 + done, max=64))
     return lines + [request(t="read")] * count
 
 
