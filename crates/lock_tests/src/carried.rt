@@ -3,7 +3,7 @@ ghost use Rattle.std.specs.Prelude.{◌≡◌, IfSome};
 ghost use Rattle.std.specs.Thread.{IsSync};
 ghost use Rattle.shared_room.specs.Views.{IsPassOf};
 
-use crate::shared::{TURNS, closed, count, finds, front, joins, shared};
+use crate::shared::{TURNS, closed, count, finds, front, joins, shared, text_of};
 use line_engine::carry;
 use replica_world::one_order;
 use room::{DeskFault, Reply, Room};
@@ -248,10 +248,7 @@ fn come_together<R: Threads + Wait + Clock + Sync>(
 
 // Whether both rooms read one text, in which each thread's characters all stand.
 fn read_the_same(one: &Room, other: &Room) -> bool {
-    let Ok(text) = one.replica().doc().reading(one.replica().version()) else {
-        return false;
-    };
-    let Ok(same) = other.replica().doc().reading(other.replica().version()) else {
+    let (Ok(text), Ok(same)) = (text_of(one), text_of(other)) else {
         return false;
     };
     text.as_str() == same.as_str()

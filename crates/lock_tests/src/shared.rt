@@ -94,6 +94,16 @@ pub(crate) fn front(
     })
 }
 
+// One letter of each of two sessions, both in front of version 0.
+fn two_letters(alloc: Global) -> Result<(Call, Call), AllocError> {
+    Ok((front(alloc, 1, 1, 0, 'a')?, front(alloc, 2, 1, 0, 'b')?))
+}
+
+// The room's text.
+pub(crate) fn text_of(room: &Room) -> Result<Characters, Refusal> {
+    room.replica().doc().reading(room.replica().version())
+}
+
 // Whether the pass finds this after a call.
 fn finds_after<R: Wait>(rt: &R, room: &SharedRoom, pass: &mut Pass, call: Call, want: &str) -> bool
     requires { IsPassOf room.now pass.old }
@@ -153,7 +163,7 @@ fn two_take_turns<R: Wait>(rt: &R, alloc: Global, room: &SharedRoom, one: &mut P
     let Ok(mut other) = room.split(one, 4) else {
         return false;
     };
-    let (Ok(first), Ok(second)) = (front(alloc, 1, 1, 0, 'a'), front(alloc, 2, 1, 0, 'b')) else {
+    let Ok((first, second)) = two_letters(alloc) else {
         return false;
     };
     take_turns(rt, room, one, &mut other, first, second) && other.left() == 0
@@ -162,7 +172,7 @@ fn two_take_turns<R: Wait>(rt: &R, alloc: Global, room: &SharedRoom, one: &mut P
 // Whether the six calls are recorded, each under the ticket after the one before. Both put their character in at the front of
 // version 0, so the later one's stands first.
 fn has_their_calls(room: &Room) -> bool {
-    let Ok(text) = room.replica().doc().reading(room.replica().version()) else {
+    let Ok(text) = text_of(room) else {
         return false;
     };
     let mut all = room.history().len() == 6 && text.as_str() == "ba";
@@ -270,7 +280,7 @@ fn two_find<R: Threads + Wait + Clock + Sync>(
     let Ok(other) = room.split(&mut pass, 2 * u64::from(TURNS)) else {
         return false;
     };
-    let (Ok(first), Ok(second)) = (front(alloc, 1, 1, 0, 'a'), front(alloc, 2, 1, 0, 'b')) else {
+    let Ok((first, second)) = two_letters(alloc) else {
         return false;
     };
     both_find(rt, room, pass, other, first, second) && both

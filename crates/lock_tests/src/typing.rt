@@ -3,7 +3,7 @@ ghost use Rattle.std.specs.Prelude.{◌≤◌};
 ghost use Rattle.std.specs.Thread.{IsSync};
 ghost use Rattle.shared_room.specs.Views.{IsPassOf};
 
-use crate::shared::{closed, count, front, shared};
+use crate::shared::{closed, count, front, shared, text_of};
 use room::{Call, Reply, Room};
 use shared_room::{Pass, SharedRoom};
 use std::alloc::{AllocError, Global};
@@ -142,7 +142,7 @@ fn type_together<R: Threads + Wait + Sync>(
 
 // Whether all calls are recorded, and the text has 99 of each letter and nothing else.
 fn has_all(room: &Room) -> bool {
-    let Ok(text) = room.replica().doc().reading(room.replica().version()) else {
+    let Ok(text) = text_of(room) else {
         return false;
     };
     let mut all = room.history().len() == 1600 && text.as_str().len() == 792;
