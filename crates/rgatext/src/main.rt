@@ -8,7 +8,7 @@ mod host;
 use command_line::{Ending, Plan, PlanFault, plan, play};
 use commands::Stop;
 use host::host;
-use line_engine::Counted;
+use line_engine::{Counted, ServeFault};
 use std::alloc::AllocError;
 use std::process::ExitCode;
 use std::{env, io};
@@ -48,13 +48,20 @@ fn play_streams(rt: &HostRuntime, plan: &Plan) -> Result<(), Stop>
     play(rt.alloc(), plan, &mut input, &mut output)
 }
 
-// Tells how the program ends, and gives the status.
+// Tells how the program ends, and gives the status. Help that can't be written is a write fault.
 fn tell(rt: &HostRuntime, ending: &Ending) -> ExitCode {
-    if ending.is_output() {
-        let _ = print!(rt; "{ending}");
-    } else {
-        let _ = eprint!(rt; "{ending}");
+    if !ending.is_output() {
+        return warn(rt, ending);
     }
+    match print!(rt; "{ending}") {
+        Ok(()) => ExitCode::from(ending.status()),
+        Err(_) => warn(rt, &Ending::Stopped(Stop::Fault(ServeFault::Write))),
+    }
+}
+
+// The same on standard error; whether that can be written changes nothing.
+fn warn(rt: &HostRuntime, ending: &Ending) -> ExitCode {
+    let _ = eprint!(rt; "{ending}");
     ExitCode::from(ending.status())
 }
 
