@@ -148,6 +148,7 @@ impl Room {
         requires { mark self.old.history ≤ 2 ^ 61 + length self.old.history }
         ensures steps { IfOk result (λ reply. StepsRoom self.old call reply self.new) }
         ensures err { OnErr result (self.new ≡ self.old) }
+        ensures memory { OnErr result (may_record self.old.state ≡ true) }
         ensures in_range { mark self.new.history ≤ 2 ^ 61 + length self.new.history }
         ensures consistent { IsConsistent self.new }
     {

@@ -45,10 +45,14 @@ Answers opening v w c r = TakesTurn v w × Replies opening v w c r
 abbrev pub Visits : View → View → Type 0
 Visits v w = TakesTurn v w × Stays v w
 
+-- a turn in which there was no memory: it recorded nothing, and the history that it found isn't full
+abbrev pub LacksMemory : View → View → Type 0
+LacksMemory v w = TakesTurn v w × Stays v w × (length w.found < 1048576)
+
 -- a turn ended, from inside of it: the call was answered, or there was no memory
 abbrev pub EndsTurn : State → View → View → Call → Result Reply Refusal → Type 0
 EndsTurn opening v w c (Ok r) = Replies opening v w c r
-EndsTurn opening v w c (Err e) = (e ≡ Memory) × Stays v w
+EndsTurn opening v w c (Err e) = (e ≡ Memory) × Stays v w × (length w.found < 1048576)
 
 -- from inside a turn to its end
 pub record Keeps (v w : View) : Type 0 where
@@ -91,7 +95,7 @@ pub record Meets (a b a' b' : View) : Type 0 where
   -- and the second has seen what the first has
   pub both : IsPrefix a'.seen b'.seen
 
--- a desk over a pass gave no reply: no draw was left, or there was no memory, and nothing was recorded
+-- a desk over a pass gave no reply: no draw was left, or there was no memory where the call would have been recorded
 abbrev pub FaultsPass : View → DeskFault → View → Type 0
 FaultsPass v Fault.Worn w = (v.left ≡ 0) × (w ≡ v)
-FaultsPass v Fault.Memory w = Visits v w
+FaultsPass v Fault.Memory w = LacksMemory v w

@@ -1,8 +1,8 @@
 //! The room under its lock, whose trail is its opening and then the calls that it recorded.
-ghost use Rattle.std.specs.Prelude.{◌≡◌, ◌^◌, ◌<◌, ◌≤◌, ◌↔◌, length, OnErr, OnOk, IfOk};
+ghost use Rattle.std.specs.Prelude.{◌≡◌, ◌^◌, ◌<◌, ◌≤◌, ◌↔◌, true, length, OnErr, OnOk, IfOk};
 ghost use Rattle.opid.specs.declared.refusal.Refusal.TheVariants.{HistoryFull};
 ghost use Rattle.room.specs.declared.reply.Reply.TheVariants.{No};
-ghost use Rattle.room.specs.Machine.{answer};
+ghost use Rattle.room.specs.Machine.{answer, may_record};
 ghost use Rattle.room.specs.History.{state_of, mark, called, AreRisingFrom, IsConsistent};
 ghost use Rattle.room.specs.Legal.{AreRisingFrom-prop};
 ghost use Rattle.shared_room.specs.Trails.{trail_of};
@@ -77,6 +77,7 @@ impl KeptRoom {
         ensures answered { IfOk result (λ reply. reply ≡ answer self.old.room.value.state call) }
         ensures called { OnOk result (self.new.room.value ≡ called self.old.room.value ticket call) }
         ensures err { OnErr result (self.new.room.value ≡ self.old.room.value) }
+        ensures memory { OnErr result (may_record self.old.room.value.state ≡ true) }
         ensures full { IfOk result (λ reply. (reply ≡ No HistoryFull) ↔ (length self.old.room.value.history ≡ 1048576)) }
         ensures before { IsConsistent self.old.room.value }
         ensures consistent { IsConsistent self.new.room.value }

@@ -7,7 +7,7 @@ ghost use Rattle.history_lock.specs.Locks as locks;
 ghost use Rattle.history_lock.specs.Locks.{sight, ticket_of};
 ghost use Rattle.shared_room.specs.Trails.{trail_of};
 ghost use Rattle.shared_room.specs.Views.{view, opening, IsPassOf, View};
-ghost use Rattle.shared_room.specs.Turns.{Answers, Visits, Loses, Joins, Meets, EndsTurn, Keeps, given_away, newcomer};
+ghost use Rattle.shared_room.specs.Turns.{Answers, LacksMemory, Loses, Joins, Meets, EndsTurn, Keeps, given_away, newcomer};
 
 use crate::kept::KeptRoom;
 use crate::pass::Pass;
@@ -41,7 +41,7 @@ impl SharedRoom {
     /// `Call`, is a reply too.
     ///
     /// Refused with `Worn` where the pass has no draw left, and nothing has changed then; and with `Memory`, where a turn
-    /// was taken and the call wasn't recorded.
+    /// was taken that would have recorded the call, and didn't.
     ///
     /// Waits without a ticket until none is open, draws one, and then waits for those who drew before. Who of several
     /// that wait so draws first isn't told. Takes the steps of `Room::call`.
@@ -52,7 +52,7 @@ impl SharedRoom {
         ensures cause { IfErr result (λ e. (e ≡ Why.Worn) ⊎ (e ≡ Why.Memory)) }
         ensures worn { (result ≡ Err Why.Worn) ↔ ((view pass.old).left ≡ 0) }
         ensures worn_same { (result ≡ Err Why.Worn) → view pass.new ≡ view pass.old }
-        ensures memory { (result ≡ Err Why.Memory) → Visits (view pass.old) (view pass.new) }
+        ensures memory { (result ≡ Err Why.Memory) → LacksMemory (view pass.old) (view pass.new) }
     {
         let Ok(ticket) = self.lock.draw_when_free(rt, &mut pass.pass) else {
             return Err(Refusal::Worn);
@@ -73,7 +73,7 @@ impl SharedRoom {
         ensures lost { (result ≡ Err Why.Busy) ↔ ((view pass.new).lost ≡ (view pass.old).lost + 1) }
         ensures worn { (result ≡ Err Why.Worn) ↔ ((view pass.old).left ≡ 0) }
         ensures worn_same { (result ≡ Err Why.Worn) → view pass.new ≡ view pass.old }
-        ensures memory { (result ≡ Err Why.Memory) → Visits (view pass.old) (view pass.new) }
+        ensures memory { (result ≡ Err Why.Memory) → LacksMemory (view pass.old) (view pass.new) }
     {
         match self.lock.try_enter(&mut pass.pass) {
             Ok(hold) => self.make(hold, pass, call),
