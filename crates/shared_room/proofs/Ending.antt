@@ -26,7 +26,7 @@ use Rattle.shared_room.specs.declared.shared.SharedRoom.{SharedRoom}
 use Rattle.shared_room.specs.Trails.{made, trail_of, calls_of, opening_in}
 use Rattle.shared_room.specs.Views.{View, view_of, IsPassOf}
 use Rattle.opid.specs.declared.refusal.Refusal.{Refusal}
-use Rattle.shared_room.specs.Turns.{Replies, Records, Stays, TakesTurn, Keeps, EndsTurn, Answers, LacksMemory, Joins, Meets}
+use Rattle.shared_room.specs.Turns.{Replies, Records, Stays, TakesTurn, Keeps, EndsTurn, Answers, LacksMemory, FailsToRecord, Joins, Meets}
 use Rattle.shared_room.proofs.Trails.{calls_prefix, calls_made, calls_append, legal_calls, short_calls, owns_calls, distinct_calls}
 
 -- ---- the trail after a call
@@ -122,15 +122,16 @@ replies_after o s R R' c reply opening replays counted found is full after withi
 -- where there was no memory, nothing was recorded, though the history that was found isn't full
 pub lacks_after : (s : Sight Item) (R R' : Account) → R.state.count ≡ length R.history → s.found ≡ trail_of R → R' ≡ R
     → may_record R.state ≡ true
-    → Stays (view_of s) (view_of (finished s (trail_of R'))) × (length (calls_of s.found) < 1048576)
+    → FailsToRecord (view_of s) (view_of (finished s (trail_of R')))
 lacks_after s R R' counted found same may =
     let grown : trail_of R' ≡ trail_of R ++ map made [] = ap trail_of same ∙ sym (append-nil (trail_of R)) in
     let n : length (calls_of s.found) ≡ length R.history = ap (λ (l : List Item). length (calls_of l)) found ∙ ap length (calls_trail R) in
     let test : nat_lt R.state.count 1048576 ≡ true = may in
-    let below : R.state.count < 1048576 = grind (arith, nat_tests) in (
-      record { seen = seen_after s R R' [] found grown ∙ append-nil _; mine = mine_after s R R' [] found grown ∙ append-nil _ },
-      omega (arith, counted, n, below),
-    )
+    let below : R.state.count < 1048576 = grind (arith, nat_tests) in
+    record {
+      stays = record { seen = seen_after s R R' [] found grown ∙ append-nil _; mine = mine_after s R R' [] found grown ∙ append-nil _ };
+      not_full = omega (arith, counted, n, below);
+    }
 
 -- ---- what holds of each pass
 
@@ -188,8 +189,13 @@ pub memory_after : (o : State) (s s' : Sight Item) (w : View) (c : Call) (r : Re
     → Keeps (view_of s') w → EndsTurn o (view_of s') w c r
     → r ≡ Err Memory → LacksMemory (view_of s) w
 memory_after o s s' w c (Ok reply) b k e is = absurd (cc is)
-memory_after o s s' w c (Err why) b k e is =
-    (takes_turn s s' w b k, record { seen = e.1.seen; mine = e.1.mine ∙ mine_same s s' b }, e.2)
+memory_after o s s' w c (Err why) b k e is = (
+  takes_turn s s' w b k,
+  record {
+    stays = record { seen = e.1.stays.seen; mine = e.1.stays.mine ∙ mine_same s s' b };
+    not_full = e.1.not_full;
+  },
+)
 
 pub some_left : (n : ℕ) → (n ≢ 0) → n - 1 + 1 ≡ n
 some_left zero h = absurd (h refl)

@@ -45,6 +45,6 @@ pass_passes o o' v w Fault.Worn same did = record {
 }
 pass_passes o o' v w Fault.Memory same did = record {
   opening = same;
-  begins = subst (λ (l : List (ℕ × Call)). IsPrefix v.seen l) (sym did.1.seen) did.0.begins;
-  mine = did.1.mine;
+  begins = subst (λ (l : List (ℕ × Call)). IsPrefix v.seen l) (sym did.1.stays.seen) did.0.begins;
+  mine = did.1.stays.mine;
 }

@@ -28,6 +28,11 @@ pub record Stays (v w : View) : Type 0 where
   pub seen : w.seen ≡ w.found
   pub mine : w.mine ≡ v.mine
 
+-- the turn recorded nothing, though the history that it found isn't full
+pub record FailsToRecord (v w : View) : Type 0 where
+  pub stays : Stays v w
+  pub not_full : length w.found < 1048576
+
 -- the call was answered as the machine answers in the state of the history that was found, and was recorded; only in a
 -- full history it was refused and not recorded
 pub record Replies (opening : State) (v w : View) (c : Call) (r : Reply) : Type 0 where
@@ -45,14 +50,14 @@ Answers opening v w c r = TakesTurn v w × Replies opening v w c r
 abbrev pub Visits : View → View → Type 0
 Visits v w = TakesTurn v w × Stays v w
 
--- a turn in which there was no memory: it recorded nothing, and the history that it found isn't full
+-- a turn in which there was no memory, so that it recorded nothing, though it might have
 abbrev pub LacksMemory : View → View → Type 0
-LacksMemory v w = TakesTurn v w × Stays v w × (length w.found < 1048576)
+LacksMemory v w = TakesTurn v w × FailsToRecord v w
 
 -- a turn ended, from inside of it: the call was answered, or there was no memory
 abbrev pub EndsTurn : State → View → View → Call → Result Reply Refusal → Type 0
 EndsTurn opening v w c (Ok r) = Replies opening v w c r
-EndsTurn opening v w c (Err e) = (e ≡ Memory) × Stays v w × (length w.found < 1048576)
+EndsTurn opening v w c (Err e) = (e ≡ Memory) × FailsToRecord v w
 
 -- from inside a turn to its end
 pub record Keeps (v w : View) : Type 0 where
