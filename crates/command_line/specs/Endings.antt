@@ -1,6 +1,8 @@
 -- How the program ends.
 use Rattle.std.specs.Prelude.{ℕ, Bool, true, false, Result, Ok, Err}
+use Rattle.line_engine.specs.declared.fault.ServeFault.TheVariants.{Write}
 use Rattle.commands.specs.declared.stop.Stop.{Stop}
+use Rattle.commands.specs.declared.stop.Stop.TheVariants.{Fault}
 use Rattle.command_line.specs.declared.plans.PlanFault.TheVariants.{Help, Words, Memory}
 use Rattle.command_line.specs.declared.ending.Ending.{Ending}
 use Rattle.command_line.specs.declared.ending.Ending.TheVariants.{Done, Unplanned, Stopped}
@@ -9,6 +11,12 @@ use Rattle.command_line.specs.declared.ending.Ending.TheVariants.{Done, Unplanne
 abbrev pub ending_of : Result (Unit {0}) Stop → Ending
 ending_of (Ok done) = Done
 ending_of (Err why) = Stopped why
+
+-- how the program ends, once what it tells on standard output was printed or couldn't be: help that couldn't be is a write fault
+abbrev pub once_printed : Bool → Ending → Ending
+once_printed true ending = ending
+once_printed false (Unplanned (Help text)) = Stopped (Fault Write)
+once_printed false ending = ending
 
 -- the program's status
 abbrev pub status_of : Ending → ℕ

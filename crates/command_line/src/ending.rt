@@ -1,6 +1,7 @@
 //! How the program ends: what it tells, on which stream, and with which status.
 use crate::plans::PlanFault;
 use commands::Stop;
+use line_engine::ServeFault;
 use std::fmt;
 
 /// How the program ends.
@@ -16,7 +17,7 @@ pub enum Ending {
 
 impl Ending {
     ghost use Rattle.std.specs.Prelude.{◌≡◌};
-    ghost use Rattle.command_line.specs.Endings.{ending_of, status_of, is_output};
+    ghost use Rattle.command_line.specs.Endings.{ending_of, once_printed, status_of, is_output};
 
     /// How the run of a plan ends. Constant time.
     pub fn of(ran: Result<(), Stop>) -> Ending
@@ -25,6 +26,19 @@ impl Ending {
         match ran {
             Ok(()) => Ending::Done,
             Err(why) => Ending::Stopped(why),
+        }
+    }
+
+    /// How the program ends, once it's known whether what it tells on standard output was printed: help that couldn't be is a
+    /// write fault, and any other ending stays. Constant time.
+    pub fn once_printed(self, is_printed: bool) -> Ending
+        ensures { result ≡ once_printed is_printed self }
+    {
+        match self {
+            Ending::Unplanned(PlanFault::Help(_)) if !is_printed => {
+                Ending::Stopped(Stop::Fault(ServeFault::Write))
+            }
+            ending => ending,
         }
     }
 

@@ -8,7 +8,7 @@ mod host;
 use command_line::{Ending, Plan, PlanFault, plan, play};
 use commands::Stop;
 use host::host;
-use line_engine::{Counted, ServeFault};
+use line_engine::Counted;
 use std::alloc::AllocError;
 use std::process::ExitCode;
 use std::{env, io};
@@ -48,27 +48,20 @@ fn play_streams(rt: &HostRuntime, plan: &Plan) -> Result<(), Stop>
     play(rt.alloc(), plan, &mut input, &mut output)
 }
 
-// Tells how the program ends, and gives the status. Help that can't be written is a write fault.
-fn tell(rt: &HostRuntime, ending: &Ending) -> ExitCode {
+// Tells how the program ends, and gives the status. Whether standard error can be written changes nothing.
+fn tell(rt: &HostRuntime, ending: Ending) -> ExitCode {
+    let is_printed = !ending.is_output() || print!(rt; "{ending}").is_ok();
+    let ending = ending.once_printed(is_printed);
     if !ending.is_output() {
-        return warn(rt, ending);
+        let _ = eprint!(rt; "{ending}");
     }
-    match print!(rt; "{ending}") {
-        Ok(()) => ExitCode::from(ending.status()),
-        Err(_) => warn(rt, &Ending::Stopped(Stop::Fault(ServeFault::Write))),
-    }
-}
-
-// The same on standard error; whether that can be written changes nothing.
-fn warn(rt: &HostRuntime, ending: &Ending) -> ExitCode {
-    let _ = eprint!(rt; "{ending}");
     ExitCode::from(ending.status())
 }
 
 fn main(rt: HostRuntime) -> ExitCode {
     let plan = match asked(&rt) {
         Ok(plan) => plan,
-        Err(why) => return tell(&rt, &Ending::Unplanned(why)),
+        Err(why) => return tell(&rt, Ending::Unplanned(why)),
     };
     let ran = match &plan {
         Plan::Serve {
@@ -79,5 +72,5 @@ fn main(rt: HostRuntime) -> ExitCode {
         } => host(&rt, rt.alloc(), *port, *site, *conns, names),
         _ => play_streams(&rt, &plan),
     };
-    tell(&rt, &Ending::of(ran))
+    tell(&rt, Ending::of(ran))
 }
