@@ -51,7 +51,7 @@ impl Model for OpLog {
 }
 
 impl OpLog {
-    /// The log of no operations. Takes no memory.
+    /// The log of no operations. Constant time: it sets 32 counts for each of 32 sites. Takes no memory.
     pub fn new(alloc: Global) -> OpLog
         ensures { result ≡ record { ops = []; room = 0 } }
     {
@@ -80,7 +80,7 @@ impl OpLog {
     }
 
     /// The operation at the place. Takes no memory, and reads what is kept of at most 64 operations: itself, and those of
-    /// its site before it back to one that has its whole clock.
+    /// its site before it back to one that has its whole clock. For each of them it copies 32 counts and puts in its entries.
     pub fn get<L: Ledger>(&self, i: usize, steps: &mut Reads<L>) -> Op
         requires { i < length self.now.ops }
         ensures value { slice_get self.now.ops i ≡ Some result }
@@ -93,8 +93,8 @@ impl OpLog {
         told_by(&row, filled(before, changes))
     }
 
-    /// The operations from a place on, in order. The first one of each site takes the steps of `get`, each other one those of
-    /// a copy of 32 counts and of the entries that are stored of it. Takes no memory.
+    /// The operations from a place on, in order. Constant time; takes no memory. Of the operations that are then asked for, the
+    /// first one of each site takes the steps of `get`, each other one a copy of 32 counts and of the entries stored of it.
     pub fn replay_from(&self, place: usize) -> Replay<'_>
         requires { place ≤ length self.now.ops }
         ensures passed { result.passed ≡ [] }
@@ -104,8 +104,8 @@ impl OpLog {
     }
 
     /// Reserves memory for the next `n` operations, so that they aren't refused with `Memory`: for each 20 bytes,
-    /// and 128 for the 32 entries that it may have. Constant time where they are reserved. Refused with `Memory`, only where fewer
-    /// are: for want of it, or above 67,108,864 operations.
+    /// and 128 for the 32 entries that it may have. Constant time; where they are reserved nothing grows. Refused with `Memory`,
+    /// only where fewer are: for want of it, or above 67,108,864 operations.
     pub fn reserve(&mut self, n: usize) -> Result<(), Refusal>
         ensures ok { OnOk result (self.new ≡ record self.old { room = max self.old.room n }) }
         ensures err { OnErr result (self.new ≡ self.old) }

@@ -76,7 +76,8 @@ impl<'a> Replay<'a> {
     }
 
     /// The next operation, where one is left, and counts the operations that are read. Takes no memory, and reads what is kept
-    /// of that operation alone where one of its site was passed, else that of at most 64 operations.
+    /// of that operation alone where one of its site was passed, else that of at most 64 operations. For each that is read it
+    /// copies 32 counts and puts in its entries.
     pub fn read_next<L: Ledger>(&mut self, steps: &mut Reads<L>) -> Op
         requires { 0 < length self.old.left }
         ensures value { self.old.left ≡ result ∷ self.new.left }
@@ -99,6 +100,7 @@ impl<'a> Iterator for Replay<'a> {
 
     ghost remaining = { item_count (λ s. s.left) };
 
+    /// The next operation, if one is left. It costs what `read_next` costs.
     fn next(&mut self) -> Option<Op> {
         if self.place >= self.rows.len() {
             return None;

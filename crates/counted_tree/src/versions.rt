@@ -21,7 +21,9 @@ use std::alloc::{AllocError, Global};
 use std::marker::Model;
 
 /// The list of each version, from the empty one on. An element is known by its number, the count of those that came
-/// before it; it stays in the list when it is hidden. A step is a look at a node.
+/// before it; it stays in the list when it is hidden. A step is a look at a node. Whatever asks about an element in the newest
+/// version first climbs from it by the table of what hangs from what, along at most 25 rows: that looks at no node, and no
+/// counter counts it.
 #[derive(Drop)]
 pub struct VersionTree {
     nodes: Nodes,
@@ -47,7 +49,7 @@ impl Model for VersionTree {
 }
 
 impl VersionTree {
-    /// Version 0 alone, which is empty. Takes no memory.
+    /// Version 0 alone, which is empty. Constant time; takes no memory.
     pub fn new(alloc: Global) -> VersionTree
         ensures lists { result.lists ≡ [] ∷ [] }
         ensures nodes { result.nodes ≡ 0 }
@@ -118,8 +120,8 @@ impl VersionTree {
     }
 
     /// Appends the elements that a version shows, in order, by one pass over its tree: at most a step for each of its elements,
-    /// and at most twice as many steps for each that is shown as the number of all has binary digits. Where memory is refused
-    /// nothing is appended.
+    /// and at most twice as many steps for each that is shown as the number of all has binary digits. Takes memory for those
+    /// that are shown, 4 bytes each. Where it is refused nothing is appended.
     pub fn push_shown(
         &self,
         version: usize,
@@ -156,8 +158,8 @@ impl VersionTree {
         root_of(self.roots.as_slice(), version).size.items(true)
     }
 
-    /// How many shown elements stand before one in the newest version, and how many units these have. Takes no memory, and
-    /// as many steps as `find`.
+    /// How many shown elements stand before one in the newest version, and how many units these have. Takes no memory, that
+    /// climb, and as many steps as `find`.
     pub fn ranks(&self, elem: u32, steps: &mut Steps) -> Size
         requires { Lists elem (newest_list self.now) }
         ensures shown { result.shown ≡ length (visible (entries_before elem (newest_list self.now))) }
@@ -169,7 +171,7 @@ impl VersionTree {
         rank_in(&self.nodes, self.table.as_slice(), root.link, elem, steps)
     }
 
-    /// How many shown elements stand before one in the newest version. Takes no memory, and as many steps as `find`.
+    /// How many shown elements stand before one in the newest version. Costs what `ranks` costs.
     pub fn rank(&self, elem: u32, steps: &mut Steps) -> usize
         requires { Lists elem (newest_list self.now) }
         ensures rank { result ≡ length (visible (entries_before elem (newest_list self.now))) }
@@ -179,7 +181,7 @@ impl VersionTree {
         self.ranks(elem, steps).shown as usize
     }
 
-    /// How many units the shown elements before one have in the newest version. Takes no memory, and as many steps as `find`.
+    /// How many units the shown elements before one have in the newest version. Costs what `ranks` costs.
     pub fn rank_units(&self, elem: u32, steps: &mut Steps) -> usize
         requires { Lists elem (newest_list self.now) }
         ensures rank { result ≡ length (units (entries_before elem (newest_list self.now))) }
@@ -190,8 +192,8 @@ impl VersionTree {
     }
 
     /// The last element that one passes in the newest version, going right from an element, or from before all others, as
-    /// long as the keys are greater than the given one: where none is passed, the element itself, or none. Takes no memory,
-    /// and at most six times as many steps as the number of elements has binary digits, however many are passed.
+    /// long as the keys are greater than the given one: where none is passed, the element itself, or none. Takes no memory, the
+    /// climb, and at most six times as many steps as the number of elements has binary digits, however many are passed.
     pub fn last_greater(&self, before: Option<u32>, key: u32, steps: &mut Steps) -> Option<u32>
         requires there { IfSome before (λ e. Lists e (newest_list self.now)) }
         ensures last { result ≡ last_greater before key (newest_list self.now) }
@@ -209,7 +211,8 @@ impl VersionTree {
     }
 
     /// Reserves `n` versions, if fewer are reserved: for each 31 nodes of 12 bytes, a row of the table of 8, a root of 8, and 4 for
-    /// the element's key and width, 392 bytes of which only what is written comes into memory. Refused memory changes nothing.
+    /// the element's key and width, 392 bytes of which only what is written comes into memory. Constant time; where they are
+    /// reserved nothing grows. Refused memory changes nothing.
     pub fn reserve(&mut self, n: usize) -> Result<(), AllocError>
         requires { length self.old.lists + n ≤ 131073 }
         ensures lists { self.new.lists ≡ self.old.lists }
@@ -230,7 +233,8 @@ impl VersionTree {
 
     /// Adds a version with a further element, shown, right after another one, or before all others: its key, below 2^23,
     /// and whether it has two units stay with it for good. Tells how many shown elements stand before it, and how many units
-    /// these have, as `ranks` would. Takes memory from the reserve alone, and reads and makes a logarithmic number of nodes.
+    /// these have, as `ranks` would. Takes memory from the reserve alone, and the climb, and reads and makes a number of nodes that
+    /// is logarithmic in that of the elements. How many it makes is promised, how many it reads is not.
     pub fn insert_after(&mut self, before: Option<u32>, elem: u32, key: u32, wide: bool) -> Size
         requires room { 1 ≤ self.old.room }
         requires there { IfSome before (λ e. Lists e (newest_list self.old)) }
@@ -261,8 +265,8 @@ impl VersionTree {
         rank
     }
 
-    /// Adds a version with an element hidden. Takes memory from the reserve alone, and reads and makes a logarithmic number
-    /// of nodes.
+    /// Adds a version with an element hidden. Takes memory from the reserve alone, and the climb, and reads and makes a number of
+    /// nodes that is logarithmic in that of the elements. How many it makes is promised, how many it reads is not.
     pub fn hide(&mut self, elem: u32)
         requires room { 1 ≤ self.old.room }
         requires shown { Shows elem (newest_list self.old) }

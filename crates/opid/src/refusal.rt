@@ -150,6 +150,7 @@ impl From<AllocError> for Refusal {
 
     ghost from_gives = { λ _ e. e ≡ Memory };
 
+    /// `Memory`. Constant time.
     fn from(_: AllocError) -> Refusal {
         Self::Memory
     }
@@ -161,6 +162,7 @@ impl<T: Drop> From<AllocFailed<T>> for Refusal {
 
     ghost from_gives = { λ _ e. e ≡ Memory };
 
+    /// `Memory`. Constant time, beside the drop of what wasn't taken.
     fn from(_: AllocFailed<T>) -> Refusal {
         Refusal::from(AllocError)
     }

@@ -27,7 +27,8 @@ fn claims_site(site: Site, log: &Log, op: &Op) -> bool
     maker == site && sequence > own
 }
 
-/// Whether the operation is in the log. Refused with `Conflict` where another one with its number is. Constant time.
+/// Whether the operation is in the log. Refused with `Conflict` where another one with its number is. Takes the steps of
+/// `Log::find`.
 fn look(log: &Log, op: &Op) -> Result<bool, Refusal>
     ensures { result ≡ look_for op.now log.now.log }
 {

@@ -46,7 +46,7 @@ impl Model for Replica {
 }
 
 impl Replica {
-    /// The replica of a site that has no operation yet. Takes no memory.
+    /// The replica of a site that has no operation yet. Constant time; takes no memory.
     pub fn new(alloc: Global, site: Site) -> Replica
         ensures { result ≡ record { site = site; log = []; held = []; room = 0 } }
     {
@@ -59,8 +59,8 @@ impl Replica {
         }
     }
 
-    /// The replica of a site whose log is these operations, and which holds nothing back. Takes the steps of an append
-    /// for each. Refused with `Memory`.
+    /// The replica of a site whose log is these operations, and which holds nothing back. Takes the steps of
+    /// `Doc::integrate` for each. Refused with `Memory`.
     pub fn over(alloc: Global, site: Site, ops: &[Op]) -> Result<Replica, Refusal>
         requires lawful { IsLawful ops.now }
         requires few { length ops.now ≤ MAX_OPERATIONS }
@@ -73,7 +73,7 @@ impl Replica {
     }
 
     /// The replica of a site whose log is that of a document with no memory reserved, and which holds nothing back.
-    /// Walks the log once, as `Doc::ops_from` does. Refused with `Memory`.
+    /// Walks the log once: for each operation it takes the steps that `Doc::ops_from` tells. Refused with `Memory`.
     pub fn over_doc(alloc: Global, site: Site, doc: Doc) -> Result<Replica, Refusal>
         requires { doc.room ≡ 0 }
         ensures ok { IfOk result (λ r. r ≡ record { site = site; log = doc.log; held = []; room = 0 }) }
@@ -109,7 +109,7 @@ impl Replica {
 
     /// Puts the text in at a place of a version, as the replica's own next operations, and tells the versions that this
     /// led from and to. Refused as `insert_ops` is, with `BadVersion`, `BadText`, `BadPlace`, `Full` and `Memory`; then
-    /// nothing has changed. Takes the steps of `insert_ops`, and of an integration for each character.
+    /// nothing has changed. Takes the steps of `insert_ops`, and those of `Doc::integrate` for each character.
     pub fn submit_ins(
         &mut self,
         version: u32,
@@ -134,7 +134,7 @@ impl Replica {
     }
 
     /// The same where the place counts UTF-16 units. Refused as `insert_ops_units` is; then nothing has changed. Takes the steps of
-    /// `insert_ops_units`, and of an integration for each character.
+    /// `insert_ops_units`, and those of `Doc::integrate` for each character.
     pub fn submit_ins_units(
         &mut self,
         version: u32,
@@ -160,7 +160,7 @@ impl Replica {
 
     /// Deletes so many characters from a place of a version on, as the replica's own next operations, and tells the
     /// versions that this led from and to. Refused as `delete_ops` is, with `BadVersion`, `BadCount`, `BadPlace`, `Full`
-    /// and `Memory`; then nothing has changed. Takes the steps of `delete_ops`, and of an integration for each.
+    /// and `Memory`; then nothing has changed. Takes the steps of `delete_ops`, and those of `Doc::integrate` for each character.
     pub fn submit_del(
         &mut self,
         version: u32,
@@ -185,8 +185,8 @@ impl Replica {
     }
 
     /// The same where the place and the count are of UTF-16 units: the elements that stand there are deleted, of which there may be
-    /// fewer. Refused as `delete_ops_units` is; then nothing has changed. Takes the steps of `delete_ops_units`, and of an
-    /// integration for each element.
+    /// fewer. Refused as `delete_ops_units` is; then nothing has changed. Takes the steps of `delete_ops_units`, and those of
+    /// `Doc::integrate` for each element.
     pub fn submit_del_units(
         &mut self,
         version: u32,
@@ -221,8 +221,10 @@ impl Replica {
     /// last operation, `UnknownElement` where its parent or target is no element, `NotOlder` where its parent's stamp
     /// isn't smaller. `Memory` may come in place of an answer, but only where the room isn't above what is held.
     ///
-    /// An integration takes the steps of `Doc::integrate`; settling takes one pass over what is held for each operation
-    /// that leaves it, and one more.
+    /// Where its number is in the log it takes the steps of `Doc::op` alone, which reads up to 64 rows. Else it takes one
+    /// pass over what is held, to look for its number. An integration takes the steps of `Doc::integrate` besides, and settling
+    /// takes one pass over what is held and those steps for each operation that leaves it, and one pass more. A pass takes at most
+    /// 32 steps for each operation that is held.
     pub fn put(&mut self, op: Op) -> Result<Delivery, Refusal>
         ensures outcome { IfOk result (λ d. (deliver self.old.site self.old.log self.old.held op).outcome ≡ Ok d) }
         ensures next { IfOk result (λ d. self.new ≡ record self.old {
@@ -257,8 +259,8 @@ impl Replica {
     }
 
     /// Reserves memory for `n` operations, those that are held back included: while fewer are held than there is room
-    /// for, `put` isn't refused with `Memory`. Constant time where they are reserved. Refused with `Memory`, only where fewer
-    /// are.
+    /// for, `put` isn't refused with `Memory`. Constant time; where they are reserved nothing grows. Refused with `Memory`, only
+    /// where fewer are.
     pub fn reserve(&mut self, n: usize) -> Result<(), Refusal>
         ensures ok { OnOk result (self.new ≡ record self.old { room = max self.old.room n }) }
         ensures err { OnErr result (self.new ≡ self.old) }

@@ -16,7 +16,7 @@ pub(crate) struct Tally {
 }
 
 /// One round: takes the first operation out of those held back that is ready, and appends it to the log or drops it.
-/// Says whether there was one. Takes a step for each operation that is held, beside those of one appended to the log.
+/// Says whether there was one. Takes the steps of `Held::take_first_ready`, beside those of one appended to the log.
 fn round(log: &mut Log, held: &mut Held, tally: &mut Tally) -> bool
     requires reserved { HasRoomFor (length held.old.ops) log.old }
     requires taken { tally.old.taken < 4294967295 }
@@ -47,7 +47,7 @@ fn round(log: &mut Log, held: &mut Held, tally: &mut Tally) -> bool
 }
 
 /// Round after round, until none is left that is ready or the log is full. Counts an operation that was integrated
-/// before. Takes one pass over what is held for each operation that leaves it, and one more.
+/// before. Takes one round for each operation that leaves what is held, and one more.
 pub(crate) fn settle(log: &mut Log, held: &mut Held) -> Tally
     requires reserved { HasRoomFor (length held.old.ops) log.old }
     requires lawful { IsLawful log.old.log }

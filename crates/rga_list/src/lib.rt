@@ -3,6 +3,8 @@
 //! every element with a greater stamp, ends: `integrate_ins` walks it, and `insert_behind` is told its end. So the order
 //! is the preorder of the insertion tree (Attiya and others 2016), however the operations arrived.
 //! Elements lie in one vector by arrival and are linked by numbers; a deleted one stays, for good.
+//!
+//! The costs leave out what a vector moves where it grows: all that it holds, to one of at least twice its capacity.
 #![tactic(auto)]
 
 mod links;

@@ -60,7 +60,7 @@ impl Model for Rga {
 }
 
 impl Rga {
-    /// The empty list. Takes no memory.
+    /// The empty list. Constant time; takes no memory.
     pub fn new(alloc: Global) -> Self
         ensures { result ≡ record { entries = []; room = 0 } }
     {
@@ -82,7 +82,8 @@ impl Rga {
         self.nodes.len()
     }
 
-    /// The element with the stamp. Constant time where it is its site's last one, else steps of the order of log n.
+    /// The element with the stamp. Constant time where it is its site's last one, else steps logarithmic in the number of its
+    /// site's elements.
     pub fn elem_of(&self, stamp: Stamp) -> Option<Elem>
         ensures value { result ≡ elem_of stamp self.now.entries }
         ensures within { IfSome result (λ k. k < length self.now.entries) }
@@ -131,10 +132,10 @@ impl Rga {
         Some(Stamp { sum, site })
     }
 
-    /// Reserves memory for the next `n` insertions, so that they aren't refused with `Memory`. Constant time where it
-    /// is there; else it is taken for at least 64 insertions at a time. As any site may insert, each of the 32 tables
-    /// gets room for as many identifiers of 8 bytes, beside as many elements of 12: for 64 insertions that is some
-    /// 17 KB, whose reserve is kept. Refused with `Memory`, only where fewer are reserved.
+    /// Reserves memory for the next `n` insertions, so that they aren't refused with `Memory`. Constant time: one step
+    /// where it is there; else it is taken for at least 64 insertions at a time. As any site may insert, each of the
+    /// 32 tables gets room for as many identifiers of 8 bytes, beside as many elements of 12: for 64 insertions that is
+    /// some 17 KB, whose reserve is kept. Refused with `Memory`, only where fewer are reserved.
     pub fn reserve(&mut self, n: usize) -> Result<(), Refusal>
         ensures ok { OnOk result (self.new ≡ record self.old { room = max self.old.room n }) }
         ensures err { OnErr result (self.new ≡ self.old) }
@@ -153,7 +154,7 @@ impl Rga {
     }
 
     /// Puts in an element that is shown: from behind its parent (`None`: from the head) past every greater
-    /// stamp. Takes steps of the order of log n, and one for each element passed.
+    /// stamp. Takes the steps of `elem_of` for the parent, and one for each element passed.
     ///
     /// Refused, in this order: `Full` with 131,072 elements, `UnknownElement` where the parent is no element,
     /// `NotOlder` where its stamp isn't smaller, `Memory` only where nothing is reserved.
@@ -196,7 +197,7 @@ impl Rga {
     }
 
     /// Puts in an element that is shown, right behind another one (`None`: before all others): what `integrate_ins` does
-    /// once its walk has ended, for who knows where that is. Takes steps of the order of log n.
+    /// once its walk has ended, for who knows where that is. Constant time.
     ///
     /// Refused with `Memory`, only where nothing is reserved.
     pub fn insert_behind(
@@ -247,8 +248,8 @@ impl Rga {
         Ok(elem)
     }
 
-    /// Hides the element with the stamp, which stays in the linked order, and says whether it was shown. Takes
-    /// steps of the order of log n, and no memory. Refused with `UnknownElement` where the target is no element.
+    /// Hides the element with the stamp, which stays in the linked order, and says whether it was shown. Takes the
+    /// steps of `elem_of`, and no memory. Refused with `UnknownElement` where the target is no element.
     pub fn integrate_del(&mut self, target: Stamp) -> Result<bool, Refusal>
         ensures list { OnOk result (self.new ≡ record self.old { entries = hidden target self.old.entries }) }
         ensures shown { IfOk result (λ shown. shown ≡ is_shown target self.old.entries) }

@@ -40,8 +40,8 @@ impl SiteTable {
         }
     }
 
-    /// The element that the sum names. Constant time where it is the greatest sum, as where one types; else steps of the
-    /// order of log n.
+    /// The element that the sum names. Constant time where it is the greatest sum, as where one types; else steps
+    /// logarithmic in the number of identifiers.
     pub fn find(&self, sum: u32) -> Option<Elem>
         ensures { result ≡ find_id sum self.now.ids }
     {

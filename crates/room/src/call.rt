@@ -10,11 +10,11 @@ use versions::Characters;
 /// character that was ever put in, deleted or not.
 ///
 /// Where several refusals hold, the call gets the first of them in the order below. `HistoryFull` is where 1,048,576
-/// calls are recorded; it takes one step. The costs leave out what a vector or table moves where it grows.
+/// calls are recorded; it takes one step.
 #[derive(Debug, Drop)]
 pub enum Call {
     /// Opens a session, whose places count UTF-16 units if it says so, or else characters. Refused with `HistoryFull`, and
-    /// with `TooManySessions` where 64 are there, in one step. Takes a step for each element.
+    /// with `TooManySessions` where 64 are there, in one step. Takes a look-up of the session, and the steps of `Read`.
     Join {
         units: bool,
     },
@@ -26,9 +26,9 @@ pub enum Call {
     /// `x` has no character or more than 64; `BadPlace` where `k` is above the version's length, or inside a pair of units;
     /// and `Full` where the log would exceed 131,072 operations.
     ///
-    /// Takes a look-up of the session for a repeat and for what is refused up to `BadVersion`, and a step for each
-    /// character for `BadText`. Otherwise logarithmic in the number of elements, for the place and again for each
-    /// character.
+    /// Takes a look-up of the session for a repeat and for what is refused up to `BadVersion`. Otherwise takes at most
+    /// three and a step for each character, and behind `BadText` steps logarithmic in the number of elements, for the place
+    /// and again for each character.
     Ins {
         s: u32,
         n: u32,
@@ -43,8 +43,9 @@ pub enum Call {
     /// above 64; `BadPlace` where `k` plus `c` is above the version's length, or an end is inside a pair of units; and
     /// `Full` where the log would exceed 131,072 operations.
     ///
-    /// Takes a look-up of the session for a repeat and for what is refused up to `BadCount`. Otherwise logarithmic in the
-    /// number of elements, for each deletion.
+    /// Takes a look-up of the session for a repeat and for what is refused up to `BadVersion`, and two for `BadCount`.
+    /// Otherwise takes at most three, and steps logarithmic in the number of elements, for each place and again for each
+    /// deletion.
     Del {
         s: u32,
         n: u32,
@@ -81,16 +82,19 @@ pub enum Call {
     /// `Full` with 131,072 operations, `NotRising` where its sum isn't above that of its site's last operation,
     /// `UnknownElement` where its parent or target is no element, `NotOlder` where its parent's stamp isn't smaller.
     ///
-    /// Takes at most two passes over what is held back for each operation that is handed over, one more for each that
-    /// leaves it, and for each that is integrated steps logarithmic in the number of elements.
+    /// Takes the steps of `Replica::put` for each: those of `Doc::op` where its number is in the log, or else at most two
+    /// passes over what is held back, and one more for each operation that leaves it; and for each that is integrated or
+    /// leaves what is held back steps logarithmic in the number of elements.
     Put(Operations),
-    /// Asks for the newest version and its text. Refused with `HistoryFull`. Takes a step for each element.
+    /// Asks for the newest version and its text. Refused with `HistoryFull`. Takes the steps of `Doc::reading`: at most 37
+    /// for each character of the text, and seven more, however many elements are deleted.
     Read,
 }
 
 impl Clone for Call {
     ghost is_clone = { λ s t. t ≡ s };
 
+    /// The same call once more. Takes a step for each byte of its text, or for each of its operations.
     fn clone(&self) -> Result<Call, AllocError> {
         Ok(match self {
             Call::Join { units } => Call::Join { units: *units },

@@ -53,7 +53,7 @@ pub(crate) fn perform(
     }
 }
 
-/// Opens a session, with its way of counting. Takes a step for each element, and one where too many are there.
+/// Opens a session, with its way of counting. Takes the steps of `reading` and a look-up, and one step where too many are there.
 fn join(replica: &Replica, outbox: &mut Sessions, units: bool) -> Result<Reply, AllocError>
     requires { outbox.old.next_number < 4294967295 }
     ensures does { IfOk result (λ reply. Does replica.now outbox.old (Join units) reply replica.now outbox.new) }
@@ -193,7 +193,7 @@ fn accept(
     }
 }
 
-/// Sends session `s`, which has version `have`, the edits since, at most `max` of them. Takes a step for each.
+/// Sends session `s`, which has version `have`, the edits since, at most `max` of them. Takes two look-ups, and a step for each.
 fn pull(
     alloc: Global,
     replica: &Replica,
@@ -231,7 +231,7 @@ fn leave(outbox: &mut Sessions, s: u32) -> Reply
     }
 }
 
-/// Tells the operations of the log from number `after` on, at most `max`. Takes a step for each.
+/// Tells the operations of the log from number `after` on, at most `max`. Takes the steps of `Replica::ops`.
 fn part(replica: &Replica, after: u32, max: u32) -> Result<Reply, AllocError>
     ensures does { IfOk result (λ reply. (outbox : Outbox) → Does replica.now outbox (Ops after max) reply replica.now outbox) }
     ensures memory { OnErr result (IsOk (part_of replica.now.log after max)) }
@@ -266,7 +266,7 @@ fn put(alloc: Global, replica: &mut Replica, ops: &Operations) -> Result<Reply, 
     Ok(Reply::Put(Outcomes::new(outcomes)))
 }
 
-/// Tells the newest version and its text. Takes a step for each element.
+/// Tells the newest version and its text. Takes the steps of `reading`.
 fn read(replica: &Replica) -> Result<Reply, AllocError>
     ensures { IfOk result (λ reply. (outbox : Outbox) → Does replica.now outbox Read reply replica.now outbox) }
 {
@@ -275,7 +275,7 @@ fn read(replica: &Replica) -> Result<Reply, AllocError>
     Ok(Reply::Text { v, x })
 }
 
-/// The text of the newest version.
+/// The text of the newest version. Takes the steps of `Doc::reading`.
 fn reading(doc: &Doc) -> Result<Characters, AllocError>
     ensures { IfOk result (λ text. text ≡ reading doc.now.log) }
 {

@@ -28,7 +28,7 @@ impl Model for Editor {
 }
 
 impl Editor {
-    /// An editor of the empty text at version 0. Takes no memory.
+    /// An editor of the empty text at version 0. Constant time; takes no memory.
     pub fn new(alloc: Global) -> Editor
         ensures { result ≡ empty_editor }
     {
@@ -54,7 +54,8 @@ impl Editor {
     }
 
     /// Plays a reply of the editor's session: a joined one gives the text and the version, edits that lead on from the
-    /// editor's version are played, and all else changes nothing. Linear in the text for each edit.
+    /// editor's version are played, and all else changes nothing. Takes a step for each character of a joined one's text, and
+    /// for each edit one for each character behind its place.
     ///
     /// Refused with `BadPlace` where an edit lies outside the text, which no room's reply does, and with `Memory`. Then
     /// a beginning of its edits was played, and the version is theirs: the editor is in step with its room still, and

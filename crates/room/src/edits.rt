@@ -20,7 +20,7 @@ impl Model for Edits {
 }
 
 impl Edits {
-    /// The edits of a vector. Takes no memory.
+    /// The edits of a vector. Constant time; takes no memory.
     pub fn new(items: Vec<Edit>) -> Self
         ensures { result ≡ items.items }
     {
@@ -34,7 +34,7 @@ impl Edits {
         &self.items
     }
 
-    /// The vector of the edits. Takes no memory.
+    /// The vector of the edits. Constant time; takes no memory.
     pub fn into_vec(self) -> Vec<Edit>
         ensures { result.items ≡ self }
     {

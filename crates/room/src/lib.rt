@@ -1,4 +1,7 @@
 //! One room: a document with its sessions, as a machine that answers calls and records them.
+//!
+//! The costs leave out what a vector or table moves where it grows: all that it holds, a vector to one of at least twice its
+//! capacity.
 #![tactic(auto)]
 
 mod call;

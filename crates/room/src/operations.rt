@@ -23,6 +23,7 @@ impl Model for Operations {
 impl Clone for Operations {
     ghost is_clone = { λ s t. t ≡ s };
 
+    /// The same operations once more. Takes a step for each, and memory, some 150 bytes each.
     fn clone(&self) -> Result<Operations, AllocError> {
         Ok(Operations {
             items: self.items.clone()?,
@@ -31,7 +32,7 @@ impl Clone for Operations {
 }
 
 impl Operations {
-    /// The operations of a vector. Takes no memory.
+    /// The operations of a vector. Constant time; takes no memory.
     pub fn new(items: Vec<Op>) -> Self
         ensures { result ≡ items.items }
     {
@@ -45,7 +46,7 @@ impl Operations {
         &self.items
     }
 
-    /// The vector of the operations. Takes no memory.
+    /// The vector of the operations. Constant time; takes no memory.
     pub fn into_vec(self) -> Vec<Op>
         ensures { result.items ≡ self }
     {

@@ -20,7 +20,7 @@ impl Model for Outcomes {
 }
 
 impl Outcomes {
-    /// The outcomes of a vector. Takes no memory.
+    /// The outcomes of a vector. Constant time; takes no memory.
     pub fn new(items: Vec<Outcome>) -> Self
         ensures { result ≡ items.items }
     {
@@ -34,7 +34,7 @@ impl Outcomes {
         &self.items
     }
 
-    /// The vector of the outcomes. Takes no memory.
+    /// The vector of the outcomes. Constant time; takes no memory.
     pub fn into_vec(self) -> Vec<Outcome>
         ensures { result.items ≡ self }
     {

@@ -78,7 +78,8 @@ fn take_out(facts: &mut IndexMap<u32, Facts>, s: u32) -> bool
 ///
 /// A session is found by a hash of its number. A client may ask for any number, but the table holds only those that were
 /// given out here, one by one from 1, and at most 64 at a time. So a fast hasher with a fixed seed serves: no client can
-/// bring in keys that fall together. After a refusal nothing has changed.
+/// bring in keys that fall together. A look-up takes a few steps, and at worst one for each of 64 sessions. After a refusal
+/// nothing has changed.
 #[derive(Drop)]
 pub struct Sessions {
     facts: IndexMap<u32, Facts>,
@@ -97,7 +98,7 @@ impl Model for Sessions {
 }
 
 impl Sessions {
-    /// No sessions; the first that joins gets the number 1. Takes no memory.
+    /// No sessions; the first that joins gets the number 1. Constant time; takes no memory.
     pub fn new(alloc: Global) -> Sessions
         ensures { result ≡ empty_outbox }
     {
@@ -108,9 +109,10 @@ impl Sessions {
     }
 
     /// Takes in a session at this version of the document, whose places count UTF-16 units, or else characters, and gives
-    /// its number: they go up by one, and none is given twice, so fewer than 4,294,967,295 may have been given before. A
-    /// look-up, and memory where the table grows.
-    /// Refused with `TooManySessions` where 64 are there, and with `Memory` where memory was refused.
+    /// its number: they go up by one, and none is given twice, so fewer than 4,294,967,295 may have been given before. Takes
+    /// a look-up, and memory where the table grows.
+    ///
+    /// Refused with `TooManySessions` where 64 are there, in one step, and with `Memory` where memory was refused.
     pub fn join(&mut self, version: u32, units: bool) -> Result<u32, Refusal>
         requires { self.old.next_number ≤ u32.MAX }
         ensures number { IfOk result (λ s. s ≡ self.old.next_number) }
@@ -137,8 +139,8 @@ impl Sessions {
         Ok(number)
     }
 
-    /// Takes a session out. The others keep their order, so those behind it move up: a look-up, and a step for each of at
-    /// most 63. Refused with `NoSession` where it isn't there.
+    /// Takes a session out. The others keep their order, so those behind it move up. Takes a look-up, and a step for each of
+    /// at most 63. Refused with `NoSession` where it isn't there.
     pub fn leave(&mut self, s: u32) -> Result<(), Refusal>
         ensures there { IsOk result ↔ IsSome (session_with s self.old.sessions) }
         ensures next { OnOk result (self.new ≡ after_leave s self.old) }
@@ -154,7 +156,7 @@ impl Sessions {
 
     /// Whether a session's submission with the number `n` in version `v` is its next one or its last one again.
     /// Refused with `NoSession`; with `BadNumber` where `n` is neither; and, if it is the next one, with `BadVersion`
-    /// where `v` is below the session's first version or above its sent one. A look-up.
+    /// where `v` is below the session's first version or above its sent one. Takes a look-up.
     pub fn check_submit(&self, s: u32, n: u32, v: u32) -> Result<Submission, Refusal>
         ensures value { result ≡ submission_of (session_with s self.now.sessions) n v }
         ensures acceptable { result ≡ Ok New → MayAccept s self.now.sessions }
@@ -166,7 +168,7 @@ impl Sessions {
     }
 
     /// Notes that the session's next submission, `New` by `check_submit`, was accepted and led from a version to a
-    /// version: its last number goes up by one, and these versions are its kept reply. A look-up.
+    /// version: its last number goes up by one, and these versions are its kept reply. Takes a look-up.
     pub fn accept(&mut self, s: u32, from: u32, to: u32)
         requires { MayAccept s self.old.sessions }
         ensures { self.new ≡ after_accept s from to self.old }
@@ -177,7 +179,7 @@ impl Sessions {
     /// The versions that the edits lead from and to which a session is sent that has the version `have`, where the
     /// document is at `version`: from `have`, `max` further or to the newest one. That is then its sent version, if it
     /// was older. Refused with `NoSession`; with `BadCount` where `max` is 0 or above 64; and with `BadHave` where
-    /// `have` is below the session's first version or above its sent one. A look-up.
+    /// `have` is below the session's first version or above its sent one. Takes a look-up.
     pub fn pull(&mut self, s: u32, have: u32, max: u32, version: u32) -> Result<(u32, u32), Refusal>
         ensures value { result ≡ pull_of (session_with s self.old.sessions) have max version }
         ensures next { IfOk result (λ r. self.new ≡ after_pull s r.1 self.old) }
@@ -186,7 +188,7 @@ impl Sessions {
         note_sent(&mut self.facts, s, have, max, version)
     }
 
-    /// Whether the session's places count UTF-16 units, as it said when it joined. Refused with `NoSession`. A look-up.
+    /// Whether the session's places count UTF-16 units, as it said when it joined. Refused with `NoSession`. Takes a look-up.
     pub fn in_units(&self, s: u32) -> Result<bool, Refusal>
         ensures { result ≡ units_of_session (session_with s self.now.sessions) }
     {

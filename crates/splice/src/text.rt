@@ -24,7 +24,7 @@ impl Model for Text {
 }
 
 impl Text {
-    /// The empty text. Takes no memory.
+    /// The empty text. Constant time; takes no memory.
     pub fn new(alloc: Global) -> Text
         ensures { result ≡ [] }
     {

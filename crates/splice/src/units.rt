@@ -25,7 +25,7 @@ impl Model for UnitText {
 }
 
 impl UnitText {
-    /// The empty text. Takes no memory.
+    /// The empty text. Constant time; takes no memory.
     pub fn new(alloc: Global) -> UnitText
         ensures { result ≡ [] }
     {

@@ -37,6 +37,7 @@ impl Model for Characters {
 impl Clone for Characters {
     ghost is_clone = { λ s t. t ≡ s };
 
+    /// The same characters once more. Takes a step for each byte; of at most 16 bytes that `from_str` made it takes no memory.
     fn clone(&self) -> Result<Characters, AllocError> {
         let text = match &self.text {
             KeptText::Short(text) => KeptText::Short(*text),
@@ -47,7 +48,7 @@ impl Clone for Characters {
 }
 
 impl Characters {
-    /// The characters of a text, which is kept as it is. Takes no memory.
+    /// The characters of a text, which is kept as it is. Constant time; takes no memory.
     pub fn new(text: String) -> Self
         ensures { result ≡ chars (string_bytes text) }
     {
@@ -55,7 +56,8 @@ impl Characters {
         Characters { text }
     }
 
-    /// The characters of a text, which is copied. An error is for want of memory, of which at most 16 bytes take none.
+    /// The characters of a text, which is copied. Takes a step for each byte. An error is for want of memory, of which at most
+    /// 16 bytes take none.
     pub fn from_str(alloc: Global, text: &str) -> Result<Self, AllocError>
         ensures value { IfOk result (λ c. c ≡ chars text.now) }
         ensures short { length text.now ≤ 16 → IsOk result }

@@ -56,7 +56,7 @@ impl Model for Doc {
 }
 
 impl Doc {
-    /// The document of no operations. Takes no memory.
+    /// The document of no operations. Constant time; takes no memory.
     pub fn new(alloc: Global) -> Doc
         ensures { result ≡ record { log = []; room = 0 } }
     {
@@ -81,7 +81,7 @@ impl Doc {
         self.log.len() as u32
     }
 
-    /// How many operations of each site there are. Constant time.
+    /// How many operations of each site there are. Copies 32 counts.
     pub fn clock(&self) -> Clock
         ensures { result ≡ clock_of self.now.log }
     {
@@ -97,8 +97,9 @@ impl Doc {
         read_op(&self.log, i as usize)
     }
 
-    /// The operations from a place of the log on, in order. The first one of each site takes the steps of `op`, each other one
-    /// those of a copy of 32 counts and of the entries of its clock that are stored. Takes no memory.
+    /// The operations from a place of the log on, in order. Constant time; takes no memory. Of the operations that are then asked
+    /// for, the first one of each site takes the steps of `op`, each other one a copy of 32 counts and of the entries of its clock
+    /// that are stored.
     pub fn ops_from(&self, i: u32) -> Replay<'_>
         requires { i ≤ length self.now.log }
         ensures passed { result.passed ≡ [] }
@@ -107,8 +108,8 @@ impl Doc {
         self.log.replay_from(i as usize)
     }
 
-    /// A copy of the operations from one place of the log up to another. Takes the steps of `ops_from` for them, and memory
-    /// for them, some 150 bytes each. An error is for want of memory.
+    /// A copy of the operations from one place of the log up to another. Takes for each the steps that `ops_from` tells, and
+    /// memory, some 150 bytes each. An error is for want of memory.
     #[tactic(auto, using(crate::proofs::Left::left_after, crate::proofs::Left::some_left, opid::proofs::Gathered::gathered, opid::proofs::Gathered::gathered_all))]
     pub fn copy_ops(&self, from: u32, end: u32) -> Result<Vec<Op>, AllocError>
         requires order { from ≤ end }
@@ -134,8 +135,8 @@ impl Doc {
     }
 
     /// Reserves memory for the next `n` operations, so that they aren't refused with `Memory`: for each some 550
-    /// bytes, and what the linked order keeps for an insertion by any of 32 sites. Constant time where they are reserved. Refused with
-    /// `Memory`, only where fewer are.
+    /// bytes, and what the linked order keeps for an insertion by any of 32 sites. Constant time; where they are reserved nothing
+    /// grows. Refused with `Memory`, only where fewer are.
     pub fn reserve(&mut self, n: usize) -> Result<(), Refusal>
         ensures ok { OnOk result (self.new ≡ record self.old { room = max self.old.room n }) }
         ensures err { OnErr result (self.new ≡ self.old) }
@@ -154,8 +155,8 @@ impl Doc {
         Ok(())
     }
 
-    /// Adds an operation to the log, and gives its edit: what it does to the text. Takes logarithmic steps, however many
-    /// elements with a greater stamp an insertion has to pass.
+    /// Adds an operation to the log, and gives its edit: what it does to the text. Takes a step for each of 32 sites, and steps
+    /// logarithmic in the number of elements, however many with a greater stamp an insertion has to pass.
     ///
     /// Refused, in this order: `Full` with 131,072 operations, `UnknownElement` where the parent or target is no
     /// element, `NotOlder` where the parent's stamp isn't smaller, `Memory` only where nothing is reserved.
@@ -226,8 +227,8 @@ impl Doc {
         self.tree.shown(version as usize)
     }
 
-    /// The stamp of the element at the place in the version, if that is so long. A place counts characters. Takes
-    /// logarithmic steps, and no memory.
+    /// The stamp of the element at the place in the version, if that is so long. A place counts characters. Takes the steps of
+    /// `VersionTree::find`, logarithmic in the number of the version's elements, and no memory.
     pub fn element_at(&self, version: u32, place: usize) -> Option<Stamp>
         requires { version ≤ length self.now.log }
         ensures { result ≡ option_map (λ x. x.stamp) (slice_get (visible_at self.now.log version) place) }
@@ -249,7 +250,7 @@ impl Doc {
     }
 
     /// The stamp of the element that has the unit at the place in the version, if that is so long, and 1 where the unit is the
-    /// second of a pair, else 0. A place counts UTF-16 units. Takes logarithmic steps, and no memory.
+    /// second of a pair, else 0. A place counts UTF-16 units. Takes as many steps as `element_at`, and no memory.
     pub fn unit_at(&self, version: u32, place: usize) -> Option<(Stamp, u8)>
         requires { version ≤ length self.now.log }
         ensures { result ≡ option_map (λ x. (x.stamp, if is_low_surrogate x.ch then 1 else 0))
@@ -263,8 +264,11 @@ impl Doc {
         }
     }
 
-    /// The text of the version. Takes at most 36 steps for each element that it shows; for the newest, where at least one in
-    /// eight is shown, a step for each element, shown or not. Refused with `BadVersion` above the newest, and with `Memory`.
+    /// The text of the version. Refused with `BadVersion` above the newest, and with `Memory`.
+    ///
+    /// The newest takes a step for each element, shown or not, if it shows at least as many as an eighth of all elements, rounded
+    /// down: so at most eight for each that it shows, and seven more. If it shows fewer, and for each other version, the tree is
+    /// asked: at most 37 steps for each element that is shown, and memory for their numbers, 4 bytes each.
     pub fn reading(&self, version: u32) -> Result<Characters, Refusal>
         ensures ok { IfOk result (λ text. text ≡ reading_at self.now.log version) }
         ensures known { OnOk result (version ≤ length self.now.log) }
