@@ -21,9 +21,9 @@ use std::alloc::{AllocError, Global};
 use std::marker::Model;
 
 /// The list of each version, from the empty one on. An element is known by its number, the count of those that came
-/// before it; it stays in the list when it is hidden. A step is a look at a node. Whatever asks about an element in the newest
-/// version first climbs from it by the table of what hangs from what, along at most 25 rows: that looks at no node, and no
-/// counter counts it.
+/// before it; it stays in the list when it is hidden. A step is a look at a node. A call about an element in the newest
+/// version first climbs from it by the table of what hangs from what, along at most 25 rows; the climb looks at no node and isn't
+/// counted.
 #[derive(Drop)]
 pub struct VersionTree {
     nodes: Nodes,
@@ -120,7 +120,7 @@ impl VersionTree {
     }
 
     /// Appends the elements that a version shows, in order, by one pass over its tree: at most a step for each of its elements,
-    /// and at most twice as many steps for each that is shown as the number of all has binary digits. Takes memory for those
+    /// and at most twice as many steps for each that is shown as the number of all its elements has binary digits. Takes memory for those
     /// that are shown, 4 bytes each. Where it is refused nothing is appended.
     pub fn push_shown(
         &self,
@@ -158,8 +158,8 @@ impl VersionTree {
         root_of(self.roots.as_slice(), version).size.items(true)
     }
 
-    /// How many shown elements stand before one in the newest version, and how many units these have. Takes no memory, that
-    /// climb, and as many steps as `find`.
+    /// How many shown elements stand before one in the newest version, and how many units these have. Takes no
+    /// memory. Climbs from the element, and takes at most as many steps as `find` may.
     pub fn ranks(&self, elem: u32, steps: &mut Steps) -> Size
         requires { Lists elem (newest_list self.now) }
         ensures shown { result.shown ≡ length (visible (entries_before elem (newest_list self.now))) }
@@ -192,8 +192,9 @@ impl VersionTree {
     }
 
     /// The last element that one passes in the newest version, going right from an element, or from before all others, as
-    /// long as the keys are greater than the given one: where none is passed, the element itself, or none. Takes no memory, the
-    /// climb, and at most six times as many steps as the number of elements has binary digits, however many are passed.
+    /// long as the keys are greater than the given one: where none is passed, the element itself, or none. Takes no memory.
+    /// Climbs from the element, if there is one, and takes at most six times as many steps as the number of elements has binary
+    /// digits, however many are passed.
     pub fn last_greater(&self, before: Option<u32>, key: u32, steps: &mut Steps) -> Option<u32>
         requires there { IfSome before (λ e. Lists e (newest_list self.now)) }
         ensures last { result ≡ last_greater before key (newest_list self.now) }
@@ -233,8 +234,9 @@ impl VersionTree {
 
     /// Adds a version with a further element, shown, right after another one, or before all others: its key, below 2^23,
     /// and whether it has two units stay with it for good. Tells how many shown elements stand before it, and how many units
-    /// these have, as `ranks` would. Takes memory from the reserve alone, and the climb, and reads and makes a number of nodes that
-    /// is logarithmic in that of the elements. How many it makes is promised, how many it reads is not.
+    /// these have, as `ranks` would. Takes memory from the reserve alone. Climbs from the element before, if there is one, and
+    /// reads and makes nodes, of either a number logarithmic in that of the elements: how many it makes is promised, how many it
+    /// reads isn't.
     pub fn insert_after(&mut self, before: Option<u32>, elem: u32, key: u32, wide: bool) -> Size
         requires room { 1 ≤ self.old.room }
         requires there { IfSome before (λ e. Lists e (newest_list self.old)) }
@@ -265,8 +267,8 @@ impl VersionTree {
         rank
     }
 
-    /// Adds a version with an element hidden. Takes memory from the reserve alone, and the climb, and reads and makes a number of
-    /// nodes that is logarithmic in that of the elements. How many it makes is promised, how many it reads is not.
+    /// Adds a version with an element hidden. Takes memory from the reserve alone. Climbs from the element, and reads and makes
+    /// nodes, of either a number logarithmic in that of the elements: how many it makes is promised, how many it reads isn't.
     pub fn hide(&mut self, elem: u32)
         requires room { 1 ≤ self.old.room }
         requires shown { Shows elem (newest_list self.old) }

@@ -44,7 +44,7 @@ impl<T: Trailed> TicketLock<T> {
     }
 
     /// Each pass takes a turn, `a` before `b`, and waits for it. Afterwards `a` has seen what either had seen, and
-    /// `b` has seen what `a` has.
+    /// `b` has seen what `a` has. Takes the steps of two turns.
     ///
     /// `Worn` where either has no draw left. Both are looked at first, so that nothing has changed then.
     pub fn meet<R: Wait>(&self, rt: &R, a: &mut Pass<T>, b: &mut Pass<T>) -> Result<(), Worn>

@@ -29,8 +29,8 @@ impl<T: Trailed> TicketLock<T> {
         }
     }
 
-    /// Hands `count` draws to a new pass, which has seen the same and has made no entry. It neither waits nor takes
-    /// memory.
+    /// Hands `count` draws to a new pass, which has seen the same and has made no entry. Constant time: it neither waits nor
+    /// takes memory.
     ///
     /// `Worn` where the pass has fewer draws left. It may be 0.
     pub fn split(&self, pass: &mut Pass<T>, count: u64) -> Result<Pass<T>, Worn>
@@ -48,8 +48,8 @@ impl<T: Trailed> TicketLock<T> {
         Ok(self.hand::<Brand>(pass, count))
     }
 
-    /// Takes in another pass: its draws, its entries, its lost tries, and the longer of what both have seen. It
-    /// neither waits nor takes memory.
+    /// Takes in another pass: its draws, its entries, its lost tries, and the longer of what both have seen.
+    /// Constant time: it neither waits nor takes memory.
     pub fn join(&self, pass: &mut Pass<T>, other: Pass<T>)
         requires pass { IsPassOf self.now pass.old × IsPassOf self.now other }
         requires idle { IsIdle pass.old × IsIdle other }

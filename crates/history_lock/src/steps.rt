@@ -24,7 +24,8 @@ const LOOKS_AS_NEXT: u32 = 64;
 impl<T: Trailed> TicketLock<T> {
     /// A lock round the value, and the first pass, which has 2^62 draws and has seen the value's trail.
     ///
-    /// The only call of a lock that takes memory, and the only error is that there is none; the value is dropped then.
+    /// The only call of a lock that takes memory, and the only error is that there is none; the value is dropped then. Constant
+    /// time.
     pub fn new(alloc: Global, value: T) -> Result<(TicketLock<T>, Pass<T>), AllocError>
     where
         T: Drop,
@@ -135,7 +136,8 @@ impl<T: Trailed> TicketLock<T> {
         unreachable!()
     }
 
-    /// Gives the value back, for the next ticket's turn. It neither waits nor takes memory.
+    /// Gives the value back, for the next ticket's turn. It neither waits nor takes memory. Constant time, beside what the system
+    /// takes to wake those who sleep at the bells of the next two tickets.
     ///
     /// The trail that the hold has then is the one that the next turn finds, whoever takes it; what it has beyond the
     /// one found is the pass's own.

@@ -59,7 +59,7 @@ impl<T: Trailed> TicketLock<T> {
     }
 
     /// Ends the lock by one try: the value, whose trail begins with all that the pass has seen. It neither waits nor
-    /// takes memory.
+    /// takes memory. Constant time.
     ///
     /// A pass that has all draws but those of the finished turns that it knows of gets just what the last of these
     /// left. The value's mark is at most 2^62 less the draws that the pass has left.

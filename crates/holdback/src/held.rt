@@ -104,8 +104,8 @@ impl Held {
     }
 
     /// Takes out the first operation, in order of arrival, that is ready where just the operations are that the clock
-    /// counts. The others keep their order, so those behind it move up. Takes no memory, and the steps of `Clock::ready` for each
-    /// operation that is held, at most 32.
+    /// counts. The others keep their order, so those behind it move up. Takes no memory, and for each
+    /// operation that is held the steps of `Clock::ready`, which are at most 32.
     #[tactic(auto, using(crate::proofs::Places::taken, crate::proofs::Places::none_taken, crate::proofs::Places::left, crate::proofs::Places::all_left))]
     pub fn take_first_ready(&mut self, clock: &Clock) -> Option<Op>
         ensures taken { result ≡ first_ready clock.now self.old.ops }

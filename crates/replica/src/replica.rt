@@ -221,10 +221,10 @@ impl Replica {
     /// last operation, `UnknownElement` where its parent or target is no element, `NotOlder` where its parent's stamp
     /// isn't smaller. `Memory` may come in place of an answer, but only where the room isn't above what is held.
     ///
-    /// Where its number is in the log it takes the steps of `Doc::op` alone, which reads up to 64 rows. Else it takes one
-    /// pass over what is held, to look for its number. An integration takes the steps of `Doc::integrate` besides, and settling
-    /// takes one pass over what is held and those steps for each operation that leaves it, and one pass more. A pass takes at most
-    /// 32 steps for each operation that is held.
+    /// `OwnSite` takes constant time. Where the number is in the log it takes the steps of `Doc::op`, which reads up to 64 rows.
+    /// Else it takes one pass over what is held, to look for the number. An integration takes the steps of `Doc::integrate`
+    /// besides, and settling takes one pass over what is held and those steps for each operation that leaves it, and at most one
+    /// pass more. A pass takes at most 32 steps for each operation that is held.
     pub fn put(&mut self, op: Op) -> Result<Delivery, Refusal>
         ensures outcome { IfOk result (λ d. (deliver self.old.site self.old.log self.old.held op).outcome ≡ Ok d) }
         ensures next { IfOk result (λ d. self.new ≡ record self.old {

@@ -47,7 +47,7 @@ fn round(log: &mut Log, held: &mut Held, tally: &mut Tally) -> bool
 }
 
 /// Round after round, until none is left that is ready or the log is full. Counts an operation that was integrated
-/// before. Takes one round for each operation that leaves what is held, and one more.
+/// before. Takes one round for each operation that leaves what is held, and at most one more.
 pub(crate) fn settle(log: &mut Log, held: &mut Held) -> Tally
     requires reserved { HasRoomFor (length held.old.ops) log.old }
     requires lawful { IsLawful log.old.log }

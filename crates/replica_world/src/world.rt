@@ -118,8 +118,8 @@ impl World {
         Ok(())
     }
 
-    /// The text of the site's newest version. Takes at most 32 steps, one for each element, and memory for the text. Refused
-    /// with `NoRoom` and with `Memory`.
+    /// The text of the site's newest version. Takes at most 32 steps to find the site, and the steps and the memory of
+    /// `Doc::reading`. Refused with `NoRoom` and with `Memory`.
     pub fn reading(&self, site: Site) -> Result<Characters, Refusal>
         ensures ok { IfOk result (λ text. Some text ≡ option_map (λ a. reading a.state.log) (room_of site self.now)) }
         ensures cause { IfErr result (λ e. ((e ≡ NoRoom) × (room_of site self.now ≡ None))

@@ -26,9 +26,9 @@ pub enum Call {
     /// `x` has no character or more than 64; `BadPlace` where `k` is above the version's length, or inside a pair of units;
     /// and `Full` where the log would exceed 131,072 operations.
     ///
-    /// Takes a look-up of the session for a repeat and for what is refused up to `BadVersion`. Otherwise takes at most
-    /// three and a step for each character, and behind `BadText` steps logarithmic in the number of elements, for the place
-    /// and again for each character.
+    /// A repeat, and what is refused up to `BadVersion`, takes one look-up of the session. All else takes at most three
+    /// look-ups and a step for each character; and, unless it is refused with `BadText`, steps logarithmic in the number of
+    /// elements, for the place and, where it is accepted, again for each character.
     Ins {
         s: u32,
         n: u32,
@@ -43,9 +43,8 @@ pub enum Call {
     /// above 64; `BadPlace` where `k` plus `c` is above the version's length, or an end is inside a pair of units; and
     /// `Full` where the log would exceed 131,072 operations.
     ///
-    /// Takes a look-up of the session for a repeat and for what is refused up to `BadVersion`, and two for `BadCount`.
-    /// Otherwise takes at most three, and steps logarithmic in the number of elements, for each place and again for each
-    /// deletion.
+    /// A repeat, and what is refused up to `BadVersion`, takes one look-up of the session; `BadCount` takes two. All else
+    /// takes at most three, and steps logarithmic in the number of elements, for each place and again for each deletion.
     Del {
         s: u32,
         n: u32,
@@ -87,14 +86,15 @@ pub enum Call {
     /// leaves what is held back steps logarithmic in the number of elements.
     Put(Operations),
     /// Asks for the newest version and its text. Refused with `HistoryFull`. Takes the steps of `Doc::reading`: at most 37
-    /// for each character of the text, and seven more, however many elements are deleted.
+    /// for each character of the text, however many elements are deleted.
     Read,
 }
 
 impl Clone for Call {
     ghost is_clone = { λ s t. t ≡ s };
 
-    /// The same call once more. Takes a step for each byte of its text, or for each of its operations.
+    /// The same call once more. Takes a step for each byte of its text, or for each of its operations, and memory for a text that
+    /// is longer than 16 bytes, and for operations.
     fn clone(&self) -> Result<Call, AllocError> {
         Ok(match self {
             Call::Join { units } => Call::Join { units: *units },

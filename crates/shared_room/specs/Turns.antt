@@ -50,7 +50,7 @@ Answers opening v w c r = TakesTurn v w × Replies opening v w c r
 abbrev pub Visits : View → View → Type 0
 Visits v w = TakesTurn v w × Stays v w
 
--- a turn in which there was no memory, so that it recorded nothing, though it might have
+-- a turn in which there was no memory, so that it recorded nothing, though the history that it found isn't full
 abbrev pub LacksMemory : View → View → Type 0
 LacksMemory v w = TakesTurn v w × FailsToRecord v w
 

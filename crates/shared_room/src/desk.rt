@@ -44,6 +44,7 @@ impl<'a, R: Wait> Desk for PassDesk<'a, R> {
         (new.room.now ≡ old.room.now) × (new.pass.ghost_name ≡ old.pass.ghost_name)
         × FaultsPass (view old.pass.now) why (view new.pass.now) };
 
+    /// The room's reply, or why there is none. Waits as `SharedRoom::call` does, and takes its steps.
     fn call(&mut self, call: Call) -> Result<Reply, DeskFault> {
         match self.room.call(self.rt, self.pass, call) {
             Ok(reply) => Ok(reply),

@@ -27,6 +27,7 @@ impl SharedRoom {
     /// Shares a room that has recorded no call. The first pass may make 2^62 calls.
     ///
     /// Takes memory for the lock and a box, whatever the room's size. The only error is for want of it; the room is dropped then.
+    /// Constant time.
     pub fn new(alloc: Global, room: Room) -> Result<(SharedRoom, Pass), AllocError>
         requires { room.history ≡ [] }
         ensures pass { IfOk result (λ r. IsPassOf r.0 r.1) }
@@ -82,8 +83,8 @@ impl SharedRoom {
         }
     }
 
-    /// Hands `count` draws, which may be 0, to a new pass, which has seen the same and has made no call. It neither waits
-    /// nor takes memory.
+    /// Hands `count` draws, which may be 0, to a new pass, which has seen the same and has made no call. Constant time:
+    /// it neither waits nor takes memory.
     ///
     /// `Worn` where the pass has fewer draws left. Nothing has changed then.
     pub fn split(&self, pass: &mut Pass, count: u64) -> Result<Pass, Worn>
@@ -100,8 +101,8 @@ impl SharedRoom {
         }
     }
 
-    /// Takes in another pass: its draws, its calls, its lost tries, and the longer of what both have seen. It neither
-    /// waits nor takes memory.
+    /// Takes in another pass: its draws, its calls, its lost tries, and the longer of what both have seen. Constant
+    /// time: it neither waits nor takes memory.
     pub fn join(&self, pass: &mut Pass, other: Pass)
         requires { IsPassOf self.now pass.old × IsPassOf self.now other }
         ensures pass { IsPassOf self.now pass.new }
@@ -112,7 +113,7 @@ impl SharedRoom {
     }
 
     /// Each pass takes a turn, `a` before `b`, and waits for it. Afterwards `a` has seen what either had seen, and `b` has
-    /// seen what `a` has.
+    /// seen what `a` has. Takes the steps of two turns.
     ///
     /// `Worn` where either has no draw left. Nothing has changed then.
     pub fn meet<R: Wait>(&self, rt: &R, a: &mut Pass, b: &mut Pass) -> Result<(), Worn>
@@ -125,8 +126,8 @@ impl SharedRoom {
         self.lock.meet(rt, &mut a.pass, &mut b.pass)
     }
 
-    /// Ends the sharing by one try: the room, whose history begins with all that the pass has seen. It neither waits nor
-    /// takes memory.
+    /// Ends the sharing by one try: the room, whose history begins with all that the pass has seen. Constant time: it
+    /// neither waits nor takes memory.
     ///
     /// The history is just what the pass has seen, where it has all draws but those of the turns up to the last call that
     /// it has seen: nobody else can have made a call behind that one.

@@ -37,7 +37,8 @@ impl Model for Characters {
 impl Clone for Characters {
     ghost is_clone = { λ s t. t ≡ s };
 
-    /// The same characters once more. Takes a step for each byte; of at most 16 bytes that `from_str` made it takes no memory.
+    /// The same characters once more. Takes a step for each byte; one of at most 16 bytes that `from_str`
+    /// made takes no memory.
     fn clone(&self) -> Result<Characters, AllocError> {
         let text = match &self.text {
             KeptText::Short(text) => KeptText::Short(*text),
@@ -56,8 +57,8 @@ impl Characters {
         Characters { text }
     }
 
-    /// The characters of a text, which is copied. Takes a step for each byte. An error is for want of memory, of which at most
-    /// 16 bytes take none.
+    /// The characters of a text, which is copied. Takes a step for each byte. An error is for want of memory; at most 16
+    /// bytes take none.
     pub fn from_str(alloc: Global, text: &str) -> Result<Self, AllocError>
         ensures value { IfOk result (λ c. c ≡ chars text.now) }
         ensures short { length text.now ≤ 16 → IsOk result }

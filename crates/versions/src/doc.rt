@@ -155,7 +155,7 @@ impl Doc {
         Ok(())
     }
 
-    /// Adds an operation to the log, and gives its edit: what it does to the text. Takes a step for each of 32 sites, and steps
+    /// Adds an operation to the log, and gives its edit: what it does to the text. Takes a step for each of the 32 sites, and steps
     /// logarithmic in the number of elements, however many with a greater stamp an insertion has to pass.
     ///
     /// Refused, in this order: `Full` with 131,072 operations, `UnknownElement` where the parent or target is no
@@ -266,9 +266,9 @@ impl Doc {
 
     /// The text of the version. Refused with `BadVersion` above the newest, and with `Memory`.
     ///
-    /// The newest takes a step for each element, shown or not, if it shows at least as many as an eighth of all elements, rounded
-    /// down: so at most eight for each that it shows, and seven more. If it shows fewer, and for each other version, the tree is
-    /// asked: at most 37 steps for each element that is shown, and memory for their numbers, 4 bytes each.
+    /// The newest is read along the linked order as long as nothing of it is deleted: one step for each element. Else, and each
+    /// other version, it is read by the tree, which leaves out parts that show nothing: at most 37 steps for each element that is
+    /// shown, and 4 bytes for its number. Either takes memory for the text.
     pub fn reading(&self, version: u32) -> Result<Characters, Refusal>
         ensures ok { IfOk result (λ text. text ≡ reading_at self.now.log version) }
         ensures known { OnOk result (version ≤ length self.now.log) }

@@ -39,7 +39,7 @@ impl Model for Item {
 }
 
 impl Item {
-    /// An operation by itself. Takes no memory.
+    /// An operation by itself. Constant time; takes no memory.
     pub fn new(alloc: Global, op: Op) -> Item
         ensures { result ≡ alone op }
     {
@@ -57,7 +57,7 @@ impl Item {
         self.more.len() + 1 < MAX_RUN && is_typed_next(&self.last, op)
     }
 
-    /// Adds an operation that joins the run. An error is for want of memory.
+    /// Adds an operation that joins the run. Constant time; takes memory where the text grows. An error is for want of it.
     pub fn push(&mut self, op: &Op) -> Result<(), AllocError>
         requires { joins self.old op.now ≡ true }
         ensures { OnOk result (self.new ≡ with_one_more self.old op.now) }
