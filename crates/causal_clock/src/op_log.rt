@@ -104,7 +104,7 @@ impl OpLog {
     }
 
     /// Reserves memory for the next `n` operations, so that they aren't refused with `Memory`: for each 20 bytes,
-    /// and 128 for the 32 entries that it may have. Constant time; where they are reserved nothing grows. Refused with `Memory`,
+    /// and 128 for the 32 entries that it may have. Constant time; nothing grows where so many are reserved already. Refused with `Memory`,
     /// only where fewer are: for want of it, or above 67,108,864 operations.
     pub fn reserve(&mut self, n: usize) -> Result<(), Refusal>
         ensures ok { OnOk result (self.new ≡ record self.old { room = max self.old.room n }) }

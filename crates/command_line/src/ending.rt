@@ -68,6 +68,7 @@ impl Ending {
 }
 
 impl fmt::Display for Ending {
+    /// Writes the text that is told. Takes time in proportion to it.
     fn fmt<W: fmt::Write>(&self, f: &mut fmt::Formatter<W>) -> fmt::Result {
         match self {
             Ending::Done => Ok(()),

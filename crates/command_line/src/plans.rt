@@ -60,6 +60,7 @@ impl From<AllocError> for PlanFault {
 
     ghost from_gives = { λ _ e. e ≡ Memory };
 
+    /// `Memory`. Constant time.
     fn from(_: AllocError) -> PlanFault {
         PlanFault::Memory
     }

@@ -31,6 +31,7 @@ impl Stop {
 }
 
 impl fmt::Display for Stop {
+    /// Writes the text that is told. Takes time in proportion to it.
     fn fmt<W: fmt::Write>(&self, f: &mut fmt::Formatter<W>) -> fmt::Result {
         match self {
             Stop::Refused(why) => write!(f, "refused {} {}", why.number(), why.name()),

@@ -109,7 +109,7 @@ impl VersionTree {
     }
 
     /// The element that has the `k`-th unit of what a version shows, if there are so many, and 1 where that is the second
-    /// of its two units, else 0. Takes no memory, and as many steps as `find`.
+    /// of its two units, else 0. Takes no memory, and at most as many steps as `find` may.
     pub fn find_units(&self, version: usize, k: usize, steps: &mut Steps) -> Option<(u32, u8)>
         requires { version < length self.now.lists }
         ensures found { result ≡ slice_get (units (version_list self.now version)) k }
@@ -119,9 +119,10 @@ impl VersionTree {
         find_in(&self.nodes, root.link, true, k, steps)
     }
 
-    /// Appends the elements that a version shows, in order, by one pass over its tree: at most a step for each of its elements,
-    /// and at most twice as many steps for each that is shown as the number of all its elements has binary digits. Takes memory for those
-    /// that are shown, 4 bytes each. Where it is refused nothing is appended.
+    /// Appends the elements that a version shows, in order, by one pass over its tree that leaves out parts which show nothing.
+    /// Takes at most one step for each of the version's elements, and at most 36 for each that is shown: twice the binary digits of
+    /// the number of the version's elements. Takes memory for those that are shown, 4 bytes each; where it is refused nothing is
+    /// appended.
     pub fn push_shown(
         &self,
         version: usize,
@@ -212,8 +213,8 @@ impl VersionTree {
     }
 
     /// Reserves `n` versions, if fewer are reserved: for each 31 nodes of 12 bytes, a row of the table of 8, a root of 8, and 4 for
-    /// the element's key and width, 392 bytes of which only what is written comes into memory. Constant time; where they are
-    /// reserved nothing grows. Refused memory changes nothing.
+    /// the element's key and width, 392 bytes of which only what is written comes into memory. Constant time; nothing grows where so
+    /// many are reserved already. Refused memory changes nothing.
     pub fn reserve(&mut self, n: usize) -> Result<(), AllocError>
         requires { length self.old.lists + n ≤ 131073 }
         ensures lists { self.new.lists ≡ self.old.lists }

@@ -88,6 +88,7 @@ impl<T: Trailed> Pass<T> {
 }
 
 impl<T: Trailed> Drop for Pass<T> {
+    /// Constant time; its draws go with it.
     fn drop(self) {
         let Pass {
             seat: _,

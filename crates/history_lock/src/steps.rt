@@ -25,7 +25,7 @@ impl<T: Trailed> TicketLock<T> {
     /// A lock round the value, and the first pass, which has 2^62 draws and has seen the value's trail.
     ///
     /// The only call of a lock that takes memory, and the only error is that there is none; the value is dropped then. Constant
-    /// time.
+    /// time, beside that drop.
     pub fn new(alloc: Global, value: T) -> Result<(TicketLock<T>, Pass<T>), AllocError>
     where
         T: Drop,
@@ -103,6 +103,7 @@ impl<T: Trailed> TicketLock<T> {
     ///
     /// As the next in line it looks 64 times, and then sleeps on the number of the ticket that is served until a
     /// `leave` wakes it. Further back it sleeps beside the bell of its ticket until it is the next in line.
+    /// Beside the wait it takes constant time, with one look each time that it is woken, and no memory.
     #[tactic(auto, using(crate::proofs::Turns::first_finds_opening))]
     pub fn enter<R: Wait>(&self, rt: &R, ticket: Ticket, pass: &mut Pass<T>) -> Hold<T>
         requires pass { IsPassOf self.now pass.old }
@@ -137,7 +138,8 @@ impl<T: Trailed> TicketLock<T> {
     }
 
     /// Gives the value back, for the next ticket's turn. It neither waits nor takes memory. Constant time, beside what the system
-    /// takes to wake those who sleep at the bells of the next two tickets.
+    /// takes to wake: who sleeps on the number of the ticket that is served, and who sleeps at the bell of the ticket behind it;
+    /// or, where no ticket is open, one of those who wait without a ticket.
     ///
     /// The trail that the hold has then is the one that the next turn finds, whoever takes it; what it has beyond the
     /// one found is the pass's own.

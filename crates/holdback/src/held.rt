@@ -26,7 +26,7 @@ pub enum Arrival {
     Again,
 }
 
-/// Operations whose causal past isn't there yet, in order of arrival: at most 1,024 of some 150 bytes each.
+/// Operations whose causal past isn't there yet, in order of arrival: at most 1,024 of some 160 bytes each.
 #[derive(Drop)]
 pub struct Held {
     ops: Vec<Op>,
@@ -104,8 +104,8 @@ impl Held {
     }
 
     /// Takes out the first operation, in order of arrival, that is ready where just the operations are that the clock
-    /// counts. The others keep their order, so those behind it move up. Takes no memory, and for each
-    /// operation that is held the steps of `Clock::ready`, which are at most 32.
+    /// counts. The others keep their order, so those behind it move up. Takes no memory, and the
+    /// steps of `Clock::ready`, some 32, for each operation up to the one that is taken; each one behind it is moved once.
     #[tactic(auto, using(crate::proofs::Places::taken, crate::proofs::Places::none_taken, crate::proofs::Places::left, crate::proofs::Places::all_left))]
     pub fn take_first_ready(&mut self, clock: &Clock) -> Option<Op>
         ensures taken { result ≡ first_ready clock.now self.old.ops }
@@ -120,8 +120,8 @@ impl Held {
         }
     }
 
-    /// Reserves memory, so that the next `n` operations that are kept aren't refused with `Memory`. Constant time; where they are
-    /// reserved nothing grows. Refused with `Memory`, only where fewer are.
+    /// Reserves memory, so that the next `n` operations that are kept aren't refused with `Memory`. Constant time; nothing grows where so
+    /// many are reserved already. Refused with `Memory`, only where fewer are.
     pub fn reserve(&mut self, n: usize) -> Result<(), Refusal>
         ensures ok { OnOk result (self.new ≡ record self.old { room = max self.old.room (length self.old.ops + n) }) }
         ensures err { OnErr result (self.new ≡ self.old) }

@@ -131,7 +131,8 @@ fn goes_on(sent: Result<(), ServeFault>, more: bool) -> Result<bool, ServeFault>
 /// is a write that takes nothing. The writer isn't flushed.
 ///
 /// Reads into all the room behind the bytes held, at least 65,536 bytes, and writes each answer in one call, where the
-/// writer takes it whole.
+/// writer takes it whole. Takes what these calls and `Protocol::answer` take, a few steps for each byte, and memory for what the
+/// protocol keeps and for one answer at a time.
 pub fn serve<P: Protocol, R: Source, W: Sink>(
     alloc: Global,
     window: &mut Window,
@@ -167,6 +168,9 @@ pub fn serve<P: Protocol, R: Source, W: Sink>(
 /// A line is a request (`wire_json::read_request`); a refused one is answered by its refusal and makes no call. A line
 /// of more than 65,536 bytes is answered by 29. A desk that is worn is told by 25; want of memory, at the desk or at the
 /// reading of a request, by 26. After `Memory` nothing was read, or it ended as `serve` tells.
+///
+/// Takes a `Window`, and for each line the steps of `RequestReader::read`, of the desk's call and of `ReplyLine::new`, beside those
+/// of `serve`.
 #[tactic(auto, using(crate::proofs::Making::reads_none, crate::proofs::Making::writes_none))]
 pub fn serve_lines<D: Desk, R: Source, W: Sink>(
     alloc: Global,

@@ -31,10 +31,11 @@ pub trait Protocol {
     /// The most bytes that a line has, without its LF. A longer one is answered by 29.
     const LIMIT: usize;
 
-    /// What is kept before the first line.
+    /// What is kept before the first line. Each kind of lines tells what it costs.
     fn scratch(alloc: Global) -> Self::Scratch;
 
     /// Answers a line. An `Err` is for want of memory for the text; what the line did stays.
+    /// Each kind of lines tells what it costs.
     fn answer(
         alloc: Global,
         scratch: &mut Self::Scratch,

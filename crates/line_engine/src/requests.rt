@@ -30,10 +30,12 @@ impl<D: Desk> Protocol for Requests<D> {
 
     const LIMIT: usize = MAX_REQUEST_BYTES;
 
+    /// What reads the requests. Costs what `RequestReader::new` costs.
     fn scratch(alloc: Global) -> RequestReader {
         RequestReader::new(alloc)
     }
 
+    /// The answer to a request. Takes the steps of `RequestReader::read`, of the desk's call and of `ReplyLine::new`.
     fn answer(
         alloc: Global,
         reader: &mut RequestReader,

@@ -13,7 +13,7 @@ pub trait Sink: Write {
     // From the first state a call of the writer with so many bytes may give this result, and leave the second.
     ghost writes: { Self → ℕ → Result ℕ Error → Self → Type 0 };
 
-    /// One write of the writer.
+    /// One write of the writer. Takes what that takes.
     fn write_once(&mut self, buf: &[u8]) -> io::Result<usize>
         ensures bound { WritesAtMost result buf.now }
         ensures bytes { WriteAppends (Self.contents self.old) (Self.contents self.new) result buf.now }

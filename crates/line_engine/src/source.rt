@@ -13,7 +13,7 @@ pub trait Source: Read {
     // From the first state a call of the reader for at most so many bytes may give this result, and leave the second.
     ghost reads: { Self → ℕ → Result ℕ Error → Self → Type 0 };
 
-    /// One read of the reader.
+    /// One read of the reader. Takes what that takes.
     fn read_once(&mut self, buf: &mut [u8]) -> io::Result<usize>
         ensures bound { ReadsAtMost result buf.new }
         ensures bytes { ReadConsumes (Self.remaining self.old) (Self.remaining self.new) result buf.new }

@@ -48,7 +48,7 @@ pub(crate) enum Next {
 }
 
 impl Window {
-    /// An empty window. An error is for want of memory. Takes 131,136 bytes.
+    /// An empty window. An error is for want of memory. Takes 131,136 bytes, and clears them.
     pub fn new(alloc: Global) -> Result<Self, AllocError>
         ensures { IfOk result (λ window. window ≡ []) }
     {

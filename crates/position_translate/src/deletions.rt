@@ -18,7 +18,7 @@ use versions::{Doc, MAX_OPERATIONS};
 /// each element that stands there, in their order, also of those that were deleted since. They stand behind the
 /// newest version, however old the version is that was named. A place counts characters (Unicode scalar values).
 /// Takes the steps of `Doc::len_at`, and for each deletion those of `Doc::element_at` and a copy of 32 counts, with memory
-/// for its operation, some 150 bytes.
+/// for its operation, some 160 bytes.
 ///
 /// Refused, in this order: `BadVersion` above the newest version, `BadCount` where the count is 0 or above 64,
 /// `BadPlace` where the place plus the count is above the version's length, `Full` where the log would exceed
@@ -44,7 +44,7 @@ pub fn delete_ops(
 
 /// The same where the place and the count are of UTF-16 units: one deletion for each element that has its units there. Takes
 /// the steps of `Doc::unit_at` for either end, and at most three times for each unit, and a copy of 32 counts for each
-/// deletion, with memory for each unit, some 150 bytes.
+/// deletion, with memory for each unit, some 160 bytes.
 ///
 /// Refused as `delete_ops` is, and with `BadPlace` where either end is inside a pair.
 pub fn delete_ops_units(

@@ -18,7 +18,7 @@ use versions::{Doc, MAX_OPERATIONS};
 /// the first behind the element before the place, each next one behind the one before it. They stand behind the
 /// newest version, however old the version is that was named. A place counts characters (Unicode scalar values).
 /// Takes the steps of `Doc::element_at` once, and for each character a step and a copy of 32 counts, with memory for
-/// its operation, some 150 bytes. A text that is too long is counted to its end.
+/// its operation, some 160 bytes. A text that is too long is counted to its end.
 ///
 /// Refused, in this order: `BadVersion` above the newest version, `BadText` where the text has no character or more
 /// than 64, `BadPlace` where the place is above the version's length, `Full` where the log would exceed 131,072

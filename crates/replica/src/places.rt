@@ -119,8 +119,8 @@ impl Places {
         self.ahead -= 1;
     }
 
-    /// Reserves memory for `n` more places of any site. Constant time: one step where it is there; else it is taken for at
-    /// least 64 places of each site at a time, of 4 bytes. Refused with `Memory`, only where fewer are reserved.
+    /// Reserves memory for `n` more places of any site. Constant time. Where it is there already none is taken; else it is taken
+    /// for at least 64 places of each site at a time, of 4 bytes. Refused with `Memory`, only where fewer are reserved.
     pub(crate) fn reserve(&mut self, n: usize) -> Result<(), Refusal>
         ensures ok { OnOk result (self.new ≡ record self.old { room = max self.old.room n }) }
         ensures err { OnErr result (self.new ≡ self.old) }

@@ -259,7 +259,7 @@ impl Replica {
     }
 
     /// Reserves memory for `n` operations, those that are held back included: while fewer are held than there is room
-    /// for, `put` isn't refused with `Memory`. Constant time; where they are reserved nothing grows. Refused with `Memory`, only
+    /// for, `put` isn't refused with `Memory`. Constant time; nothing grows where so many are reserved already. Refused with `Memory`, only
     /// where fewer are.
     pub fn reserve(&mut self, n: usize) -> Result<(), Refusal>
         ensures ok { OnOk result (self.new ≡ record self.old { room = max self.old.room n }) }

@@ -90,6 +90,7 @@ impl World {
 
     /// Things happen, one after another, each copied first and taken as by `step`. After an error, which is for want of
     /// memory, the replies are those of a beginning of the events, and the world is where these leave it.
+    /// Takes for each event the steps of its clone and of `step`.
     pub fn run(&mut self, events: &[Event], replies: &mut Vec<WorldReply>) -> Result<(), AllocError>
         ensures runs { Runs self.old events.now replies.old.items result replies.new.items self.new }
         ensures nothing_lost { NothingLost events.now replies.old.items replies.new.items }

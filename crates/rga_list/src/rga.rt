@@ -132,8 +132,8 @@ impl Rga {
         Some(Stamp { sum, site })
     }
 
-    /// Reserves memory for the next `n` insertions, so that they aren't refused with `Memory`. Constant time: one step
-    /// where it is there; else it is taken for at least 64 insertions at a time. As any site may insert, each of the
+    /// Reserves memory for the next `n` insertions, so that they aren't refused with `Memory`. Constant time.
+    /// Where it is there already none is taken; else it is taken for at least 64 insertions at a time. As any site may insert, each of the
     /// 32 tables gets room for as many identifiers of 8 bytes, beside as many elements of 12: for 64 insertions that is
     /// some 17 KB, whose reserve is kept. Refused with `Memory`, only where fewer are reserved.
     pub fn reserve(&mut self, n: usize) -> Result<(), Refusal>

@@ -93,8 +93,8 @@ pub enum Call {
 impl Clone for Call {
     ghost is_clone = { λ s t. t ≡ s };
 
-    /// The same call once more. Takes a step for each byte of its text, or for each of its operations, and memory for a text that
-    /// is longer than 16 bytes, and for operations.
+    /// The same call once more. Takes the steps and the memory of the clone of its text or of its operations; constant time and no
+    /// memory where it has neither.
     fn clone(&self) -> Result<Call, AllocError> {
         Ok(match self {
             Call::Join { units } => Call::Join { units: *units },

@@ -23,7 +23,7 @@ impl Model for Operations {
 impl Clone for Operations {
     ghost is_clone = { λ s t. t ≡ s };
 
-    /// The same operations once more. Takes a step for each, and memory, some 150 bytes each.
+    /// The same operations once more. Takes a step for each, and memory, some 160 bytes each.
     fn clone(&self) -> Result<Operations, AllocError> {
         Ok(Operations {
             items: self.items.clone()?,

@@ -158,7 +158,7 @@ impl Room {
 
     /// Answers calls one after another, under tickets from `mark()` on. After an error, which is for want of memory,
     /// the replies are those of a beginning of the calls, and the room is where these leave it. Takes the steps of
-    /// `call` for each, and a step for each character or operation in a call, which is copied.
+    /// `Call::clone` and of `call` for each.
     #[tactic(auto, using(crate::proofs::Rooms::of_rooms))]
     pub fn run(&mut self, calls: &[Call], replies: &mut Vec<Reply>) -> Result<(), AllocError>
         requires { mark self.old.history ≤ 2 ^ 61 }

@@ -27,7 +27,7 @@ impl SharedRoom {
     /// Shares a room that has recorded no call. The first pass may make 2^62 calls.
     ///
     /// Takes memory for the lock and a box, whatever the room's size. The only error is for want of it; the room is dropped then.
-    /// Constant time.
+    /// Constant time, beside that drop.
     pub fn new(alloc: Global, room: Room) -> Result<(SharedRoom, Pass), AllocError>
         requires { room.history ≡ [] }
         ensures pass { IfOk result (λ r. IsPassOf r.0 r.1) }

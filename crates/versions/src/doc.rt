@@ -109,7 +109,7 @@ impl Doc {
     }
 
     /// A copy of the operations from one place of the log up to another. Takes for each the steps that `ops_from` tells, and
-    /// memory, some 150 bytes each. An error is for want of memory.
+    /// memory, some 160 bytes each. An error is for want of memory.
     #[tactic(auto, using(crate::proofs::Left::left_after, crate::proofs::Left::some_left, opid::proofs::Gathered::gathered, opid::proofs::Gathered::gathered_all))]
     pub fn copy_ops(&self, from: u32, end: u32) -> Result<Vec<Op>, AllocError>
         requires order { from ≤ end }
@@ -135,8 +135,8 @@ impl Doc {
     }
 
     /// Reserves memory for the next `n` operations, so that they aren't refused with `Memory`: for each some 550
-    /// bytes, and what the linked order keeps for an insertion by any of 32 sites. Constant time; where they are reserved nothing
-    /// grows. Refused with `Memory`, only where fewer are.
+    /// bytes, and what the linked order keeps for an insertion by any of 32 sites. Constant time; nothing grows where so many are reserved
+    /// already. Refused with `Memory`, only where fewer are.
     pub fn reserve(&mut self, n: usize) -> Result<(), Refusal>
         ensures ok { OnOk result (self.new ≡ record self.old { room = max self.old.room n }) }
         ensures err { OnErr result (self.new ≡ self.old) }
@@ -250,7 +250,8 @@ impl Doc {
     }
 
     /// The stamp of the element that has the unit at the place in the version, if that is so long, and 1 where the unit is the
-    /// second of a pair, else 0. A place counts UTF-16 units. Takes as many steps as `element_at`, and no memory.
+    /// second of a pair, else 0. A place counts UTF-16 units. Takes at most as many steps as `element_at`
+    /// may, and no memory.
     pub fn unit_at(&self, version: u32, place: usize) -> Option<(Stamp, u8)>
         requires { version ≤ length self.now.log }
         ensures { result ≡ option_map (λ x. (x.stamp, if is_low_surrogate x.ch then 1 else 0))
@@ -266,8 +267,8 @@ impl Doc {
 
     /// The text of the version. Refused with `BadVersion` above the newest, and with `Memory`.
     ///
-    /// The newest is read along the linked order as long as nothing of it is deleted: one step for each element. Else, and each
-    /// other version, it is read by the tree, which leaves out parts that show nothing: at most 37 steps for each element that is
+    /// The newest is read along the linked order as long as nothing of it is deleted: one step for each element. Otherwise, and at
+    /// each older version, it is read by the tree, which leaves out parts that show nothing: at most 37 steps for each element that is
     /// shown, and 4 bytes for its number. Either takes memory for the text.
     pub fn reading(&self, version: u32) -> Result<Characters, Refusal>
         ensures ok { IfOk result (λ text. text ≡ reading_at self.now.log version) }

@@ -1,4 +1,4 @@
-//! Laws of the texts of replies and of operations.
+//! Laws of the texts of replies and of operations: each is the contract of a function that does nothing.
 ghost use Rattle.std.specs.Prelude.{◌≡◌, ◌≤◌, ℕ, option_map, option_and_then, Some, Ok, List, length, codes};
 ghost use Rattle.std.specs.List.{AllByRecursion};
 ghost use Rattle.serde_json.specs.Find.{get, as_array};

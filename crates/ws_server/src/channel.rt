@@ -20,11 +20,11 @@ pub trait Channel {
     // From the first state a send of this message may give this result, and leave the second.
     ghost sends: { Self → Content → Result (Unit {0}) Error → Self → Type 0 };
 
-    /// One read: the next message.
+    /// One read: the next message. Takes what the connection's read takes.
     fn read_once(&mut self) -> Result<Message, Error>
         ensures { reads self.old result self.new };
 
-    /// One send of the message.
+    /// One send of the message. Takes what the connection's send takes.
     fn send_once(&mut self, message: Message) -> Result<(), Error>
         ensures { sends self.old (content_of message) result self.new };
 }
