@@ -86,7 +86,7 @@ pub enum Call {
     /// leaves what is held back steps logarithmic in the number of elements.
     Put(Operations),
     /// Asks for the newest version and its text. Refused with `HistoryFull`. Takes the steps of `Doc::reading`: at most 37
-    /// for each character of the text, however many elements are deleted.
+    /// for each character of the text, and seven more, however many elements are deleted.
     Read,
 }
 

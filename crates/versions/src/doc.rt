@@ -267,9 +267,9 @@ impl Doc {
 
     /// The text of the version. Refused with `BadVersion` above the newest, and with `Memory`.
     ///
-    /// The newest is read along the linked order as long as nothing of it is deleted: one step for each element. Otherwise, and at
-    /// each older version, it is read by the tree, which leaves out parts that show nothing: at most 37 steps for each element that is
-    /// shown, and 4 bytes for its number. Either takes memory for the text.
+    /// The newest is read along the linked order if it shows at least an eighth of all elements, rounded down: one step for each
+    /// element, so at most eight for each that is shown, and seven more. Otherwise, and at each older version, it is read by the
+    /// tree: at most 37 steps for each element that is shown, and 4 bytes for its number. Either takes memory for the text.
     pub fn reading(&self, version: u32) -> Result<Characters, Refusal>
         ensures ok { IfOk result (λ text. text ≡ reading_at self.now.log version) }
         ensures known { OnOk result (version ≤ length self.now.log) }
