@@ -61,6 +61,14 @@ impl Op {
         self.clock
     }
 
+    /// Its clock, where it is only looked at.
+    pub(crate) fn known(&self) -> &Clock
+        ensures value { result.now ≡ self.now.clock }
+        ensures kept { IsOperation self.now }
+    {
+        &self.clock
+    }
+
     /// What it does to the document. Constant time.
     pub fn kind(&self) -> OpKind
         ensures { result ≡ self.now.kind }

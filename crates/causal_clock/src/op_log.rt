@@ -2,6 +2,7 @@
 ghost use Rattle.std.specs.Prelude.{◌≡◌, ◌==◌, ◌||◌, not, ◌+◌, ◌-◌, ◌*◌, ◌<◌, ◌≤◌, ◌++◌, [], ◌∷◌, ℕ, Bool, Some, max, length, drop};
 ghost use Rattle.std.specs.Prelude.{slice_get, OnOk, OnErr, IfErr, vec_len, vec_capacity, true, false};
 ghost use Rattle.opid.specs.declared.refusal.Refusal.TheVariants.{Memory};
+ghost use Rattle.opid.specs.Delivery.{clock_of};
 ghost use Rattle.causal_clock.specs.Kinds.{IsOperation};
 ghost use Rattle.causal_clock.specs.Stored.{changes, entries_of, stored};
 ghost use Rattle.causal_clock.specs.Packed.{AreReserved, AreRows, IsPacked, changes_of, fill, operation_at, row_at, logged};
@@ -80,7 +81,7 @@ impl OpLog {
     }
 
     /// The operation at the place. Takes no memory, and reads what is kept of at most 64 operations: itself, and those of
-    /// its site before it back to one that has its whole clock. For each of them it copies 32 counts and puts in its entries.
+    /// its site before it back to one that has its whole clock. It sets 32 counts, and puts in the entries of each of them.
     pub fn get<L: Ledger>(&self, i: usize, steps: &mut Reads<L>) -> Op
         requires { i < length self.now.ops }
         ensures value { slice_get self.now.ops i ≡ Some result }
@@ -175,12 +176,42 @@ pub(crate) fn counts_before<L: Ledger>(
         → fill result (changes_of entries.now row.now) ≡ (operation_at (logged entries.now rows.now) k).clock }
     ensures cost { steps.new ≡ steps.old + row.now.back }
 {
+    let mut counts = [0; SITES];
+    put_before(rows, entries, row, &mut counts, steps);
+    counts
+}
+
+/// Puts these counts where none are. In place, since a row may go back over 63 others.
+fn put_before<L: Ledger>(
+    rows: &[Row],
+    entries: &[Changed],
+    row: &Row,
+    counts: &mut [u32; SITES],
+    steps: &mut Reads<L>,
+)
+    requires none { counts.old ≡ clock_of [] }
+    requires rows { AreRows entries.now rows.now (logged entries.now rows.now) }
+    requires row { (k : ℕ) × (k < length rows.now) × (row_at rows.now k ≡ row.now) }
+    ensures counts { (k : ℕ) → k < length rows.now → row_at rows.now k ≡ row.now
+        → fill counts.new (changes_of entries.now row.now) ≡ (operation_at (logged entries.now rows.now) k).clock }
+    ensures cost { steps.new ≡ steps.old + row.now.back }
+{
     if row.back == 0 {
-        return [0; SITES];
+        return;
     }
     let (last, changes) = read(rows, entries, row.prev as usize, steps);
-    let before = counts_before(rows, entries, &last, steps);
-    filled(before, changes)
+    put_before(rows, entries, &last, counts, steps);
+    put_in(counts, changes);
+}
+
+/// Puts in each of the entries.
+fn put_in(counts: &mut [u32; SITES], entries: &[Changed])
+    ensures { counts.new ≡ fill counts.old entries.now }
+{
+    for change in entries {
+        let site = change.site();
+        counts[usize::from(site.number())] = change.count();
+    }
 }
 
 /// The counts with each of the entries put in.
@@ -188,10 +219,7 @@ pub(crate) fn filled(counts: [u32; SITES], entries: &[Changed]) -> [u32; SITES]
     ensures { result ≡ fill counts entries.now }
 {
     let mut counts = counts;
-    for change in entries {
-        let site = change.site();
-        counts[usize::from(site.number())] = change.count();
-    }
+    put_in(&mut counts, entries);
     counts
 }
 

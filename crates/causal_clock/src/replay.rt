@@ -76,8 +76,8 @@ impl<'a> Replay<'a> {
     }
 
     /// The next operation, where one is left, and counts the operations that are read. Takes no memory, and reads what is kept
-    /// of that operation alone where one of its site was passed, else that of at most 64 operations. For each that is read it
-    /// copies 32 counts and puts in its entries.
+    /// of that operation alone where one of its site was passed, else that of at most 64 operations. It copies 32 counts, and puts
+    /// in the entries of each that is read.
     pub fn read_next<L: Ledger>(&mut self, steps: &mut Reads<L>) -> Op
         requires { 0 < length self.old.left }
         ensures value { self.old.left ≡ result ∷ self.new.left }

@@ -22,14 +22,14 @@ pub loop-site-preserved : goal.loop-site-preserved
 loop-site-preserved c =
     let positive : 0 < c.loop-site-item.result.1 = omega (arith, c.if-count-eq0.false) in
     rw c.number-number.ensures.value
-    (Goes-step c.args.pairs.now c.loop-site.least c.loop-site.clock c.loop-site.site-index c.loop-site-item.result c.with-clock.result
+    (Goes-step c.args.pairs.now c.loop-site.least c.loop-site.clock c.loop-site.site-index c.loop-site-item.result c.put.new.self
     c.loop-site.invariant c.loop-site-test.true c.loop-site-item.is
     (omega (arith, c.if-number-least.false, c.number-number.ensures.value))
     positive
     (omega (arith, c.if-count-sum.false, c.sum.ensures.value, c.sum.ensures.kept.limit))
     (omega (arith, c.number-number.ensures.range, c.number-number.ensures.value))
-    c.with-clock.ensures.value
-    c.with-clock.ensures.total)
+    c.put.ensures.value
+    c.put.ensures.total)
 
 pub returns : goal.returns
 returns c =
