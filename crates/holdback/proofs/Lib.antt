@@ -1,4 +1,5 @@
 -- The lemmas of this crate.
+pub mod Numbers
 pub mod Places
 pub mod Sameness
 pub mod Firsts

@@ -1,12 +1,12 @@
 //! The operations that are held back, in order of arrival.
-ghost use Rattle.std.specs.Prelude.{◌≡◌, ◌<◌, ◌≤◌, ◌+◌, ◌⊎◌, [], true, Ok, Err, length, max, position, IfOk, IfErr, OnOk, OnErr, IfSome};
+ghost use Rattle.std.specs.Prelude.{◌≡◌, ◌==◌, ◌<◌, ◌≤◌, ◌+◌, ◌⊎◌, [], true, Ok, Err, length, map, max, position, IfOk, IfErr, OnOk, OnErr, IfSome};
 ghost use Rattle.std.specs.Prelude.{OnSome, IfNone};
 ghost use Rattle.opid.specs.declared.refusal.Refusal.TheVariants.{Memory};
-ghost use Rattle.opid.specs.Clocks.{is_next};
+ghost use Rattle.opid.specs.Clocks.{entry, is_next};
 ghost use Rattle.opid.specs.Operations.{number_of};
 ghost use Rattle.holdback.specs.declared.held.Arrival.TheVariants as arrivals;
 ghost use Rattle.holdback.specs.Same.{is_same_operation};
-ghost use Rattle.holdback.specs.Offered.{look_for, offered, with_number, is_same_number, after_arrival};
+ghost use Rattle.holdback.specs.Offered.{look_for, offered, is_same_number, after_arrival};
 ghost use Rattle.holdback.specs.Ready.{first_ready, without_first_ready};
 
 use causal_clock::{Clock, Op};
@@ -26,22 +26,26 @@ pub enum Arrival {
     Again,
 }
 
-/// Operations whose causal past isn't there yet, in order of arrival: at most 1,024 of some 160 bytes each.
+/// Operations whose causal past isn't there yet, in order of arrival: at most 1,024 of some 170 bytes each.
 #[derive(Drop)]
 pub struct Held {
     ops: Vec<Op>,
+    /// The number of each, so that those which can't be meant are passed without a look at the operation.
+    numbers: Vec<(Site, u32)>,
     room: usize,
 }
 
 impl Model for Held {
-    ghost use Rattle.std.specs.Prelude.{◌≤◌, vec_len, vec_capacity};
+    ghost use Rattle.std.specs.Prelude.{◌≡◌, ◌≤◌, map, vec_len, vec_capacity};
+    ghost use Rattle.opid.specs.Operations.{number_of};
     ghost use Rattle.holdback.specs.Offered.{HeldOperations};
 
     ghost Value = { HeldOperations };
 
     ghost view = { λ h. record { ops = h.ops.items; room = h.room } };
 
-    ghost invariant = { λ h. (vec_len h.ops ≤ 1024) × (h.room ≤ vec_capacity h.ops) };
+    ghost invariant = { λ h. (vec_len h.ops ≤ 1024) × (h.room ≤ vec_capacity h.ops) × (h.room ≤ vec_capacity h.numbers)
+        × (h.numbers.items ≡ map number_of h.ops.items) };
 }
 
 impl Held {
@@ -51,6 +55,7 @@ impl Held {
     {
         Held {
             ops: Vec::new(alloc),
+            numbers: Vec::new(alloc),
             room: 0,
         }
     }
@@ -68,10 +73,10 @@ impl Held {
     pub fn look(&self, op: &Op) -> Result<bool, Refusal>
         ensures { result ≡ look_for op.now self.now.ops }
     {
-        match with_number(self.ops.as_slice(), op) {
+        match place_of(self.numbers.as_slice(), op.number()) {
             None => Ok(false),
-            Some(held) => {
-                if is_same(op, &held) {
+            Some(place) => {
+                if is_same(op, &self.ops[place]) {
                     Ok(true)
                 } else {
                     Err(Refusal::Conflict)
@@ -99,7 +104,10 @@ impl Held {
         if self.len() >= MAX_HELD {
             return Err(Refusal::HoldFull);
         }
+        let number = op.number();
+        self.numbers.reserve(1)?;
         self.ops.push(op)?;
+        self.numbers.push_reserved(number);
         Ok(Arrival::Kept)
     }
 
@@ -114,9 +122,12 @@ impl Held {
         ensures fewer { OnSome result (length self.new.ops + 1 ≡ length self.old.ops) }
         ensures none { IfNone result (self.new ≡ self.old) }
     {
-        match first_ready(self.ops.as_slice(), clock) {
+        match first_ready(self.ops.as_slice(), self.numbers.as_slice(), clock) {
             None => None,
-            Some(place) => Some(self.ops.remove(place)),
+            Some(place) => {
+                self.numbers.remove(place);
+                Some(self.ops.remove(place))
+            }
         }
     }
 
@@ -131,6 +142,7 @@ impl Held {
             return Ok(());
         }
         self.ops.reserve(n)?;
+        self.numbers.reserve(n)?;
         self.room = self.len() + n;
         Ok(())
     }
@@ -143,24 +155,38 @@ fn is_same(a: &Op, b: &Op) -> bool
     a == b
 }
 
-/// The first operation that has the number of this one.
-fn with_number(ops: &[Op], op: &Op) -> Option<Op>
-    ensures { result ≡ with_number (number_of op.now) ops.now }
+/// The place of the first number that is this one.
+fn place_of(numbers: &[(Site, u32)], number: (Site, u32)) -> Option<usize>
+    ensures { result ≡ position (λ m. is_same_number number m) numbers.now }
 {
-    let number = op.number();
-    ops.iter().find(|held| has_number(number, held)).copied()
+    numbers.iter().position(|held| is_number(number, held))
 }
 
-/// Whether the operation has the number.
-fn has_number(number: (Site, u32), op: &Op) -> bool
-    ensures { result ≡ is_same_number number (number_of op.now) }
+/// Whether the two numbers are one.
+fn is_number(number: (Site, u32), held: &(Site, u32)) -> bool
+    ensures { result ≡ is_same_number number held.now }
 {
-    number == op.number()
+    number == *held
 }
 
-/// The place of the first operation that is ready where just the operations are that the clock counts.
-fn first_ready(ops: &[Op], clock: &Clock) -> Option<usize>
+/// The place of the first operation that is ready where just the operations are that the clock counts. Of those whose number isn't
+/// its site's next one nothing else is looked at.
+fn first_ready(ops: &[Op], numbers: &[(Site, u32)], clock: &Clock) -> Option<usize>
+    requires { numbers.now ≡ map number_of ops.now }
     ensures { result ≡ position (λ x. is_next x.site x.clock clock.now) ops.now }
 {
-    ops.iter().position(|op| clock.ready(op))
+    for place in 0..numbers.len() {
+        if is_due(numbers[place], clock) && clock.ready(&ops[place]) {
+            return Some(place);
+        }
+    }
+    None
+}
+
+/// Whether the number is its site's next one after the operations that the clock counts.
+fn is_due(number: (Site, u32), clock: &Clock) -> bool
+    ensures { result ≡ (number.1 == entry clock.now number.0 + 1) }
+{
+    let (site, count) = number;
+    count == clock.entry(site) + 1
 }

@@ -1,10 +1,12 @@
 -- Where none is ready, all stay; what is taken out is ready.
-use Rattle.std.proofs.Common.{◌≡◌, ◌∙◌, None, Some, List, ap, sym, position}
+use Rattle.std.proofs.Common.{◌≡◌, ◌∙◌, None, Some, List, ap, sym, arith, map, position}
+use Rattle.std.specs.List.{remove}
 use Rattle.opid.specs.Clocks.{is_next}
-use Rattle.opid.specs.Operations.{Operation}
+use Rattle.opid.specs.Operations.{Operation, number_of}
 use Rattle.holdback.specs.Offered.{HeldOperations}
 use Rattle.holdback.specs.Ready.{first_ready, without_first_ready}
 use Rattle.holdback.proofs.Places.{none_taken, all_left, taken-ready}
+use Rattle.holdback.proofs.Numbers.{one_removed}
 use Rattle.holdback.proofs.held.Held.take_first_ready.Goals as goal
 
 pub returns-in-None-clause-taken : goal.returns-in-None-clause-taken
@@ -28,4 +30,14 @@ returns-in-Some-clause-ready c =
     let clock = c.args.clock.now in
     let some : Some c.in-Some.place ≡ position (λ (x : Operation). is_next x.site x.clock clock) c.self.inside.ops.items =
     c.in-Some.ensures ∙ ap (position (λ (x : Operation). is_next x.site x.clock clock)) c.as_slice.ensures.value in
-    taken-ready clock c.self.inside.ops.items c.in-Some.place c.remove.result some c.remove.ensures.value
+    taken-ready clock c.self.inside.ops.items c.in-Some.place c.remove-in-Some.result some c.remove-in-Some.ensures.value
+
+pub invariant_of-self : goal.invariant_of-self
+invariant_of-self c = (
+  omega (arith, c.remove-in-Some.ensures.len, c.self.invariant.0),
+  omega (arith, c.remove-in-Some.ensures.capacity, c.self.invariant.1),
+  omega (arith, c.remove.ensures.capacity, c.self.invariant.2),
+  c.remove.ensures.items ∙ ap (λ ns. remove ns c.in-Some.place) c.self.invariant.3
+      ∙ one_removed c.self.inside.ops.items c.in-Some.place
+      ∙ ap (map number_of) (sym c.remove-in-Some.ensures.items),
+)
