@@ -1,5 +1,6 @@
 -- The first operation with a number, sought among the numbers of all.
-use Rattle.std.proofs.Common.{◌≡◌, ℕ, zero, suc, ◌+◌, ◌<◌, ◌≤◌, Bool, true, false, cond, Option, Some, None, Ok, Err, List, [], ◌∷◌, length, map, get_or, refl, ap, ◌∙◌}
+use Rattle.std.proofs.Common.{◌≡◌, ℕ, zero, suc, ◌+◌, ◌<◌, ◌≤◌, Bool, true, false, cond, Option}
+use Rattle.std.proofs.Common.{Some, None, Ok, Err, List, [], ◌∷◌, length, map, get_or, refl, ap, ◌∙◌}
 use Rattle.std.proofs.Common.{sym, subst, arith, position, lt-ltb, ◌==◌, ◌&&◌, ◌⊎◌, inl, inr}
 use mathlib.Core.Path.{ap₂}
 use Rattle.std.specs.Prelude.{not, nat_lt, slice_get}
@@ -59,7 +60,8 @@ past k n e = go (nat_lt k n) refl e
 pub missing : (n : ℕ × ℕ) (xs : List Operation) → None ≡ position (λ m. is_same_number n m) (map number_of xs) → with_number n xs ≡ None
 missing n xs e =
     let test : Operation → Bool = λ x. is_same_number n (number_of x) in
-    let end : length xs ≤ position_or_len test xs = past (position_or_len test xs) (length xs) (e ∙ position-mapped (λ m. is_same_number n m) xs) in
+    let end : length xs ≤ position_or_len test xs =
+    past (position_or_len test xs) (length xs) (e ∙ position-mapped (λ m. is_same_number n m) xs) in
     find_at test xs ∙ elim (slice_get_cases xs (position_or_len test xs)).1 [ inl h ↦ absurd (omega (arith, h.1, end)) | inr h ↦ h.1 ]
 
 -- ---- the first that is ready
@@ -82,7 +84,8 @@ pub none_at_all : (clock : List ℕ) (xs : List Operation) (i : ℕ) → length 
 none_at_all clock xs i l before =
     let test : Operation → Bool = λ y. is_next y.site y.clock clock in
     let at : position_or_len test xs ≡ length xs =
-    position_or_len_is test xs (length xs) no_op (omega arith) (λ k m. before k no_op (omega (arith, l, m))) (λ m. absurd (omega (arith, m))) in
+    position_or_len_is test xs (length xs) no_op (omega arith) (λ k m. before k no_op (omega (arith, l, m)))
+    (λ m. absurd (omega (arith, m))) in
     sym (ap (λ k. cond (nat_lt k (length xs)) (Some k) None) at ∙ ap (λ b. cond b (Some (length xs)) None) (none_up_to (length xs)))
 
 -- none before the next place either, where this one isn't ready

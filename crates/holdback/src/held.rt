@@ -1,6 +1,6 @@
 //! The operations that are held back, in order of arrival.
-ghost use Rattle.std.specs.Prelude.{◌≡◌, ◌==◌, ◌<◌, ◌≤◌, ◌+◌, ◌⊎◌, [], true, Ok, Err, length, map, max, position, IfOk, IfErr, OnOk, OnErr, IfSome};
-ghost use Rattle.std.specs.Prelude.{OnSome, IfNone};
+ghost use Rattle.std.specs.Prelude.{◌≡◌, ◌==◌, ◌<◌, ◌≤◌, ◌+◌, ◌⊎◌, [], true, Ok, Err, length, map, max, position};
+ghost use Rattle.std.specs.Prelude.{IfOk, IfErr, OnOk, OnErr, IfSome, OnSome, IfNone};
 ghost use Rattle.opid.specs.declared.refusal.Refusal.TheVariants.{Memory};
 ghost use Rattle.opid.specs.Clocks.{entry, is_next};
 ghost use Rattle.opid.specs.Operations.{number_of};
