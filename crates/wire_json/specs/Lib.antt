@@ -7,4 +7,6 @@ pub mod PackedOperations
 pub mod Text
 pub mod Written
 pub mod Flat
+pub mod Coming
 pub mod Request
+pub mod Handed

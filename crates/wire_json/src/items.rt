@@ -118,7 +118,7 @@ fn read_run<'v>(alloc: Global, value: &'v Value) -> Result<ItemOffer<'v>, Refusa
 }
 
 // The first character of a text of 2 to 64, and those behind it.
-fn read_chars(alloc: Global, text: &str) -> Result<(char, Vec<char>), Refusal>
+pub(crate) fn read_chars(alloc: Global, text: &str) -> Result<(char, Vec<char>), Refusal>
     ensures told { Gives (λ p. (p.0, p.1.items)) result (run_chars (chars text.now)) }
     ensures few { IfOk result (λ p. length p.1.items < 64) }
 {
@@ -156,7 +156,7 @@ fn unfold(ops: &mut Vec<Op>, offer: &SitedItem<'_, '_>) -> Result<(), Refusal>
 }
 
 // Adds an operation and the insertions that follow it, as long as there are fewer than 65.
-fn unfold_run(ops: &mut Vec<Op>, first: Op, more: &[char]) -> Result<(), Refusal>
+pub(crate) fn unfold_run(ops: &mut Vec<Op>, first: Op, more: &[char]) -> Result<(), Refusal>
     requires sum { sum first.clock + length more.now ≤ MAX_SUM }
     requires few { length ops.old.items ≤ 65 }
     ensures ok { OnOk result (ops.new.items ≡ take 65 (ops.old.items ++ (first ∷ typed_behind first more.now))) }

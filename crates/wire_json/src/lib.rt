@@ -3,6 +3,7 @@
 
 mod fields;
 mod flat;
+mod handed;
 mod items;
 mod laws;
 mod offer;
@@ -11,6 +12,7 @@ mod operation_writing;
 mod operations;
 mod packing;
 mod reading;
+mod spelled;
 mod tokens;
 mod writing;
 

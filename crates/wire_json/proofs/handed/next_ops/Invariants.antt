@@ -1,0 +1,6 @@
+-- The operations so far are those of the objects so far.
+use Rattle.wire_json.specs.Handed.{TellsOps}
+use Rattle.wire_json.proofs.handed.next_ops.Given as goal
+
+abbrev pub invariant-loop : goal.invariant-loop
+invariant-loop l = TellsOps l.initial.reader l.ops.items l.reader
