@@ -24,7 +24,7 @@ use Rattle.snapshot.specs.Values.{value_told}
 -- ---- only whether all faults are absent counts: so each value tells its operations by itself
 
 -- the operations of the first, and those of the rest
-abbrev then : Result (List Operation) Refusal → Option (List Operation) → Option (List Operation)
+abbrev pub then : Result (List Operation) Refusal → Option (List Operation) → Option (List Operation)
 then (Ok ys) rest = option_map (λ zs. ys ++ zs) rest
 then (Err e) rest = None
 
@@ -52,7 +52,7 @@ operations_first o os = go (item_operations o) (each item_operations os)
     go (Ok y) (Err e) = refl
     go (Err f) rs = refl
 
-first_told : (runs : Bool) (d : Data) (ds : List Data)
+pub first_told : (runs : Bool) (d : Data) (ds : List Data)
     → result_ok (ops_told runs (d ∷ ds)) ≡ then (value_told runs d) (result_ok (ops_told runs ds))
 first_told true d ds =
     stepped (λ os. each item_sited os >>= all_operations) (λ o. item_sited o >>= item_operations)
@@ -97,18 +97,18 @@ value_goes_on runs front vs i v ys total h at is so_far =
     let rest = result_ok (ops_told runs (items_told (items_view (drop (i + 1) vs)))) in
     sym (told_at runs front vs i v h at ∙ ap (λ r. option_map (λ zs. front ++ zs) (then r rest)) is ∙ regroup front ys rest) ∙ so_far
 
+pub only_ok : (r : Result (List Operation) Refusal) (log : List Operation) → result_ok r ≡ Some log → r ≡ Ok log
+only_ok (Ok ys) log e = let same : ys ≡ log = cc in ap Ok same
+only_ok (Err f) log e = cc
+
 pub all_told : (runs : Bool) (front : List Operation) (vs : List Value) (i : ℕ) (total : Result (List Operation) Refusal)
     → length vs ≤ i → told_from runs front (drop i vs) ≡ result_ok total → total ≡ Ok front
 all_told runs front vs i total h so_far =
-    go total (sym so_far ∙ ap (told_from runs front) (drop_all i vs h) ∙ nothing runs)
+    only_ok total front (sym so_far ∙ ap (told_from runs front) (drop_all i vs h) ∙ nothing runs)
   where
     nothing : (runs : Bool) → told_from runs front [] ≡ Some front
     nothing true = ap Some (append-nil front)
     nothing false = ap Some (append-nil front)
-
-    go : (r : Result (List Operation) Refusal) → result_ok r ≡ Some front → r ≡ Ok front
-    go (Ok ys) e = let same : ys ≡ front = cc in ap Ok same
-    go (Err f) e = cc
 
 -- each of a lawful log's next operations may follow those before it, so a value whose operations may not is none of its
 pub refuted : (runs : Bool) (front : List Operation) (vs : List Value) (i : ℕ) (v : Value) (log : List Operation) → i < length vs

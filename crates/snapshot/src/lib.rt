@@ -6,6 +6,7 @@
 pub mod laws;
 mod loading;
 mod saving;
+mod spelled;
 
 pub use loading::{load, load_doc};
 pub use saving::save;

@@ -8,6 +8,7 @@ ghost use Rattle.wire_json.specs.Operations.{items_told};
 ghost use Rattle.snapshot.specs.Snapshot.{StandsFor, StandsForNone, LacksSite, HasSite, format_of, ops_told};
 ghost use Rattle.snapshot.specs.Values.{value_told};
 
+use crate::spelled::read_spelled;
 use causal_clock::Op;
 use opid::{Refusal, Site};
 use replica::Replica;
@@ -37,14 +38,18 @@ pub fn load(alloc: Global, bytes: &[u8], site: Site) -> Result<Replica, Refusal>
 
 /// The document over the log that the bytes stand for.
 ///
-/// Refused with `BadSnapshot` exactly where they stand for none, and with `Memory` in the place of any answer. Takes a
-/// reading of the bytes as JSON, which is in memory as a whole, and the steps of `Doc::integrate` for each operation: a
-/// logarithmic number.
+/// Refused with `BadSnapshot` exactly where they stand for none, and with `Memory` in the place of any answer. Takes time in
+/// proportion to the bytes, and the steps of `Doc::integrate` for each operation: a logarithmic number. A text that is spelled as
+/// `save` and `write_op` spell, but for spaces, is read token by token, with as many bytes of memory as it has beside the document;
+/// any other, and one that stands for no log, is then read anew as a JSON value, which is in memory as a whole.
 pub fn load_doc(alloc: Global, bytes: &[u8]) -> Result<Doc, Refusal>
     ensures stands { IfOk result (λ doc. StandsFor bytes.now doc.log) }
     ensures unreserved { IfOk result (λ doc. doc.room ≡ 0) }
     ensures cause { IfErr result (λ e. (e ≡ Memory) ⊎ ((e ≡ BadSnapshot) × StandsForNone bytes.now)) }
 {
+    if let Some(doc) = read_spelled(alloc, bytes)? {
+        return Ok(doc);
+    }
     match read_doc(alloc, bytes) {
         Ok(doc) => Ok(doc),
         Err(Refusal::Memory) => Err(Refusal::Memory),
@@ -123,7 +128,7 @@ fn append_all(doc: &mut Doc, ops: &[Op]) -> Result<(), Refusal>
 }
 
 // Appends an operation that may follow the log.
-fn append(doc: &mut Doc, op: &Op) -> Result<(), Refusal>
+pub(crate) fn append(doc: &mut Doc, op: &Op) -> Result<(), Refusal>
     ensures grown { OnOk result (doc.new ≡ record { log = doc.old.log ++ op.now ∷ []; room = doc.old.room - 1 }) }
     ensures cause { IfErr result (λ e. (e ≡ Memory) ⊎ (MayFollow doc.old.log op.now → length doc.old.log < 131072 → ⊥)) }
 {

@@ -92,7 +92,7 @@ put_asked : (ds : List Data) (ops : List Operation) → handed_over ds ≡ Ok op
     → call_in (object (put_entries ((codes "t", string (codes "put")) ∷ (codes "ops", array (items_of ds)) ∷ []) no_members)) ≡ Ok (Put ops)
 put_asked ds ops h = rw (told_back ds) (rw h refl)
 
-whole : (all : List Token) (d : Data) → Comes 6 all d [] → value_of_tokens all ≡ Some d
+pub whole : (all : List Token) (d : Data) → Comes 6 all d [] → value_of_tokens all ≡ Some d
 whole all d c = ap lone_value (c.read 121) ∙ c.is
 
 pub put_read : (all a b c d e f : List Token) (ops : List Operation) → all ≡ begin_object ∷ a → a ≡ key (codes "t") ∷ b

@@ -5,7 +5,7 @@ ghost use Rattle.json.specs.Token.{end_object, string};
 ghost use Rattle.wire_json.specs.Handed.{ReadsOps, ReadsPut, AsksToPut};
 
 use crate::items::unfold_run;
-use crate::spelled::{rest_of_item, take_begin_array, take_end_object, take_key};
+use crate::spelled::{is_over, rest_of_item, take_begin_array, take_end_object, take_key};
 use causal_clock::Op;
 use json::{Reader, Scratch, Token};
 use opid::{MAX_COUNT, Refusal};
@@ -34,7 +34,7 @@ pub(crate) fn read_spelled_put(
     }
 }
 
-// The operations of the one object that the reader has, with `t` and `ops` in either order.
+// The operations of the one object that the reader has, whose `t` comes before its `ops`.
 fn read_members(alloc: Global, reader: &mut Reader<'_>) -> Result<Option<Vec<Op>>, Refusal>
     ensures told { IfOk result (λ r. IfSome r (λ ops. ReadsPut reader.old ops.items)) }
     ensures memory { IfErr result (λ e. e ≡ Memory) }
@@ -66,13 +66,6 @@ fn take_kind(reader: &mut Reader<'_>) -> bool
     matches!(reader.next(), Some(Token::String("put")))
 }
 
-// Whether no token is left.
-fn is_over(reader: &mut Reader<'_>) -> bool
-    ensures { result ≡ true → reader.old ≡ [] }
-{
-    reader.next().is_none()
-}
-
 // The operations of the next value, a list of at most 64 objects: at most the first 65 of them.
 fn next_ops(alloc: Global, reader: &mut Reader<'_>) -> Result<Option<Vec<Op>>, Refusal>
     ensures told { IfOk result (λ r. IfSome r (λ ops. ReadsOps reader.old ops.items reader.new)) }
@@ -86,10 +79,10 @@ fn next_ops(alloc: Global, reader: &mut Reader<'_>) -> Result<Option<Vec<Op>>, R
         match reader.next() {
             Some(Token::EndArray) => return Ok(Some(ops)),
             Some(Token::BeginObject) => {
-                let Some(item) = rest_of_item(alloc, reader)? else {
+                let Some(item) = rest_of_item(reader) else {
                     return Ok(None);
                 };
-                unfold_run(&mut ops, item.first, item.more.as_slice())?;
+                unfold_run(&mut ops, item.first, item.more)?;
             }
             _ => return Ok(None),
         }

@@ -1,13 +1,15 @@
 //! Reading operation objects and run objects: the fields of all, then the sites of all, then the clocks of all.
-ghost use Rattle.std.specs.Prelude.{◌≡◌, ◌≤◌, ◌<◌, ◌+◌, ◌++◌, ◌⊎◌, ◌∷◌, Ok, Err, List, length, sum, take, IfOk, IfErr, OnOk};
+ghost use Rattle.std.specs.Prelude.{◌≡◌, ◌≤◌, ◌<◌, ◌+◌, ◌++◌, ◌⊎◌, [], ◌∷◌, Ok, Err, List, length, sum, take, option_map};
+ghost use Rattle.std.specs.Prelude.{IfOk, IfErr, IfSome, IfNone, OnOk};
 ghost use Rattle.std.specs.Str.{chars};
 ghost use Rattle.serde_json.specs.View.{view, items_view};
-ghost use Rattle.opid.specs.declared.refusal.Refusal.TheVariants.{Memory};
+ghost use Rattle.opid.specs.declared.refusal.Refusal.TheVariants.{BadField, Memory};
 ghost use Rattle.opid.specs.Operations.{Operation};
 ghost use Rattle.wire_json.specs.Operations.{each, items_told};
 ghost use Rattle.wire_json.specs.Packing.{typed_next, typed_behind};
 ghost use Rattle.wire_json.specs.PackedOperations.{item_offer_of, item_sited, item_operations, run_of, run_chars, all_operations};
 ghost use Rattle.wire_json.specs.PackedOperations.{first_65_of, handed_over, item_ops_of};
+ghost use Rattle.wire_json.specs.Members.{or_refuse};
 ghost use Rattle.wire_json.specs.Given.{Gives};
 
 use crate::offer::{ItemOffer, Offer, OfferedKind, SitedItem};
@@ -44,9 +46,9 @@ pub(crate) fn read_items(alloc: Global, values: &[Value]) -> Result<Vec<Op>, Ref
 pub fn read_item_ops(alloc: Global, value: &Value) -> Result<Vec<Op>, Refusal>
     ensures { Gives (λ ops. ops.items) result (item_ops_of (view value.now)) }
 {
-    let offer = read_item(alloc, value)?;
+    let offer = read_item(value)?;
     let first = check_sites(&offer.first)?;
-    let more = offer.more.as_slice();
+    let more = offer.more;
     let mut ops = Vec::new(alloc);
     unfold(&mut ops, &SitedItem { first, more })?;
     Ok(ops)
@@ -57,28 +59,28 @@ fn read_item_offers<'v>(alloc: Global, values: &'v [Value]) -> Result<Vec<ItemOf
 {
     let mut offers = Vec::new(alloc);
     for value in values {
-        let offer = read_item(alloc, value)?;
+        let offer = read_item(value)?;
         offers.push(offer)?;
     }
     Ok(offers)
 }
 
-fn check_item_sites<'a, 'v>(
+fn check_item_sites<'v>(
     alloc: Global,
-    offers: &'a [ItemOffer<'v>],
-) -> Result<Vec<SitedItem<'a, 'v>>, Refusal>
+    offers: &[ItemOffer<'v>],
+) -> Result<Vec<SitedItem<'v>>, Refusal>
     ensures { Gives (λ v. v.items) result (each item_sited offers.now) }
 {
     let mut all = Vec::new(alloc);
     for offer in offers {
         let first = check_sites(&offer.first)?;
-        let more = offer.more.as_slice();
+        let more = offer.more;
         all.push(SitedItem { first, more })?;
     }
     Ok(all)
 }
 
-fn unfold_all(alloc: Global, offers: &[SitedItem<'_, '_>]) -> Result<Vec<Op>, Refusal>
+fn unfold_all(alloc: Global, offers: &[SitedItem<'_>]) -> Result<Vec<Op>, Refusal>
     ensures { Gives (λ v. v.items) result (first_65_of (all_operations offers.now)) }
 {
     let mut ops = Vec::new(alloc);
@@ -88,22 +90,29 @@ fn unfold_all(alloc: Global, offers: &[SitedItem<'_, '_>]) -> Result<Vec<Op>, Re
     Ok(ops)
 }
 
-fn read_item<'v>(alloc: Global, value: &'v Value) -> Result<ItemOffer<'v>, Refusal>
-    ensures told { Gives (λ o. o) result (item_offer_of (view value.now)) }
+fn read_item<'v>(value: &'v Value) -> Result<ItemOffer<'v>, Refusal>
+    ensures told { result ≡ item_offer_of (view value.now) }
     ensures few { IfOk result (λ o. length o.more < 64) }
 {
     match read_text(value, "k")? {
-        "r" => read_run(alloc, value),
+        "r" => read_run(value),
         _ => {
             let first = read_offer(value)?;
-            let more = Vec::new(alloc);
+            let more = no_text();
             Ok(ItemOffer { first, more })
         }
     }
 }
 
-fn read_run<'v>(alloc: Global, value: &'v Value) -> Result<ItemOffer<'v>, Refusal>
-    ensures told { Gives (λ o. o) result (run_of (view value.now)) }
+// What an operation by itself has behind it.
+pub(crate) fn no_text() -> &'static str
+    ensures { chars result.now ≡ [] }
+{
+    ""
+}
+
+fn read_run<'v>(value: &'v Value) -> Result<ItemOffer<'v>, Refusal>
+    ensures told { result ≡ run_of (view value.now) }
     ensures few { IfOk result (λ o. length o.more < 64) }
 {
     check_keys(value, &["c", "k", "p", "s", "x"])?;
@@ -111,37 +120,40 @@ fn read_run<'v>(alloc: Global, value: &'v Value) -> Result<ItemOffer<'v>, Refusa
     check_pairs(pairs)?;
     let parent = read_parent(read_member(value, "p")?)?;
     let site = read_number(value, "s")?;
-    let (ch, more) = read_chars(alloc, read_text(value, "x")?)?;
+    let text = read_text(value, "x")?;
+    let Some((ch, more)) = split_run(text) else {
+        return Err(Refusal::BadField);
+    };
     let kind = OfferedKind::Ins { parent, ch };
     let first = Offer { site, pairs, kind };
     Ok(ItemOffer { first, more })
 }
 
-// The first character of a text of 2 to 64, and those behind it.
-pub(crate) fn read_chars(alloc: Global, text: &str) -> Result<(char, Vec<char>), Refusal>
-    ensures told { Gives (λ p. (p.0, p.1.items)) result (run_chars (chars text.now)) }
-    ensures few { IfOk result (λ p. length p.1.items < 64) }
+// The first character of a text of 2 to 64, and the text behind it.
+pub(crate) fn split_run<'v>(text: &'v str) -> Option<(char, &'v str)>
+    ensures told { or_refuse BadField (option_map (λ p. (p.0, chars p.1.now)) result) ≡ run_chars (chars text.now) }
+    ensures few { IfSome result (λ p. length (chars p.1.now) < 64) }
 {
     let count = count_characters(text);
     if count < 2 || count > MAX_RUN {
-        return Err(Refusal::BadField);
+        return None;
     }
-    let all = all_chars(alloc, text)?;
-    match all.as_slice() {
-        [first, rest @ ..] => Ok((*first, rest.to_vec(alloc)?)),
-        [] => Err(Refusal::BadField),
-    }
+    split_first(text)
 }
 
-fn all_chars(alloc: Global, text: &str) -> Result<Vec<char>, Refusal>
-    ensures ok { IfOk result (λ v. v.items ≡ chars text.now) }
-    ensures memory { IfErr result (λ e. e ≡ Memory) }
+// The first character of a text, and the text behind it.
+fn split_first<'v>(text: &'v str) -> Option<(char, &'v str)>
+    ensures some { IfSome result (λ p. chars text.now ≡ p.0 ∷ chars p.1.now) }
+    ensures none { IfNone result (chars text.now ≡ []) }
 {
-    Ok(text.chars().collect(alloc)?)
+    let Some(ch) = text.chars().next() else {
+        return None;
+    };
+    Some((ch, &text[ch.len_utf8()..]))
 }
 
 // Adds the operations of an item, as long as there are fewer than 65.
-fn unfold(ops: &mut Vec<Op>, offer: &SitedItem<'_, '_>) -> Result<(), Refusal>
+fn unfold(ops: &mut Vec<Op>, offer: &SitedItem<'_>) -> Result<(), Refusal>
     requires { length ops.old.items ≤ 65 }
     ensures ok { OnOk result ((xs : List Operation) × (item_operations offer.now ≡ Ok xs)
         × (ops.new.items ≡ take 65 (ops.old.items ++ xs))) }
@@ -149,17 +161,17 @@ fn unfold(ops: &mut Vec<Op>, offer: &SitedItem<'_, '_>) -> Result<(), Refusal>
 {
     let first = check_clock(&offer.first)?;
     let sum = first.clock().sum();
-    if offer.more.len() > (MAX_SUM - sum) as usize {
+    if count_characters(offer.more) > (MAX_SUM - sum) as usize {
         return Err(Refusal::BadClock);
     }
     unfold_run(ops, first, offer.more)
 }
 
 // Adds an operation and the insertions that follow it, as long as there are fewer than 65.
-pub(crate) fn unfold_run(ops: &mut Vec<Op>, first: Op, more: &[char]) -> Result<(), Refusal>
-    requires sum { sum first.clock + length more.now ≤ MAX_SUM }
+pub(crate) fn unfold_run(ops: &mut Vec<Op>, first: Op, more: &str) -> Result<(), Refusal>
+    requires sum { sum first.clock + length (chars more.now) ≤ MAX_SUM }
     requires few { length ops.old.items ≤ 65 }
-    ensures ok { OnOk result (ops.new.items ≡ take 65 (ops.old.items ++ (first ∷ typed_behind first more.now))) }
+    ensures ok { OnOk result (ops.new.items ≡ take 65 (ops.old.items ++ (first ∷ typed_behind first (chars more.now)))) }
     ensures memory { IfErr result (λ e. e ≡ Memory) }
 {
     if ops.len() >= MOST {
@@ -167,18 +179,19 @@ pub(crate) fn unfold_run(ops: &mut Vec<Op>, first: Op, more: &[char]) -> Result<
     }
     ops.push(first)?;
     let mut last = first;
-    for ch in more {
+    for ch in more.chars() {
         if ops.len() >= MOST {
             return Ok(());
         }
-        last = next_op(&last, *ch);
+        last = next_op(&last, ch);
         ops.push(last)?;
     }
     Ok(())
 }
 
-// The insertion of a character that follows an operation.
-pub(crate) fn next_op(last: &Op, ch: char) -> Op
+/// The insertion that its site makes by typing one more character behind an operation: its clock is raised at the site, and its
+/// parent is the element of the operation. Copies 32 counts.
+pub fn next_op(last: &Op, ch: char) -> Op
     requires { sum last.now.clock < MAX_SUM }
     ensures value { result ≡ typed_next last.now ch }
     ensures total { sum result.clock ≡ sum last.now.clock + 1 }

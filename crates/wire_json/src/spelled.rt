@@ -1,8 +1,8 @@
 //! Operation objects and run objects read token by token, with no tree, as servers spell them: with any spaces, but with just the keys
 //! of their kind, in the order of their bytes. What is spelled otherwise or would be refused isn't read here: it is read as a tree.
 ghost use Rattle.std.specs.Prelude.{◌≡◌, ◌≤◌, ◌<◌, ◌^◌, ◌∷◌, ◌+◌, [], true, false, List, length, sum, take, codes};
-ghost use Rattle.std.specs.Prelude.{IfOk, IfErr, IfSome};
-ghost use Rattle.opid.specs.declared.refusal.Refusal.TheVariants.{Memory};
+ghost use Rattle.std.specs.Prelude.{IfSome};
+ghost use Rattle.std.specs.Str.{chars};
 ghost use Rattle.json.specs.Token.{Token as Sign, begin_array, end_array, end_object, key};
 ghost use Rattle.serde_json.specs.Data as tree;
 ghost use Rattle.serde_json.specs.Data.{unsigned};
@@ -11,15 +11,14 @@ ghost use Rattle.wire_json.specs.Coming.{ReadsInsertion, ReadsDeletion, ReadsRun
 ghost use Rattle.wire_json.specs.Operations.{only_char};
 
 use crate::flat::whole_number;
-use crate::items::read_chars;
+use crate::items::{no_text, split_run};
 use crate::operations::{check_site, first_char};
 use causal_clock::{Clock, MAX_SUM, Op};
 use json::{Reader, Token};
-use opid::{OpKind, Refusal, SITES, Site, Stamp, count_characters};
-use std::alloc::Global;
+use opid::{OpKind, SITES, Site, Stamp, count_characters};
 
-// The next token's number, where it is a whole one of 32 bits.
-fn next_number(reader: &mut Reader<'_>) -> Option<u32>
+/// The next token's number, where it is a whole one of 32 bits. Constant time.
+pub fn next_number(reader: &mut Reader<'_>) -> Option<u32>
     ensures { IfSome result (λ n. Comes 1 reader.old (tree.number (unsigned n)) reader.new × (n < 2 ^ 32)) }
 {
     let Some(Token::Number(text)) = reader.next() else {
@@ -42,8 +41,8 @@ fn next_text<'a>(reader: &mut Reader<'a>) -> Option<&'a str>
     }
 }
 
-// Takes the key, if it is next.
-pub(crate) fn take_key(reader: &mut Reader<'_>, name: &str) -> bool
+/// Takes the key, if it is next. Compares it with the one that is next.
+pub fn take_key(reader: &mut Reader<'_>, name: &str) -> bool
     ensures { result ≡ true → reader.old ≡ key name.now ∷ reader.new }
 {
     match reader.next() {
@@ -123,15 +122,15 @@ fn next_stamp(reader: &mut Reader<'_>) -> Option<Stamp>
     }
 }
 
-// Takes the token that opens a list, if it is next.
-pub(crate) fn take_begin_array(reader: &mut Reader<'_>) -> bool
+/// Takes the token that opens a list, if it is next. Constant time.
+pub fn take_begin_array(reader: &mut Reader<'_>) -> bool
     ensures { result ≡ true → reader.old ≡ begin_array ∷ reader.new }
 {
     matches!(reader.next(), Some(Token::BeginArray))
 }
 
-// Takes the token that closes an object, if it is next.
-pub(crate) fn take_end_object(reader: &mut Reader<'_>) -> bool
+/// Takes the token that closes an object, if it is next. Constant time.
+pub fn take_end_object(reader: &mut Reader<'_>) -> bool
     ensures { result ≡ true → reader.old ≡ end_object ∷ reader.new }
 {
     matches!(reader.next(), Some(Token::EndObject))
@@ -196,12 +195,12 @@ fn rest_of_deleted(reader: &mut Reader<'_>) -> Option<(Site, Stamp)>
     Some((site, target))
 }
 
-/// The operation that an object tells, or the first one of a run and the characters of those behind it.
-#[derive(Drop)]
-pub(crate) struct Spelled {
-    pub(crate) first: Op,
-    pub(crate) more: Vec<char>,
-    pub(crate) is_run: bool,
+/// The operation that an object tells, or the first one of a run and the text of those behind it.
+#[derive(Clone, Copy, Drop)]
+pub struct SpelledItem<'a> {
+    pub first: Op,
+    pub more: &'a str,
+    pub is_run: bool,
 }
 
 // The only character of a text.
@@ -238,84 +237,75 @@ fn rest_of_deletion(reader: &mut Reader<'_>, clock: Clock) -> Option<Op>
     Op::new(site, clock, OpKind::Del { target }).ok()
 }
 
-// The run with this clock, from behind its letter on: its first operation, and the characters of the others.
-fn rest_of_run(
-    alloc: Global,
-    reader: &mut Reader<'_>,
-    clock: Clock,
-) -> Result<Option<Spelled>, Refusal>
-    ensures told { IfOk result (λ r. IfSome r (λ i. ReadsRun reader.old i.first i.more.items reader.new)) }
-    ensures clock { IfOk result (λ r. IfSome r (λ i. i.first.clock ≡ clock)) }
-    ensures run { IfOk result (λ r. IfSome r (λ i. i.is_run ≡ true)) }
-    ensures memory { IfErr result (λ e. e ≡ Memory) }
+// The run with this clock, from behind its letter on: its first operation, and the text of the others.
+fn rest_of_run<'a>(reader: &mut Reader<'a>, clock: Clock) -> Option<SpelledItem<'a>>
+    ensures told { IfSome result (λ i. ReadsRun reader.old i.first (chars i.more.now) reader.new) }
+    ensures clock { IfSome result (λ i. i.first.clock ≡ clock) }
+    ensures run { IfSome result (λ i. i.is_run ≡ true) }
 {
     prove!(clock.sum() <= MAX_SUM);
     let Some((parent, site, text)) = rest_of_typed(reader) else {
-        return Ok(None);
+        return None;
     };
-    let (ch, more) = match read_chars(alloc, text) {
-        Ok(all) => all,
-        Err(Refusal::Memory) => return Err(Refusal::Memory),
-        Err(_) => return Ok(None),
+    let Some((ch, more)) = split_run(text) else {
+        return None;
     };
-    if more.len() > (MAX_SUM - clock.sum()) as usize {
-        return Ok(None);
+    if count_characters(more) > (MAX_SUM - clock.sum()) as usize {
+        return None;
     }
-    match Op::new(site, clock, OpKind::Ins { parent, ch }) {
-        Ok(first) => Ok(Some(Spelled {
-            first,
-            more,
-            is_run: true,
-        })),
-        Err(_) => Ok(None),
-    }
+    let first = Op::new(site, clock, OpKind::Ins { parent, ch }).ok()?;
+    Some(SpelledItem {
+        first,
+        more,
+        is_run: true,
+    })
 }
 
 /// The operation or the run that an object tells, up to the bracket that closes it; the one that opens it was taken. None where
-/// it is spelled otherwise, or is refused. An error is for want of memory, which a run alone takes.
-pub(crate) fn rest_of_item(
-    alloc: Global,
-    reader: &mut Reader<'_>,
-) -> Result<Option<Spelled>, Refusal>
-    ensures told { IfOk result (λ r. IfSome r (λ i. ReadsItem reader.old i.first i.more.items i.is_run reader.new)) }
-    ensures counted { IfOk result (λ r. IfSome r (λ i. sum i.first.clock + length i.more.items ≤ 131072)) }
-    ensures memory { IfErr result (λ e. e ≡ Memory) }
+/// it is spelled otherwise than `write_op` and `write_item` spell, but for spaces, or is refused: then the reader is anywhere.
+/// Takes time in proportion to the object, and no memory.
+pub fn rest_of_item<'a>(reader: &mut Reader<'a>) -> Option<SpelledItem<'a>>
+    ensures told { IfSome result (λ i. ReadsItem reader.old i.first (chars i.more.now) i.is_run reader.new) }
+    ensures alone { IfSome result (λ i. i.is_run ≡ false → chars i.more.now ≡ []) }
+    ensures counted { IfSome result (λ i. sum i.first.clock + length (chars i.more.now) ≤ 131072) }
 {
-    let Some(clock) = next_clock(reader) else {
-        return Ok(None);
-    };
+    let clock = next_clock(reader)?;
     if !take_key(reader, "k") {
-        return Ok(None);
+        return None;
     }
     let Some(letter) = next_text(reader) else {
-        return Ok(None);
+        return None;
     };
     match letter {
-        "r" => match rest_of_run(alloc, reader, clock)? {
-            Some(typed) => Ok(Some(typed)),
-            None => Ok(None),
-        },
-        "i" => match rest_of_insertion(reader, clock) {
-            Some(first) => Ok(Some(lone(alloc, first))),
-            None => Ok(None),
-        },
-        "d" => match rest_of_deletion(reader, clock) {
-            Some(first) => Ok(Some(lone(alloc, first))),
-            None => Ok(None),
-        },
-        _ => Ok(None),
+        "r" => rest_of_run(reader, clock),
+        "i" => {
+            let first = rest_of_insertion(reader, clock)?;
+            Some(lone(first))
+        }
+        "d" => {
+            let first = rest_of_deletion(reader, clock)?;
+            Some(lone(first))
+        }
+        _ => None,
     }
 }
 
 // An operation by itself.
-fn lone(alloc: Global, first: Op) -> Spelled
+fn lone<'a>(first: Op) -> SpelledItem<'a>
     ensures first { result.first ≡ first }
-    ensures more { result.more.items ≡ [] }
+    ensures more { chars result.more.now ≡ [] }
     ensures run { result.is_run ≡ false }
 {
-    Spelled {
+    SpelledItem {
         first,
-        more: Vec::new(alloc),
+        more: no_text(),
         is_run: false,
     }
+}
+
+/// Whether no token is left. Takes the next one, if there is one.
+pub fn is_over(reader: &mut Reader<'_>) -> bool
+    ensures { result ≡ true → reader.old ≡ [] }
+{
+    reader.next().is_none()
 }

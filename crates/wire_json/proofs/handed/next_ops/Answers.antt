@@ -1,11 +1,8 @@
 use Rattle.std.proofs.Common.{◌∷◌, ◌∙◌, ◌++◌, List, ℕ, Option, ap, sym, subst, arith, length, take}
-use Rattle.std.specs.Prelude.{IfSome}
+use Rattle.std.specs.Str.{chars}
 use Rattle.json.specs.Reads.{token_of}
 use Rattle.opid.specs.Operations.{Operation}
-use Rattle.wire_json.specs.declared.spelled.Spelled.{Spelled}
-use Rattle.wire_json.specs.Packing.{typed_behind}
 use Rattle.wire_json.specs.PackedOperations.{concatenated}
-use Rattle.wire_json.specs.Coming.{ReadsItem}
 use Rattle.wire_json.specs.Handed.{TellsOps}
 use Rattle.wire_json.proofs.Unfolding.{few_kept}
 use Rattle.wire_json.proofs.Handing.{no_ops, ops_more, ops_read}
@@ -28,13 +25,7 @@ unfold_run-requires-clause-few c =
 
 pub loop-preserved : goal.loop-preserved
 loop-preserved c =
-    let item : ReadsItem c.next.new.self c.in-Some.item.first c.in-Some.item.more.items c.in-Some.item.is_run c.rest_of_item.new.reader =
-    subst (λ (o : Option Spelled). IfSome o (λ i. ReadsItem c.next.new.self i.first i.more.items i.is_run c.rest_of_item.new.reader))
-    c.in-Some.is c.in_ok-item-in-Some-BeginObject.ensures.told in
     ops_more c.take_begin_array.new.reader c.loop.reader c.next.new.self c.rest_of_item.new.reader c.loop.ops.items
-    c.unfold_run.new.ops.items c.in-Some.item.first c.in-Some.item.more.items c.in-Some.item.is_run c.loop.invariant
+    c.unfold_run.new.ops.items c.in-Some.item.first (chars c.in-Some.item.more.now) c.in-Some.item.is_run c.loop.invariant
     (c.in-Some-BeginObject.ensures.value ∙ ap (λ t. token_of t ∷ c.next.new.self) c.in-Some-BeginObject.field-0-is)
-    item
-    (c.in_ok-unfold_run-in-Some-BeginObject.ensures.ok
-    ∙ ap (λ (cs : List ℕ). take 65 (c.loop.ops.items ++ (c.in-Some.item.first ∷ typed_behind c.in-Some.item.first cs)))
-    c.as_slice.ensures.value)
+    c.in-Some.ensures.told c.in_ok-unfold_run-in-Some-BeginObject.ensures.ok

@@ -1,5 +1,5 @@
 -- An item has at most 64 operations, so all are kept.
-use Rattle.std.proofs.Common.{◌≡◌, Ok, take, rules}
+use Rattle.std.proofs.Common.{◌≡◌, Ok, take, rules, sym}
 use Rattle.serde_json.specs.View.{view}
 use Rattle.wire_json.specs.Operations.{sited}
 use Rattle.wire_json.specs.PackedOperations.{item_operations}
@@ -13,5 +13,5 @@ returns c =
     let all : item_operations (record { first = c.in_ok-first.first; more = c.in_ok-offer.offer.more }) ≡ Ok out.0 =
     search (rules, out.1) in
     let kept : c.unfold.new.ops.items ≡ take 65 out.0 = search (rules, out.2) in
-    item_told (view c.args.value.now) c.in_ok-offer.offer c.in_ok-first.first out.0 c.unfold.new.ops.items c.in_ok-offer.ensures.told
+    item_told (view c.args.value.now) c.in_ok-offer.offer c.in_ok-first.first out.0 c.unfold.new.ops.items (sym c.in_ok-offer.ensures.told)
     here all c.in_ok-offer.ensures.few kept

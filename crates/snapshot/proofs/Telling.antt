@@ -1,0 +1,90 @@
+-- The log that tokens tell, one object after another.
+use Rattle.std.proofs.Common.{◌≡◌, ℕ, Bool, true, false, List, [], ◌∷◌, ◌++◌, Option, Some, None, Result, Ok, Err, refl, sym, ap, ◌∙◌}
+use Rattle.std.proofs.Common.{subst, append_assoc, append-nil, codes, lt-ltb, ◌^◌}
+use Rattle.std.specs.Result.{result_ok}
+use Rattle.json.specs.Token.{Token, begin_object, end_object, begin_array, end_array, key}
+use Rattle.serde_json.specs.Data.{Data, number, array, object, unsigned, no_members}
+use Rattle.opid.specs.declared.refusal.Refusal.{Refusal}
+use Rattle.opid.specs.Operations.{Operation}
+use Rattle.wire_json.specs.Members.{◌>>=◌}
+use Rattle.wire_json.specs.Packing.{typed_behind}
+use Rattle.wire_json.specs.Coming.{Comes, TellsItems, ReadsItem, items_of, put_entries}
+use Rattle.wire_json.proofs.Come.{array_comes, object_comes, one_more_item}
+use Rattle.wire_json.proofs.Spelt.{told_back}
+use Rattle.wire_json.proofs.Handing.{five_deep, whole}
+use Rattle.snapshot.specs.Snapshot.{ops_told, told_by}
+use Rattle.snapshot.specs.Values.{value_told}
+use Rattle.snapshot.specs.Coming.{ReadsFormat, TellsLog, ReadsLog}
+use Rattle.snapshot.proofs.Loaded.{then, first_told, only_ok}
+
+-- ---- one more value
+
+nothing : (runs : Bool) → result_ok (ops_told runs []) ≡ Some []
+nothing true = refl
+nothing false = refl
+
+last_told : (runs : Bool) (ds : List Data) (d : Data) (log xs : List Operation) → result_ok (ops_told runs ds) ≡ Some log
+    → value_told runs d ≡ Ok xs → result_ok (ops_told runs (ds ++ d ∷ [])) ≡ Some (log ++ xs)
+last_told runs [] d log xs e is =
+    let none : [] ≡ log = (let both : Some [] ≡ Some log = sym (nothing runs) ∙ e in cc) in
+    first_told runs d [] ∙ ap (λ r. then r (result_ok (ops_told runs []))) is ∙ ap (then (Ok xs)) (nothing runs)
+    ∙ ap Some (append-nil xs ∙ ap (λ (l : List Operation). l ++ xs) none)
+last_told runs (f ∷ ds) d log xs e is =
+    first_told runs f (ds ++ d ∷ [])
+    ∙ go (value_told runs f) (result_ok (ops_told runs ds)) refl (sym (first_told runs f ds) ∙ e)
+    (λ zs are. last_told runs ds d zs xs are is)
+  where
+    go : (r : Result (List Operation) Refusal) (rest : Option (List Operation)) → result_ok (ops_told runs ds) ≡ rest
+        → then r rest ≡ Some log
+        → ((zs : List Operation) → result_ok (ops_told runs ds) ≡ Some zs → result_ok (ops_told runs (ds ++ d ∷ [])) ≡ Some (zs ++ xs))
+        → then r (result_ok (ops_told runs (ds ++ d ∷ []))) ≡ Some (log ++ xs)
+    go (Ok ys) (Some zs) are s more =
+        let same : ys ++ zs ≡ log = cc in
+        ap (then (Ok ys)) (more zs are) ∙ ap Some (sym (append_assoc ys zs xs) ∙ ap (λ (l : List Operation). l ++ xs) same)
+    go (Ok ys) None are s more = cc
+    go (Err g) rest are s more = cc
+
+-- what an object tells by itself
+alone : (runs : Bool) (old new : List Token) (x : Operation) (more : List ℕ) (run : Bool) (i : ReadsItem old x more run new)
+    → (runs ≡ false → run ≡ false) → (run ≡ false → more ≡ []) → value_told runs i.value ≡ Ok (x ∷ typed_behind x more)
+alone true old new x more run i single lone = i.ops
+alone false old new x more run i single lone =
+    ap (λ r. r >>= λ y. Ok (y ∷ [])) (i.op (single refl)) ∙ ap (λ cs. Ok (x ∷ typed_behind x cs)) (sym (lone (single refl)))
+
+pub no_log : (runs : Bool) (old : List Token) (log : List Operation) → log ≡ [] → TellsLog runs old log old
+no_log runs old log e = record { values = []; told = refl; are = only_ok (ops_told runs []) log (nothing runs ∙ ap Some (sym e)) }
+
+pub log_more : (runs : Bool) (old now mid new : List Token) (log after : List Operation) (x : Operation) (more : List ℕ) (run : Bool)
+    → TellsLog runs old log now → now ≡ begin_object ∷ mid → ReadsItem mid x more run new → (runs ≡ false → run ≡ false)
+    → (run ≡ false → more ≡ []) → after ≡ log ++ (x ∷ typed_behind x more) → TellsLog runs old after new
+log_more runs old now mid new log after x more run t opened i single lone grown =
+    let xs : List Operation = x ∷ typed_behind x more in
+    let all : List Data = t.values ++ i.value ∷ [] in
+    record {
+      values = all;
+      told =
+          one_more_item 4 old t.values i.value now new t.told
+          (subst (λ ts. Comes 4 ts i.value new) (sym opened) i.first);
+      are =
+          only_ok (ops_told runs all) after
+          (last_told runs t.values i.value log xs (ap result_ok t.are) (alone runs mid new x more run i single lone)
+          ∙ ap Some (sym grown));
+    }
+
+-- ---- the whole text
+
+pub log_read : (all a b c d e f g : List Token) (runs : Bool) (log : List Operation) → all ≡ begin_object ∷ a
+    → a ≡ key (codes "format") ∷ b → ReadsFormat b runs c → c ≡ key (codes "ops") ∷ d → d ≡ begin_array ∷ e
+    → TellsLog runs e log (end_array ∷ f) → f ≡ end_object ∷ g → g ≡ [] → ReadsLog all log
+log_read all a b c d e f g runs log opened first r second list t closed over =
+    let members : List (List ℕ × Data) = (codes "format", number (unsigned r.n)) ∷ (codes "ops", array (items_of t.values)) ∷ [] in
+    let last : f ≡ end_object ∷ [] = closed ∙ ap (λ ts. end_object ∷ ts) over in
+    let value : Data = object (put_entries members no_members) in
+    let items : Comes 5 d (array (items_of t.values)) f =
+    subst (λ ts. Comes 5 ts (array (items_of t.values)) f) (sym list) (array_comes 4 e t.values f t.told) in
+    record {
+      value = value;
+      is = whole all value (subst (λ ts. Comes 6 ts value []) (sym opened) (object_comes 5 a members []
+          (b, c, first, five_deep b c (number (unsigned r.n)) r.first, (d, f, second, items, last))));
+      tells = rw (lt-ltb r.n (2 ^ 32) r.small) (rw r.is (rw (told_back t.values) t.are));
+    }

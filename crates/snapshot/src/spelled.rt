@@ -1,0 +1,140 @@
+//! A snapshot loaded token by token, with no tree, where it is spelled as servers spell it.
+ghost use Rattle.std.specs.Prelude.{◌≡◌, ◌≤◌, ◌+◌, ◌-◌, [], ◌∷◌, ◌++◌, true, length, sum, IfOk, IfErr, IfSome};
+ghost use Rattle.std.specs.Str.{chars};
+ghost use Rattle.opid.specs.declared.refusal.Refusal.TheVariants.{Memory};
+ghost use Rattle.json.specs.Token.{end_array};
+ghost use Rattle.wire_json.specs.Packing.{typed_behind};
+ghost use Rattle.snapshot.specs.Snapshot.{StandsFor};
+ghost use Rattle.snapshot.specs.Coming.{ReadsFormat, ReadsLog, TellsLog};
+
+use crate::loading::append;
+use causal_clock::{MAX_SUM, Op};
+use json::{Reader, Scratch, Token};
+use opid::Refusal;
+use std::alloc::Global;
+use std::str;
+use versions::{Doc, MAX_OPERATIONS};
+use wire_json::{
+    is_over, next_number, next_op, rest_of_item, take_begin_array, take_end_object, take_key,
+};
+
+/// The document over the log that the bytes stand for, where `format` comes before `ops`, of which each object is spelled as
+/// `rest_of_item` reads it, and the log is one. None otherwise, also where there is no memory for the text. An error is for want
+/// of memory.
+pub(crate) fn read_spelled(alloc: Global, bytes: &[u8]) -> Result<Option<Doc>, Refusal>
+    ensures stands { IfOk result (λ r. IfSome r (λ doc. StandsFor bytes.now doc.log)) }
+    ensures unreserved { IfOk result (λ r. IfSome r (λ doc. doc.room ≡ 0)) }
+    ensures memory { IfErr result (λ e. e ≡ Memory) }
+{
+    let Ok(text) = str::from_utf8(bytes) else {
+        return Ok(None);
+    };
+    let mut scratch = Scratch::new(alloc);
+    let Ok(mut reader) = Reader::new(text, &mut scratch) else {
+        return Ok(None);
+    };
+    match read_members(alloc, &mut reader)? {
+        Some(doc) => {
+            prove!(doc.version() <= 131_072);
+            Ok(Some(doc))
+        }
+        None => Ok(None),
+    }
+}
+
+// The document of the one object that the reader has.
+fn read_members(alloc: Global, reader: &mut Reader<'_>) -> Result<Option<Doc>, Refusal>
+    ensures told { IfOk result (λ r. IfSome r (λ doc. ReadsLog reader.old doc.log)) }
+    ensures unreserved { IfOk result (λ r. IfSome r (λ doc. doc.room ≡ 0)) }
+    ensures memory { IfErr result (λ e. e ≡ Memory) }
+{
+    let Some(Token::BeginObject) = reader.next() else {
+        return Ok(None);
+    };
+    if !take_key(reader, "format") {
+        return Ok(None);
+    }
+    let Some(runs) = next_format(reader) else {
+        return Ok(None);
+    };
+    if !take_key(reader, "ops") || !take_begin_array(reader) {
+        return Ok(None);
+    }
+    let Some(doc) = rest_of_log(alloc, reader, runs)? else {
+        return Ok(None);
+    };
+    if !take_end_object(reader) || !is_over(reader) {
+        return Ok(None);
+    }
+    Ok(Some(doc))
+}
+
+// Whether the next value is the format that has runs, where it is one of both.
+fn next_format(reader: &mut Reader<'_>) -> Option<bool>
+    ensures { IfSome result (λ runs. ReadsFormat reader.old runs reader.new) }
+{
+    match next_number(reader)? {
+        1 => Some(false),
+        2 => Some(true),
+        _ => None,
+    }
+}
+
+// The document of the objects up to the closing bracket of their list, whose opening one was taken.
+fn rest_of_log(alloc: Global, reader: &mut Reader<'_>, runs: bool) -> Result<Option<Doc>, Refusal>
+    ensures told { IfOk result (λ r. IfSome r (λ doc. TellsLog runs reader.old doc.log (end_array ∷ reader.new))) }
+    ensures unreserved { IfOk result (λ r. IfSome r (λ doc. doc.room ≡ 0)) }
+    ensures memory { IfErr result (λ e. e ≡ Memory) }
+{
+    let mut doc = Doc::new(alloc);
+    for _ in 0..=MAX_OPERATIONS {
+        match reader.next() {
+            Some(Token::EndArray) => return Ok(Some(doc)),
+            Some(Token::BeginObject) => {
+                let Some(item) = rest_of_item(reader) else {
+                    return Ok(None);
+                };
+                if item.is_run && !runs {
+                    return Ok(None);
+                }
+                if !append_run(&mut doc, &item.first, item.more)? {
+                    return Ok(None);
+                }
+            }
+            _ => return Ok(None),
+        }
+    }
+    Ok(None)
+}
+
+// Appends an operation and the insertions that follow it, and tells whether each may follow those before it.
+fn append_run(doc: &mut Doc, first: &Op, more: &str) -> Result<bool, Refusal>
+    requires { sum first.now.clock + length (chars more.now) ≤ MAX_SUM }
+    ensures grown { IfOk result (λ yes. yes ≡ true → doc.new.log ≡ doc.old.log ++ (first.now ∷ typed_behind first.now (chars more.now))) }
+    ensures unreserved { IfOk result (λ yes. yes ≡ true → doc.old.room ≡ 0 → doc.new.room ≡ 0) }
+    ensures memory { IfErr result (λ e. e ≡ Memory) }
+{
+    if !may_append(doc, first)? {
+        return Ok(false);
+    }
+    let mut last = *first;
+    for ch in more.chars() {
+        last = next_op(&last, ch);
+        if !may_append(doc, &last)? {
+            return Ok(false);
+        }
+    }
+    Ok(true)
+}
+
+// Appends an operation, and tells whether it may follow the log.
+fn may_append(doc: &mut Doc, op: &Op) -> Result<bool, Refusal>
+    ensures grown { IfOk result (λ yes. yes ≡ true → doc.new ≡ record { log = doc.old.log ++ op.now ∷ []; room = doc.old.room - 1 }) }
+    ensures memory { IfErr result (λ e. e ≡ Memory) }
+{
+    match append(doc, op) {
+        Ok(()) => Ok(true),
+        Err(Refusal::Memory) => Err(Refusal::Memory),
+        Err(_) => Ok(false),
+    }
+}
