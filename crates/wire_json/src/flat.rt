@@ -11,6 +11,9 @@ use arrayvec::ArrayVec;
 use fast_float::Numeral;
 use json::{Reader, Scratch, Token};
 
+// So many digits write a number that fits 32 bits.
+const MOST_DIGITS: usize = 9;
+
 // The most members of such an object.
 const MAX_MEMBERS: usize = 8;
 
@@ -137,10 +140,30 @@ pub(crate) fn whole_number(text: &str) -> Option<u64>
     ensures { IfSome result (λ n. number_of text.now ≡ Some (unsigned n)) }
 {
     let bytes = text.as_bytes();
+    if let Some(n) = few_digits(bytes) {
+        return Some(n);
+    }
     if has_minus(bytes) {
         return None;
     }
     Numeral::scan(bytes).to_u64()
+}
+
+// The number that one to nine digits write, and nothing else, as nearly all numbers are written.
+fn few_digits(bytes: &[u8]) -> Option<u64>
+    ensures { IfSome result (λ n. number_of bytes.now ≡ Some (unsigned n)) }
+{
+    if bytes.is_empty() || bytes.len() > MOST_DIGITS {
+        return None;
+    }
+    let mut n: u64 = 0;
+    for byte in bytes {
+        if *byte < b'0' || *byte > b'9' {
+            return None;
+        }
+        n = n * 10 + u64::from(*byte - b'0');
+    }
+    Some(n)
 }
 
 fn has_minus(bytes: &[u8]) -> bool

@@ -1,0 +1,58 @@
+-- A number that digits alone write.
+use Rattle.std.proofs.Common.{◌≡◌, ℕ, suc, ◌+◌, ◌-◌, ◌<◌, ◌^◌, List, [], ◌∷◌, ◌++◌, Some, Bool, true, false, ◌&&◌, ◌==◌, length, take}
+use Rattle.std.proofs.Common.{refl, sym, ap, ◌∙◌, subst, arith, slice_index, get_or, append-nil, eqb-true}
+use Rattle.std.proofs.lemmas.Grind.{common_steps}
+use Rattle.std.proofs.lemmas.List.{take_all}
+use Rattle.std.proofs.lemmas.Bool.Decides.{nat_tests}
+use Rattle.std.specs.List.{prefix_len}
+use Rattle.std.specs.Char.{is_ascii_digit}
+use Rattle.std.specs.Str.{all_ascii_digits}
+use Rattle.std.specs.Str.Parse.{digits_value}
+use Rattle.std.specs.Float.Numeral.{Parts, scan_numeral}
+use Rattle.fast_float.specs.Text.{digits_of, IsInteger}
+use Rattle.serde_json.specs.Data.{unsigned}
+use Rattle.serde_json.specs.Read.{number_of}
+use Rattle.wire_json.proofs.FlatObjects.{whole_number}
+
+all_prefix : (s : List ℕ) → all_ascii_digits s ≡ true → prefix_len is_ascii_digit s ≡ length s
+all_prefix [] h = refl
+all_prefix (c ∷ s) h = go (is_ascii_digit c) refl h (all_prefix s)
+  where
+    go : (t : Bool) → is_ascii_digit c ≡ t → t && all_ascii_digits s ≡ true
+        → (all_ascii_digits s ≡ true → prefix_len is_ascii_digit s ≡ length s)
+        → prefix_len is_ascii_digit (c ∷ s) ≡ length (c ∷ s)
+    go true is h more = rw is (omega (arith, more h))
+    go false is h more = cc
+
+beyond : (s : List ℕ) → get_or s (length s) 0 ≡ 0
+beyond s = grind (arith, common_steps)
+
+abbrev whole_text : List ℕ → Parts
+whole_text s = record { whole = s; point = false; fraction = []; exponent_negative = false; exponent = []; len = length s }
+
+scanned : (s : List ℕ) → all_ascii_digits s ≡ true → scan_numeral s ≡ whole_text s
+unfolding scan_numeral
+scanned s h =
+    let all : 0 + prefix_len is_ascii_digit s ≡ length s = omega (arith, all_prefix s h) in
+    let front : take (length s - 0) s ≡ s = take_all (length s - 0) s (omega arith) in
+    rw all (rw (beyond s) (rw front (rw (beyond s) refl)))
+
+not_minus : (s : List ℕ) → all_ascii_digits s ≡ true → 0 < length s → (slice_index s 0 == 45) ≡ false
+not_minus [] h some = absurd (omega (arith, some))
+not_minus (c ∷ s) h some = go (c == 45) refl
+  where
+    go : (t : Bool) → (c == 45) ≡ t → t ≡ false
+    go true e =
+        let no : is_ascii_digit 45 && all_ascii_digits s ≡ true =
+        subst (λ d. is_ascii_digit d && all_ascii_digits s ≡ true) (eqb-true c 45 e) h in
+        cc
+    go false e = refl
+
+pub digits_number : (s : List ℕ) (n : ℕ) → all_ascii_digits s ≡ true → 0 < length s → n < 2 ^ 64 → n ≡ digits_value 10 s
+    → number_of s ≡ Some (unsigned n)
+digits_number s n h some few is =
+    let e : scan_numeral s ≡ whole_text s = scanned s h in
+    let value : n ≡ digits_value 10 (s ++ []) = is ∙ ap (digits_value 10) (sym (append-nil s)) in
+    whole_number s (Some n) (not_minus s h some)
+    (subst (λ (p : Parts). (IsInteger p × (digits_of p < 2 ^ 64)) × (n ≡ digits_of p)) (sym e)
+    (((some, refl, refl), subst (λ m. m < 2 ^ 64) value few), value))
