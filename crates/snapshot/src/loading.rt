@@ -40,8 +40,8 @@ pub fn load(alloc: Global, bytes: &[u8], site: Site) -> Result<Replica, Refusal>
 ///
 /// Refused with `BadSnapshot` exactly where they stand for none, and with `Memory` in the place of any answer. Takes time in
 /// proportion to the bytes, and the steps of `Doc::integrate` for each operation: a logarithmic number. A text that is spelled as
-/// `save` and `write_op` spell, but for spaces, is read token by token, with as many bytes of memory as it has beside the document;
-/// any other, and one that stands for no log, is then read anew as a JSON value, which is in memory as a whole.
+/// `save` and `write_op` spell, but for spaces and escapes, is read byte by byte, with no memory beside the document; any other, and
+/// one that stands for no log, is then read anew as a JSON value, which is in memory as a whole.
 pub fn load_doc(alloc: Global, bytes: &[u8]) -> Result<Doc, Refusal>
     ensures stands { IfOk result (λ doc. StandsFor bytes.now doc.log) }
     ensures unreserved { IfOk result (λ doc. doc.room ≡ 0) }

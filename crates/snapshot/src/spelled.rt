@@ -1,4 +1,4 @@
-//! A snapshot loaded token by token, with no tree, where it is spelled as servers spell it.
+//! A snapshot loaded byte by byte, with no tree, where it is spelled as servers spell it.
 ghost use Rattle.std.specs.Prelude.{◌≡◌, ◌≤◌, ◌+◌, ◌-◌, [], ◌∷◌, ◌++◌, true, length, sum, IfOk, IfErr, IfSome};
 ghost use Rattle.std.specs.Str.{chars};
 ghost use Rattle.opid.specs.declared.refusal.Refusal.TheVariants.{Memory};
@@ -8,19 +8,16 @@ ghost use Rattle.snapshot.specs.Snapshot.{StandsFor};
 ghost use Rattle.snapshot.specs.Coming.{ReadsFormat, ReadsLog, TellsLog};
 
 use crate::loading::append;
+use arrayvec::ArrayString;
 use causal_clock::{MAX_SUM, Op};
-use json::{Reader, Scratch, Token};
 use opid::Refusal;
 use std::alloc::Global;
 use std::str;
 use versions::{Doc, MAX_OPERATIONS};
-use wire_json::{
-    is_over, next_number, next_op, rest_of_item, take_begin_array, take_end_object, take_key,
-};
+use wire_json::{PlainReader, behind_first, next_op, rest_of_item};
 
 /// The document over the log that the bytes stand for, where `format` comes before `ops`, of which each object is spelled as
-/// `rest_of_item` reads it, and the log is one. None otherwise, also where there is no memory for the text. An error is for want
-/// of memory.
+/// `rest_of_item` reads it, and the log is one. None otherwise. An error is for want of memory.
 pub(crate) fn read_spelled(alloc: Global, bytes: &[u8]) -> Result<Option<Doc>, Refusal>
     ensures stands { IfOk result (λ r. IfSome r (λ doc. StandsFor bytes.now doc.log)) }
     ensures unreserved { IfOk result (λ r. IfSome r (λ doc. doc.room ≡ 0)) }
@@ -29,10 +26,7 @@ pub(crate) fn read_spelled(alloc: Global, bytes: &[u8]) -> Result<Option<Doc>, R
     let Ok(text) = str::from_utf8(bytes) else {
         return Ok(None);
     };
-    let mut scratch = Scratch::new(alloc);
-    let Ok(mut reader) = Reader::new(text, &mut scratch) else {
-        return Ok(None);
-    };
+    let mut reader = PlainReader::new(text);
     match read_members(alloc, &mut reader)? {
         Some(doc) => {
             prove!(doc.version() <= 131_072);
@@ -43,37 +37,34 @@ pub(crate) fn read_spelled(alloc: Global, bytes: &[u8]) -> Result<Option<Doc>, R
 }
 
 // The document of the one object that the reader has.
-fn read_members(alloc: Global, reader: &mut Reader<'_>) -> Result<Option<Doc>, Refusal>
+fn read_members(alloc: Global, reader: &mut PlainReader<'_>) -> Result<Option<Doc>, Refusal>
     ensures told { IfOk result (λ r. IfSome r (λ doc. ReadsLog reader.old doc.log)) }
     ensures unreserved { IfOk result (λ r. IfSome r (λ doc. doc.room ≡ 0)) }
     ensures memory { IfErr result (λ e. e ≡ Memory) }
 {
-    let Some(Token::BeginObject) = reader.next() else {
-        return Ok(None);
-    };
-    if !take_key(reader, "format") {
+    if !reader.take_begin_object() || !reader.take_key("format") {
         return Ok(None);
     }
     let Some(runs) = next_format(reader) else {
         return Ok(None);
     };
-    if !take_key(reader, "ops") || !take_begin_array(reader) {
+    if !reader.take_key("ops") || !reader.take_begin_array() {
         return Ok(None);
     }
     let Some(doc) = rest_of_log(alloc, reader, runs)? else {
         return Ok(None);
     };
-    if !take_end_object(reader) || !is_over(reader) {
+    if !reader.take_end_object() || !reader.is_over() {
         return Ok(None);
     }
     Ok(Some(doc))
 }
 
 // Whether the next value is the format that has runs, where it is one of both.
-fn next_format(reader: &mut Reader<'_>) -> Option<bool>
+fn next_format(reader: &mut PlainReader<'_>) -> Option<bool>
     ensures { IfSome result (λ runs. ReadsFormat reader.old runs reader.new) }
 {
-    match next_number(reader)? {
+    match reader.next_number()? {
         1 => Some(false),
         2 => Some(true),
         _ => None,
@@ -81,27 +72,32 @@ fn next_format(reader: &mut Reader<'_>) -> Option<bool>
 }
 
 // The document of the objects up to the closing bracket of their list, whose opening one was taken.
-fn rest_of_log(alloc: Global, reader: &mut Reader<'_>, runs: bool) -> Result<Option<Doc>, Refusal>
+fn rest_of_log(
+    alloc: Global,
+    reader: &mut PlainReader<'_>,
+    runs: bool,
+) -> Result<Option<Doc>, Refusal>
     ensures told { IfOk result (λ r. IfSome r (λ doc. TellsLog runs reader.old doc.log (end_array ∷ reader.new))) }
     ensures unreserved { IfOk result (λ r. IfSome r (λ doc. doc.room ≡ 0)) }
     ensures memory { IfErr result (λ e. e ≡ Memory) }
 {
     let mut doc = Doc::new(alloc);
+    let mut text = ArrayString::new();
     for _ in 0..=MAX_OPERATIONS {
-        match reader.next() {
-            Some(Token::EndArray) => return Ok(Some(doc)),
-            Some(Token::BeginObject) => {
-                let Some(item) = rest_of_item(reader) else {
-                    return Ok(None);
-                };
-                if item.is_run && !runs {
-                    return Ok(None);
-                }
-                if !append_run(&mut doc, &item.first, item.more)? {
-                    return Ok(None);
-                }
-            }
-            _ => return Ok(None),
+        if reader.take_end_array() {
+            return Ok(Some(doc));
+        }
+        if !reader.take_begin_object() {
+            return Ok(None);
+        }
+        let Some(item) = rest_of_item(reader, &mut text) else {
+            return Ok(None);
+        };
+        if item.is_run && !runs {
+            return Ok(None);
+        }
+        if !append_run(&mut doc, &item.first, behind_first(text.as_str()))? {
+            return Ok(None);
         }
     }
     Ok(None)

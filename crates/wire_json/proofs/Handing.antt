@@ -1,7 +1,7 @@
 -- The operations that tokens hand over, one object after another.
 use Rattle.std.proofs.Common.{◌≡◌, ℕ, suc, Bool, List, [], ◌∷◌, ◌++◌, Some, Result, Ok, Err, refl, sym, ap, subst, ◌∙◌, take, codes}
 use Rattle.std.proofs.lemmas.List.{flat_map_more}
-use Rattle.json.specs.Token.{Token, begin_object, end_object, begin_array, end_array, key, string as text}
+use Rattle.json.specs.Token.{Token, begin_object, end_object, begin_array, end_array, key}
 use Rattle.serde_json.specs.Data.{Data, array, object, string, no_members}
 use Rattle.opid.specs.declared.refusal.Refusal.{Refusal}
 use Rattle.opid.specs.Operations.{Operation}
@@ -13,7 +13,7 @@ use Rattle.wire_json.specs.Packing.{typed_behind}
 use Rattle.wire_json.specs.PackedOperations.{ItemOffer, item_offer_of, item_sited, item_operations, item_ops_of, concatenated, handed_over}
 use Rattle.wire_json.specs.Coming.{Comes, TellsItems, ReadsItem, items_of, put_entries}
 use Rattle.wire_json.specs.Handed.{TellsOps, ReadsOps, ReadsPut}
-use Rattle.wire_json.proofs.Come.{string_comes, array_comes, object_comes, one_more_item}
+use Rattle.wire_json.proofs.Come.{array_comes, object_comes, one_more_item}
 use Rattle.wire_json.proofs.Spelling.{each_more}
 use Rattle.wire_json.proofs.Spelt.{told_back}
 use Rattle.wire_json.proofs.Unfolding.{kept_on}
@@ -96,12 +96,10 @@ pub whole : (all : List Token) (d : Data) → Comes 6 all d [] → value_of_toke
 whole all d c = ap lone_value (c.read 121) ∙ c.is
 
 pub put_read : (all a b c d e f : List Token) (ops : List Operation) → all ≡ begin_object ∷ a → a ≡ key (codes "t") ∷ b
-    → b ≡ text (codes "put") ∷ c → c ≡ key (codes "ops") ∷ d → ReadsOps d ops e → e ≡ end_object ∷ f → f ≡ [] → ReadsPut all ops
-put_read all a b c d e f ops opened first kind second r closed over =
+    → Comes 1 b (string (codes "put")) c → c ≡ key (codes "ops") ∷ d → ReadsOps d ops e → e ≡ end_object ∷ f → f ≡ [] → ReadsPut all ops
+put_read all a b c d e f ops opened first told second r closed over =
     let value : Data = object (put_entries ((codes "t", string (codes "put")) ∷ (codes "ops", array (items_of r.values)) ∷ []) no_members) in
     let last : e ≡ end_object ∷ [] = closed ∙ ap (λ ts. end_object ∷ ts) over in
-    let told : Comes 1 b (string (codes "put")) c =
-    subst (λ ts. Comes 1 ts (string (codes "put")) c) (sym kind) (string_comes (codes "put") c) in
     record {
       value = value;
       is = whole all value (subst (λ ts. Comes 6 ts value []) (sym opened) (object_comes 5 a

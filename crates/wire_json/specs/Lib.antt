@@ -7,6 +7,7 @@ pub mod PackedOperations
 pub mod Text
 pub mod Written
 pub mod Flat
+pub mod Plain
 pub mod Coming
 pub mod Request
 pub mod Handed

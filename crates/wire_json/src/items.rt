@@ -1,5 +1,5 @@
 //! Reading operation objects and run objects: the fields of all, then the sites of all, then the clocks of all.
-ghost use Rattle.std.specs.Prelude.{◌≡◌, ◌≤◌, ◌<◌, ◌+◌, ◌++◌, ◌⊎◌, [], ◌∷◌, Ok, Err, List, length, sum, take, option_map};
+ghost use Rattle.std.specs.Prelude.{◌≡◌, ◌≤◌, ◌<◌, ◌+◌, ◌++◌, ◌⊎◌, [], ◌∷◌, Ok, Err, List, length, sum, take, drop, option_map};
 ghost use Rattle.std.specs.Prelude.{IfOk, IfErr, IfSome, IfNone, OnOk};
 ghost use Rattle.std.specs.Str.{chars};
 ghost use Rattle.serde_json.specs.View.{view, items_view};
@@ -132,6 +132,7 @@ fn read_run<'v>(value: &'v Value) -> Result<ItemOffer<'v>, Refusal>
 // The first character of a text of 2 to 64, and the text behind it.
 pub(crate) fn split_run<'v>(text: &'v str) -> Option<(char, &'v str)>
     ensures told { or_refuse BadField (option_map (λ p. (p.0, chars p.1.now)) result) ≡ run_chars (chars text.now) }
+    ensures behind { IfSome result (λ p. chars p.1.now ≡ drop 1 (chars text.now)) }
     ensures few { IfSome result (λ p. length (chars p.1.now) < 64) }
 {
     let count = count_characters(text);
@@ -139,6 +140,16 @@ pub(crate) fn split_run<'v>(text: &'v str) -> Option<(char, &'v str)>
         return None;
     }
     split_first(text)
+}
+
+/// The text behind the first character of a text. Constant time.
+pub fn behind_first(text: &str) -> &str
+    ensures { chars result.now ≡ drop 1 (chars text.now) }
+{
+    match split_first(text) {
+        Some((_, more)) => more,
+        None => no_text(),
+    }
 }
 
 // The first character of a text, and the text behind it.

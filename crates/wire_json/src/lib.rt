@@ -11,12 +11,13 @@ mod opening;
 mod operation_writing;
 mod operations;
 mod packing;
+mod plain;
 mod reading;
 mod spelled;
 mod tokens;
 mod writing;
 
-pub use items::{next_op, read_item_ops};
+pub use items::{behind_first, next_op, read_item_ops};
 pub use laws::{
     different_operations, different_packed_operations, different_replies, operations_read_back,
     packed_operations_read_back, packing_unfolds,
@@ -25,10 +26,9 @@ pub use opening::read_open;
 pub use operation_writing::{check_op, write_op};
 pub use operations::{check_site, read_list, read_op};
 pub use packing::{Item, write_item};
+pub use plain::{MAX_TEXT, PlainReader};
 pub use reading::{
     MAX_REQUEST_BYTES, RequestReader, check_keys, read_number, read_request, read_value,
 };
-pub use spelled::{
-    SpelledItem, is_over, next_number, rest_of_item, take_begin_array, take_end_object, take_key,
-};
+pub use spelled::{SpelledItem, rest_of_item};
 pub use writing::write_reply;

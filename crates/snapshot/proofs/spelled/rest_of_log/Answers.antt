@@ -1,7 +1,7 @@
-use Rattle.std.proofs.Common.{◌≡◌, ◌∷◌, ◌∙◌, false, ap, subst}
+use Rattle.std.proofs.Common.{◌≡◌, ◌++◌, ◌∷◌, ◌∙◌, false, List, ℕ, ap, sym, subst, drop}
 use Rattle.std.specs.Str.{chars}
-use Rattle.json.specs.Reads.{token_of}
 use Rattle.versions.specs.Document.{Document}
+use Rattle.wire_json.specs.Packing.{typed_behind}
 use Rattle.snapshot.specs.Coming.{TellsLog}
 use Rattle.snapshot.proofs.Telling.{no_log, log_more}
 use Rattle.snapshot.proofs.spelled.rest_of_log.Goals as goal
@@ -16,21 +16,26 @@ loop-init c = record {
 pub loop-preserved : goal.loop-preserved
 loop-preserved c =
     let item = c.in-Some.item in
-    let appended = c.in_ok-append_run-in-Some-BeginObject.ensures in
+    let appended = c.in_ok-append_run.ensures in
     let single : c.args.runs ≡ false → item.is_run ≡ false =
     elim c.else-item.branch [
       | else-item-via-then-item+else-not-runs w ↦ λ no. (let yes = w.if-not-runs.false in cc)
       | else-item-via-else-item w ↦ λ no. w.if-item.false
     ] in
+    let more = drop 1 (chars c.rest_of_item.new.into.bytes) in
+    let behind : chars c.behind_first.result.now ≡ more =
+    c.behind_first.ensures ∙ ap (λ (bs : List ℕ). drop 1 (chars bs)) c.as_str.ensures.value in
     record {
-      told = log_more c.args.runs c.args.reader.now c.loop.reader c.next.new.self c.rest_of_item.new.reader c.loop.doc.log
-          c.append_run.new.doc.log item.first (chars item.more.now) item.is_run c.loop.invariant.told
-          (c.in-Some-BeginObject.ensures.value ∙ ap (λ t. token_of t ∷ c.next.new.self) c.in-Some-BeginObject.field-0-is)
-          c.in-Some.ensures.told single c.in-Some.ensures.alone (appended.grown c.if-not-branch.false);
+      told = log_more c.args.runs c.args.reader.now c.loop.reader c.take_begin_object.new.self c.rest_of_item.new.reader c.loop.doc.log
+          c.append_run.new.doc.log item.first more item.is_run c.loop.invariant.told
+          (sym (c.take_end_array.ensures.no c.if-take_end_array.false) ∙ c.take_begin_object.ensures.yes c.if-not-take_begin_object.false)
+          c.in-Some.ensures.told single c.in-Some.ensures.alone
+          (appended.grown c.if-not-branch.false
+          ∙ ap (λ (cs : List ℕ). c.loop.doc.log ++ (item.first ∷ typed_behind item.first cs)) behind);
       unreserved = appended.unreserved c.if-not-branch.false c.loop.invariant.unreserved;
     }
 
-pub returns-in-Some-EndArray-clause-told : goal.returns-in-Some-EndArray-clause-told
-returns-in-Some-EndArray-clause-told c =
-    subst (TellsLog c.args.runs c.args.reader.now c.loop.doc.log)
-    (c.in-Some-EndArray.ensures.value ∙ ap (λ t. token_of t ∷ c.next.new.self) c.in-Some-EndArray.field-0-is) c.loop.invariant.told
+pub returns-then-take_end_array-clause-told : goal.returns-then-take_end_array-clause-told
+returns-then-take_end_array-clause-told c =
+    subst (TellsLog c.args.runs c.args.reader.now c.loop.doc.log) (c.take_end_array.ensures.yes c.if-take_end_array.true)
+    c.loop.invariant.told

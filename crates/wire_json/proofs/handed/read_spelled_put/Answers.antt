@@ -9,12 +9,12 @@ use Rattle.wire_json.proofs.handed.read_spelled_put.Goals as goal
 
 pub returns-in-Some-clause-told : goal.returns-in-Some-clause-told
 returns-in-Some-clause-told c =
-    let read : ReadsPut c.in-Ok-new.reader c.in-Some.ops.items =
-    subst (λ o. IfSome o (λ ops. ReadsPut c.in-Ok-new.reader ops.items)) c.in-Some.is c.in_ok-ops.ensures.told in
+    let read : ReadsPut c.new-reader.result c.in-Some.ops.items =
+    subst (λ o. IfSome o (λ ops. ReadsPut c.new-reader.result ops.items)) c.in-Some.is c.in_ok-ops.ensures.told in
     record {
       value = read.value;
       is = json_read c.args.bytes.now read.value c.in-Ok.ensures.cases.1
           (subst (λ (ts : List Token). value_of_tokens ts ≡ Some read.value)
-          (c.in-Ok-new.ensures.ok ∙ ap tokens c.in-Ok.ensures.cases.0) read.is);
+          (c.new-reader.ensures ∙ ap tokens c.in-Ok.ensures.cases.0) read.is);
       asks = read.asks;
     }

@@ -1,5 +1,5 @@
 -- The text behind a character begins where a character does.
-use Rattle.std.proofs.Common.{◌≡◌, ℕ, ◌∙◌, ◌+◌, ◌++◌, List, [], ◌∷◌, ap, sym, refl, subst, length, drop, arith}
+use Rattle.std.proofs.Common.{◌≡◌, ℕ, ◌∙◌, ◌++◌, List, [], ◌∷◌, ap, sym, refl, subst, length, drop, arith}
 use Rattle.std.specs.Str.{IsCharBoundary, chars}
 use lib.Utf8.{encode}
 use Rattle.std.proofs.lemmas.Str.{chars-nil, chars_past_char, drop_past_char, length-encode, IsCharBoundary-at_seam, IsUtf8-past_char}

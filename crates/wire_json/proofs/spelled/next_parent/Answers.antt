@@ -1,11 +1,9 @@
-use Rattle.std.proofs.Common.{◌∷◌, ◌∙◌, None, ap, sym, subst}
-use Rattle.json.specs.Reads.{token_of}
+use Rattle.std.proofs.Common.{None, sym, subst}
 use Rattle.wire_json.specs.Coming.{ReadsParent}
 use Rattle.wire_json.proofs.Spelling.{no_parent}
 use Rattle.wire_json.proofs.spelled.next_parent.Goals as goal
 
-pub returns-in-Some-Null : goal.returns-in-Some-Null
-returns-in-Some-Null c =
-    subst (λ ts. ReadsParent ts None c.next.new.self)
-    (sym (c.in-Some-Null.ensures.value ∙ ap (λ t. token_of t ∷ c.next.new.self) c.in-Some-Null.field-0-is))
-    (no_parent c.next.new.self)
+pub returns-then-take_null : goal.returns-then-take_null
+returns-then-take_null c =
+    subst (λ ts. ReadsParent ts None c.take_null.new.self) (sym (c.take_null.ensures.yes c.if-take_null.true))
+    (no_parent c.take_null.new.self)

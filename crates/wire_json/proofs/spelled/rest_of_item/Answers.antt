@@ -1,40 +1,46 @@
-use Rattle.std.proofs.Common.{◌≡◌, [], true, false, Option, Some, None, refl, subst}
-use Rattle.std.specs.Prelude.{IfSome}
+use Rattle.std.proofs.Common.{◌≡◌, ◌∙◌, [], false, List, ℕ, refl, sym, ap, subst, drop, length, arith}
 use Rattle.std.specs.Str.{chars}
-use Rattle.wire_json.specs.declared.spelled.SpelledItem.{SpelledItem}
+use Rattle.std.proofs.lemmas.Str.{chars-nil}
 use Rattle.serde_json.specs.Data as tree
-use Rattle.wire_json.specs.Coming.{Comes, ReadsRun, ReadsItem}
+use Rattle.wire_json.specs.Coming.{Comes}
 use Rattle.wire_json.proofs.Spelt.{insertion_item, run_item, deletion_item, item_as}
 use Rattle.wire_json.proofs.spelled.rest_of_item.Goals as goal
 
-pub returns-in-r-clause-told : goal.returns-in-r-clause-told
-returns-in-r-clause-told c = go c.rest_of_run.result c.rest_of_run.ensures.told c.rest_of_run.ensures.clock c.rest_of_run.ensures.run
-  where
-    go : (r : Option SpelledItem) → IfSome r (λ i. ReadsRun c.next_text.new.reader i.first (chars i.more.now) c.rest_of_run.new.reader)
-        → IfSome r (λ i. i.first.clock ≡ c.in_ok-clock.clock) → IfSome r (λ i. i.is_run ≡ true)
-        → IfSome r (λ i. ReadsItem c.args.reader.now i.first (chars i.more.now) i.is_run c.rest_of_run.new.reader)
-    go (Some i) told clock run =
-        item_as c.args.reader.now i.first i.first (chars i.more.now) (chars i.more.now) true i.is_run c.rest_of_run.new.reader refl refl run
-        (run_item c.args.reader.now c.next_clock.new.reader c.take_key.new.reader c.next_text.new.reader c.rest_of_run.new.reader
-        c.in_ok-clock.clock i.first (chars i.more.now) c.in_ok-clock.ensures (c.take_key.ensures c.if-not-take_key.false)
-        (subst (λ s. Comes 1 c.take_key.new.reader (tree.string s) c.next_text.new.reader) c.in-r.is c.in-Some.ensures)
-        told clock)
-    go None told clock run = tt
+pub returns-then-is_one-clause-told : goal.returns-then-is_one-clause-told
+returns-then-is_one-clause-told c =
+    let letter = sym c.as_str.ensures.value ∙ c.is_one.ensures c.if-is_one.true in
+    item_as c.args.reader.now c.in_ok-first.first c.in_ok-first.first [] (drop 1 (chars c.rest_of_insertion.new.into.bytes)) false false
+    c.rest_of_insertion.new.reader refl (sym c.in_ok-first.ensures.alone) refl
+    (insertion_item c.args.reader.now c.next_clock.new.reader c.take_key.new.self c.next_text.new.self c.rest_of_insertion.new.reader
+    c.in_ok-clock.clock c.in_ok-first.first c.in_ok-clock.ensures (c.take_key.ensures.yes c.if-not-take_key.false)
+    (subst (λ s. Comes 1 c.take_key.new.self (tree.string s) c.next_text.new.self) letter (c.next_text.ensures c.if-not-next_text.false))
+    c.in_ok-first.ensures.told c.in_ok-first.ensures.clock)
 
-pub returns-in_ok-first-in-i-clause-told : goal.returns-in_ok-first-in-i-clause-told
-returns-in_ok-first-in-i-clause-told c =
-    item_as c.args.reader.now c.in_ok-first-in-i.first c.lone.result.first [] (chars c.lone.result.more.now) false c.lone.result.is_run
-    c.rest_of_insertion.new.reader c.lone.ensures.first c.lone.ensures.more c.lone.ensures.run
-    (insertion_item c.args.reader.now c.next_clock.new.reader c.take_key.new.reader c.next_text.new.reader c.rest_of_insertion.new.reader
-    c.in_ok-clock.clock c.in_ok-first-in-i.first c.in_ok-clock.ensures (c.take_key.ensures c.if-not-take_key.false)
-    (subst (λ s. Comes 1 c.take_key.new.reader (tree.string s) c.next_text.new.reader) c.in-i.is c.in-Some.ensures)
-    c.in_ok-first-in-i.ensures.told c.in_ok-first-in-i.ensures.clock)
+pub returns-then-is_one-2-clause-told : goal.returns-then-is_one-2-clause-told
+returns-then-is_one-2-clause-told c =
+    let letter = sym c.as_str-2.ensures.value ∙ c.is_one-2.ensures c.if-is_one-2.true in
+    run_item c.args.reader.now c.next_clock.new.reader c.take_key.new.self c.next_text.new.self c.rest_of_run.new.reader
+    c.in_ok-clock.clock c.in_ok-first-2.first (drop 1 (chars c.rest_of_run.new.into.bytes)) c.in_ok-clock.ensures
+    (c.take_key.ensures.yes c.if-not-take_key.false)
+    (subst (λ s. Comes 1 c.take_key.new.self (tree.string s) c.next_text.new.self) letter (c.next_text.ensures c.if-not-next_text.false))
+    c.in_ok-first-2.ensures.told c.in_ok-first-2.ensures.clock
 
-pub returns-in_ok-first-in-d-clause-told : goal.returns-in_ok-first-in-d-clause-told
-returns-in_ok-first-in-d-clause-told c =
-    item_as c.args.reader.now c.in_ok-first-in-d.first c.lone-in-d.result.first [] (chars c.lone-in-d.result.more.now) false
-    c.lone-in-d.result.is_run c.rest_of_deletion.new.reader c.lone-in-d.ensures.first c.lone-in-d.ensures.more c.lone-in-d.ensures.run
-    (deletion_item c.args.reader.now c.next_clock.new.reader c.take_key.new.reader c.next_text.new.reader c.rest_of_deletion.new.reader
-    c.in_ok-clock.clock c.in_ok-first-in-d.first c.in_ok-clock.ensures (c.take_key.ensures c.if-not-take_key.false)
-    (subst (λ s. Comes 1 c.take_key.new.reader (tree.string s) c.next_text.new.reader) c.in-d.is c.in-Some.ensures)
-    c.in_ok-first-in-d.ensures.told c.in_ok-first-in-d.ensures.clock)
+nothing : (bytes : List ℕ) → bytes ≡ [] → drop 1 (chars bytes) ≡ []
+nothing bytes e = ap (λ bs. drop 1 (chars bs)) e ∙ ap (drop 1) chars-nil
+
+pub returns-clause-told : goal.returns-clause-told
+returns-clause-told c =
+    let letter = sym c.as_str-3.ensures.value ∙ c.is_one-3.ensures c.if-not-is_one.false in
+    item_as c.args.reader.now c.in_ok-first-3.first c.in_ok-first-3.first [] (drop 1 (chars c.clear.new.self.bytes)) false false
+    c.rest_of_deletion.new.reader refl (nothing c.clear.new.self.bytes c.clear.ensures) refl
+    (deletion_item c.args.reader.now c.next_clock.new.reader c.take_key.new.self c.next_text.new.self c.rest_of_deletion.new.reader
+    c.in_ok-clock.clock c.in_ok-first-3.first c.in_ok-clock.ensures (c.take_key.ensures.yes c.if-not-take_key.false)
+    (subst (λ s. Comes 1 c.take_key.new.self (tree.string s) c.next_text.new.self) letter (c.next_text.ensures c.if-not-next_text.false))
+    c.in_ok-first-3.ensures.told c.in_ok-first-3.ensures.clock)
+
+pub returns-clause-alone : goal.returns-clause-alone
+returns-clause-alone c = λ _. nothing c.clear.new.self.bytes c.clear.ensures
+
+pub returns-clause-counted : goal.returns-clause-counted
+returns-clause-counted c =
+    omega (arith, ap (length {A = ℕ}) (nothing c.clear.new.self.bytes c.clear.ensures), c.in_ok-first-3.ensures.told.few)

@@ -1,0 +1,37 @@
+-- What is left of a JSON text that is read byte by byte, as tokens (RFC 8259). No public clause cites this: it is the code's alone.
+use Rattle.std.specs.Prelude.{◌≡◌, ◌≤◌, ◌<◌, ◌^◌, ◌+◌, ℕ, List, ◌∷◌, length, drop, Bool, true, nat_le, ◌&&◌, not, ◌==◌, Some}
+use Rattle.json.specs.Token.{Token, number}
+use Rattle.json.specs.Text.{content, plain}
+use Rattle.json.specs.Lex.{Place, fresh, after_value, after_comma, between, in_string, lex, punctuate, may_begin}
+use Rattle.serde_json.specs.Data.{unsigned}
+use Rattle.serde_json.specs.Read.{number_of}
+use Rattle.wire_json.specs.declared.plain.Place as standing
+use Rattle.wire_json.specs.declared.plain.Place.TheVariants.{Fresh, AfterValue, AfterComma}
+
+-- the tokens of the bytes, behind such a place
+abbrev pub tokens_behind : Place → List ℕ → List Token
+tokens_behind p bytes = punctuate p (lex between bytes)
+
+-- where a reader stands
+abbrev pub spot_of : standing.Place → Place
+spot_of Fresh = fresh
+spot_of AfterValue = after_value
+spot_of AfterComma = after_comma
+
+-- the byte stands for itself in a text: it is no quote, no backslash and no control character
+abbrev pub is_plain : ℕ → Bool
+is_plain x = nat_le 32 x && not (x == 34) && not (x == 92)
+
+-- a number is written from a place of the bytes on to another one
+pub record WritesNumber (bytes : List ℕ) (at : ℕ) (n : ℕ) (end : ℕ) : Type 0 where
+  pub text : List ℕ
+  pub first : (p : Place) → may_begin p ≡ true → tokens_behind p (drop at bytes) ≡ number text ∷ tokens_behind after_value (drop end bytes)
+  pub value : number_of text ≡ Some (unsigned n)
+  pub small : n < 2 ^ 32
+  pub within : end ≤ length bytes
+
+-- from a place of the bytes on, behind its opening quote, a text stands that tells these bytes, and its closing quote at another place
+pub record WritesText (bytes : List ℕ) (at : ℕ) (told : List ℕ) (end : ℕ) : Type 0 where
+  pub is : content plain (drop at bytes) ≡ Some told
+  pub closed : lex in_string (drop at bytes) ≡ lex between (drop (end + 1) bytes)
+  pub within : end < length bytes

@@ -1,0 +1,431 @@
+//! A JSON text read byte by byte, as far as it is plain: whole numbers of at most nine digits, texts of at most 256 bytes whose
+//! escapes have no code points, lists, objects and `null`, with any spaces but before a colon. What isn't plain is read elsewhere.
+ghost use Rattle.std.specs.Prelude.{◌≡◌, ◌≤◌, ◌<◌, ◌+◌, ◌^◌, ◌≢◌, [], ◌∷◌, true};
+ghost use Rattle.std.specs.Prelude.{false, length, take, drop, slice_index, Some, IfSome, ◌==◌, ◌-◌};
+ghost use Rattle.std.specs.List.{list_all};
+ghost use Rattle.std.specs.Str.{IsCharBoundary};
+ghost use Rattle.json.specs.Token.{begin_object, end_object, begin_array, end_array, key, null};
+ghost use Rattle.json.specs.Lex.{Place as Spot, after_value, may_begin, may_close, between, lex, begins_colon, tokens};
+ghost use Rattle.json.specs.Word.{is_space, ends_word};
+ghost use Rattle.json.specs.Text.{short_escape};
+ghost use Rattle.serde_json.specs.Data as tree;
+ghost use Rattle.serde_json.specs.Data.{unsigned};
+ghost use Rattle.wire_json.specs.Coming.{Comes};
+ghost use Rattle.wire_json.specs.Plain.{tokens_behind, spot_of, is_plain, WritesNumber, WritesText};
+
+use crate::flat::few_digits;
+use arrayvec::ArrayString;
+use std::marker::Model;
+
+/// The most bytes of a text that is read here: 64 characters fit.
+pub const MAX_TEXT: usize = 256;
+
+// Where a reader stands.
+#[derive(Clone, Copy, Drop)]
+pub(crate) enum Place {
+    Fresh,
+    AfterValue,
+    AfterComma,
+}
+
+impl Place {
+    fn may_begin(self) -> bool
+        ensures { result ≡ may_begin (spot_of self) }
+    {
+        !matches!(self, Place::AfterValue)
+    }
+
+    fn may_close(self) -> bool
+        ensures { result ≡ may_close (spot_of self) }
+    {
+        !matches!(self, Place::AfterComma)
+    }
+}
+
+/// What is left of a text. A clause sees its tokens.
+#[derive(Drop)]
+pub struct PlainReader<'a> {
+    text: &'a str,
+    at: usize,
+    place: Place,
+}
+
+impl<'a> Model for PlainReader<'a> {
+    ghost use Rattle.std.specs.Prelude.{List, ◌≤◌, length, drop};
+    ghost use Rattle.json.specs.Token.{Token as Sign, tokens_code};
+
+    ghost Value = { List Sign };
+
+    ghost coded = { tokens_code };
+
+    ghost use Rattle.wire_json.specs.Plain.{tokens_behind, spot_of};
+
+    ghost view = { λ r. tokens_behind (spot_of r.place) (drop r.at r.text.now) };
+
+    ghost invariant = { λ r. r.at ≤ length r.text.now };
+}
+
+// The byte at the place, 0 behind the last.
+#[inline(always)]
+fn peek(bytes: &[u8], at: usize) -> u8
+    ensures { result ≡ slice_index bytes.now at }
+{
+    if at < bytes.len() { bytes[at] } else { 0 }
+}
+
+#[inline(always)]
+fn is_space(byte: u8) -> bool
+    ensures { result ≡ is_space byte }
+{
+    byte == b' ' || byte == b'\t' || byte == b'\n' || byte == b'\r'
+}
+
+// Behind the spaces from a place on.
+#[inline(always)]
+fn behind_spaces(bytes: &[u8], at: usize) -> usize
+    requires { at ≤ length bytes.now }
+    ensures same { lex between (drop result bytes.now) ≡ lex between (drop at bytes.now) }
+    ensures within { result ≤ length bytes.now }
+{
+    let mut at = at;
+    while is_space(peek(bytes, at)) {
+        at += 1;
+    }
+    at
+}
+
+// Behind what stands between a value and what comes next, spaces and a comma if there is one, and where one stands then.
+#[inline(always)]
+fn behind_value(bytes: &[u8], at: usize) -> (usize, Place)
+    requires { at ≤ length bytes.now }
+    ensures same { tokens_behind (spot_of result.1) (drop result.0 bytes.now) ≡ tokens_behind after_value (drop at bytes.now) }
+    ensures within { result.0 ≤ length bytes.now }
+{
+    let end = behind_spaces(bytes, at);
+    if peek(bytes, end) == b',' {
+        (behind_spaces(bytes, end + 1), Place::AfterComma)
+    } else {
+        (end, Place::AfterValue)
+    }
+}
+
+// Whether a word ends at the place.
+#[inline(always)]
+fn is_word_end(bytes: &[u8], at: usize) -> bool
+    requires { at ≤ length bytes.now }
+    ensures { result ≡ true → ends_word (drop at bytes.now) ≡ true }
+{
+    at == bytes.len() || matches!(bytes[at], b',' | b']' | b'}' | b' ' | b'\n' | b'\r' | b'\t')
+}
+
+// Behind the digits from a place on.
+#[inline(always)]
+fn behind_digits(bytes: &[u8], at: usize) -> usize
+    requires { at ≤ length bytes.now }
+    ensures order { at ≤ result }
+    ensures within { result ≤ length bytes.now }
+{
+    let mut end = at;
+    while end < bytes.len() && bytes[end] >= b'0' && bytes[end] <= b'9' {
+        end += 1;
+    }
+    end
+}
+
+// The number of at most nine digits that is written from a place on, and the place behind it.
+#[inline(always)]
+fn number_at(bytes: &[u8], at: usize) -> Option<(u32, usize)>
+    requires { at ≤ length bytes.now }
+    ensures { IfSome result (λ p. WritesNumber bytes.now at p.0 p.1) }
+{
+    let end = behind_digits(bytes, at);
+    if !is_word_end(bytes, end) {
+        return None;
+    }
+    let digits = &bytes[at..end];
+    if digits.len() > 1 && digits[0] == b'0' {
+        return None;
+    }
+    match few_digits(digits) {
+        Some(n) => Some((n as u32, end)),
+        None => None,
+    }
+}
+
+#[inline(always)]
+fn is_plain(byte: u8) -> bool
+    ensures { result ≡ is_plain byte }
+{
+    byte >= 32 && byte != b'"' && byte != b'\\'
+}
+
+// Behind the bytes from a place on that stand for themselves.
+#[inline(always)]
+fn behind_plain(bytes: &[u8], at: usize) -> usize
+    requires { at ≤ length bytes.now }
+    ensures plain { list_all is_plain (take (result - at) (drop at bytes.now)) ≡ true }
+    ensures stops { result < length bytes.now → slice_index bytes.now result < 128 }
+    ensures order { at ≤ result }
+    ensures within { result ≤ length bytes.now }
+{
+    let mut end = at;
+    while end < bytes.len() && is_plain(bytes[end]) {
+        end += 1;
+    }
+    end
+}
+
+// The character that a backslash and the byte stand for, other than a code point.
+#[tactic(auto, unfolding(json::specs::Text::short_escape))]
+fn short_escape(byte: u8) -> Option<char>
+    ensures told { IfSome result (λ c. short_escape byte ≡ Some c) }
+    ensures small { IfSome result (λ c. c < 128) }
+    ensures ascii { IfSome result (λ c. (0 < byte) × (byte < 128)) }
+    ensures short { IfSome result (λ c. (byte == 117) ≡ false) }
+{
+    match byte {
+        b'"' => Some('"'),
+        b'\\' => Some('\\'),
+        b'/' => Some('/'),
+        b'n' => Some('\n'),
+        b't' => Some('\t'),
+        b'r' => Some('\r'),
+        b'b' => Some('\u{8}'),
+        b'f' => Some('\u{c}'),
+        _ => None,
+    }
+}
+
+// Puts in what a text tells from a place on, behind its opening quote, and gives the place of the closing one.
+fn text_at(text: &str, at: usize, into: &mut ArrayString<MAX_TEXT>) -> Option<usize>
+    requires within { at ≤ length text.now }
+    requires boundary { IsCharBoundary text.now at }
+    requires empty { into.old.bytes ≡ [] }
+    ensures { IfSome result (λ end. WritesText text.now at into.new.bytes end) }
+{
+    let bytes = text.as_bytes();
+    let mut at = at;
+    'parts: while at < bytes.len() {
+        let end = behind_plain(bytes, at);
+        let Ok(()) = into.try_push_str(&text[at..end]) else {
+            return None;
+        };
+        match peek(bytes, end) {
+            b'"' => return Some(end),
+            b'\\' => {
+                let ch = short_escape(peek(bytes, end + 1))?;
+                let Ok(()) = into.try_push(ch) else {
+                    return None;
+                };
+                at = end + 2;
+            }
+            _ => return None,
+        }
+    }
+    None
+}
+
+// Whether what ends a value comes next, behind spaces.
+#[inline(always)]
+fn is_value_end(bytes: &[u8], at: usize) -> bool
+    requires { at ≤ length bytes.now }
+    ensures { result ≡ true → begins_colon (lex between (drop at bytes.now)) ≡ false }
+{
+    let end = behind_spaces(bytes, at);
+    matches!(peek(bytes, end), b',' | b']' | b'}')
+}
+
+// Whether what stands behind an `n` makes it `null`.
+fn is_null_behind(bytes: &[u8], at: usize) -> bool
+    requires { at < length bytes.now }
+    ensures within { result ≡ true → at + 4 ≤ length bytes.now }
+    ensures told { result ≡ true → drop (at + 1) bytes.now ≡ 117 ∷ 108 ∷ 108 ∷ drop (at + 4) bytes.now }
+    ensures ended { result ≡ true → ends_word (drop (at + 4) bytes.now) ≡ true }
+{
+    let end = at + 4;
+    if end > bytes.len()
+        || bytes[at + 1] != b'u'
+        || bytes[at + 2] != b'l'
+        || bytes[at + 3] != b'l'
+    {
+        return false;
+    }
+    is_word_end(bytes, end)
+}
+
+// Whether the two are one.
+#[inline(always)]
+fn is_same(a: &[u8], b: &[u8]) -> bool
+    ensures { result ≡ true → a.now ≡ b.now }
+{
+    a == b
+}
+
+impl<'a> PlainReader<'a> {
+    /// What the whole text has. Passes its first spaces.
+    pub fn new(text: &'a str) -> PlainReader<'a>
+        ensures { result ≡ tokens text.now }
+    {
+        let at = behind_spaces(text.as_bytes(), 0);
+        PlainReader {
+            text,
+            at,
+            place: Place::Fresh,
+        }
+    }
+
+    /// Takes the bracket that opens a list, if it is next. Passes the spaces behind it.
+    #[inline(always)]
+    pub fn take_begin_array(&mut self) -> bool
+        ensures yes { result ≡ true → self.old ≡ begin_array ∷ self.new }
+        ensures no { result ≡ false → self.new ≡ self.old }
+    {
+        let bytes = self.text.as_bytes();
+        if !self.place.may_begin() || peek(bytes, self.at) != b'[' {
+            return false;
+        }
+        self.at = behind_spaces(bytes, self.at + 1);
+        self.place = Place::Fresh;
+        true
+    }
+
+    /// Takes the bracket that opens an object, if it is next. Passes the spaces behind it.
+    #[inline(always)]
+    pub fn take_begin_object(&mut self) -> bool
+        ensures yes { result ≡ true → self.old ≡ begin_object ∷ self.new }
+        ensures no { result ≡ false → self.new ≡ self.old }
+    {
+        let bytes = self.text.as_bytes();
+        if !self.place.may_begin() || peek(bytes, self.at) != b'{' {
+            return false;
+        }
+        self.at = behind_spaces(bytes, self.at + 1);
+        self.place = Place::Fresh;
+        true
+    }
+
+    /// Takes the bracket that closes a list, if it is next. Passes what stands between it and what is next.
+    #[inline(always)]
+    pub fn take_end_array(&mut self) -> bool
+        ensures yes { result ≡ true → self.old ≡ end_array ∷ self.new }
+        ensures no { result ≡ false → self.new ≡ self.old }
+    {
+        let bytes = self.text.as_bytes();
+        if !self.place.may_close() || peek(bytes, self.at) != b']' {
+            return false;
+        }
+        let (at, place) = behind_value(bytes, self.at + 1);
+        self.at = at;
+        self.place = place;
+        true
+    }
+
+    /// Takes the bracket that closes an object, if it is next. Passes what stands between it and what is next.
+    #[inline(always)]
+    pub fn take_end_object(&mut self) -> bool
+        ensures yes { result ≡ true → self.old ≡ end_object ∷ self.new }
+        ensures no { result ≡ false → self.new ≡ self.old }
+    {
+        let bytes = self.text.as_bytes();
+        if !self.place.may_close() || peek(bytes, self.at) != b'}' {
+            return false;
+        }
+        let (at, place) = behind_value(bytes, self.at + 1);
+        self.at = at;
+        self.place = place;
+        true
+    }
+
+    /// Takes `null`, if it is next. Passes what stands between it and what is next.
+    #[inline(always)]
+    pub fn take_null(&mut self) -> bool
+        ensures yes { result ≡ true → self.old ≡ null ∷ self.new }
+        ensures no { result ≡ false → self.new ≡ self.old }
+    {
+        let bytes = self.text.as_bytes();
+        if !self.place.may_begin()
+            || peek(bytes, self.at) != b'n'
+            || !is_null_behind(bytes, self.at)
+        {
+            return false;
+        }
+        let (at, place) = behind_value(bytes, self.at + 4);
+        self.at = at;
+        self.place = place;
+        true
+    }
+
+    /// Takes the key with its colon, if it is next. Passes the spaces behind it.
+    #[inline(always)]
+    pub fn take_key(&mut self, name: &str) -> bool
+        requires { list_all is_plain name.now ≡ true }
+        ensures yes { result ≡ true → self.old ≡ key name.now ∷ self.new }
+        ensures no { result ≡ false → self.new ≡ self.old }
+    {
+        let bytes = self.text.as_bytes();
+        if !self.place.may_begin()
+            || peek(bytes, self.at) != b'"'
+            || name.len() >= bytes.len() - self.at
+        {
+            return false;
+        }
+        let end = self.at + 1 + name.len();
+        if !is_same(&bytes[self.at + 1..end], name.as_bytes())
+            || peek(bytes, end) != b'"'
+            || peek(bytes, end + 1) != b':'
+        {
+            return false;
+        }
+        self.at = behind_spaces(bytes, end + 2);
+        self.place = Place::Fresh;
+        true
+    }
+
+    /// The next number, where it is a whole one of at most nine digits. Passes what stands between it and what is next.
+    #[inline(always)]
+    pub fn next_number(&mut self) -> Option<u32>
+        ensures { IfSome result (λ n. Comes 1 self.old (tree.number (unsigned n)) self.new × (n < 2 ^ 32)) }
+    {
+        let bytes = self.text.as_bytes();
+        if !self.place.may_begin() {
+            return None;
+        }
+        let Some((n, end)) = number_at(bytes, self.at) else {
+            return None;
+        };
+        let (at, place) = behind_value(bytes, end);
+        self.at = at;
+        self.place = place;
+        Some(n)
+    }
+
+    /// Puts in the next text, in place of what was there, where it has at most so many bytes and no code point is escaped in it.
+    /// Passes what stands between it and what is next.
+    #[inline(always)]
+    pub fn next_text(&mut self, into: &mut ArrayString<MAX_TEXT>) -> bool
+        ensures { result ≡ true → Comes 1 self.old (tree.string into.new.bytes) self.new }
+    {
+        let bytes = self.text.as_bytes();
+        into.clear();
+        if !self.place.may_begin() || peek(bytes, self.at) != b'"' {
+            return false;
+        }
+        let Some(end) = text_at(self.text, self.at + 1, into) else {
+            return false;
+        };
+        if !is_value_end(bytes, end + 1) {
+            return false;
+        }
+        let (at, place) = behind_value(bytes, end + 1);
+        self.at = at;
+        self.place = place;
+        true
+    }
+
+    /// Whether nothing is tokens_behind. Constant time.
+    pub fn is_over(&self) -> bool
+        ensures { result ≡ true → self.now ≡ [] }
+    {
+        self.at == self.text.len() && matches!(self.place, Place::AfterValue)
+    }
+}
