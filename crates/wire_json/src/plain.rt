@@ -422,7 +422,7 @@ impl<'a> PlainReader<'a> {
         true
     }
 
-    /// Whether nothing is tokens_behind. Constant time.
+    /// Whether nothing is left. Constant time.
     pub fn is_over(&self) -> bool
         ensures { result ≡ true → self.now ≡ [] }
     {

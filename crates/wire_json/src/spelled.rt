@@ -1,4 +1,4 @@
-//! Operation objects and run objects read token by token, with no tree, as servers spell them: with any spaces, but with just the keys
+//! Operation objects and run objects read byte by byte, with no tree, as servers spell them: with any spaces, but with just the keys
 //! of their kind, in the order of their bytes. What is spelled otherwise or would be refused isn't read here: it is read as a tree.
 ghost use Rattle.std.specs.Prelude.{◌≡◌, ◌≤◌, ◌<◌, ◌∷◌, ◌+◌, [], false, true, List, length, sum, take, drop, codes, IfSome};
 ghost use Rattle.std.specs.Str.{chars};
