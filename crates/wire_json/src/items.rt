@@ -105,7 +105,7 @@ fn read_item<'v>(value: &'v Value) -> Result<ItemOffer<'v>, Refusal>
 }
 
 // What an operation by itself has behind it.
-pub(crate) fn no_text() -> &'static str
+fn no_text() -> &'static str
     ensures { chars result.now ≡ [] }
 {
     ""

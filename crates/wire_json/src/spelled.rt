@@ -7,10 +7,9 @@ ghost use Rattle.serde_json.specs.Data as tree;
 ghost use Rattle.serde_json.specs.Data.{unsigned};
 ghost use Rattle.wire_json.specs.Coming.{Comes, ReadsTwo, TellsPairs, ReadsStamp, ReadsParent, ReadsClock, ReadsTyped, ReadsDeleted};
 ghost use Rattle.wire_json.specs.Coming.{ReadsInsertion, ReadsDeletion, ReadsRun, ReadsItem};
-ghost use Rattle.wire_json.specs.Operations.{only_char};
 
 use crate::items::split_run;
-use crate::operations::{check_site, first_char};
+use crate::operations::{check_site, only_char};
 use crate::plain::{MAX_TEXT, PlainReader};
 use arrayvec::ArrayString;
 use causal_clock::{Clock, MAX_SUM, Op};
@@ -155,17 +154,6 @@ fn rest_of_deleted(reader: &mut PlainReader<'_>) -> Option<(Site, Stamp)>
 pub struct SpelledItem {
     pub first: Op,
     pub is_run: bool,
-}
-
-// The only character of a text.
-fn only_char(text: &str) -> Option<char>
-    ensures { result ≡ only_char text.now }
-{
-    if count_characters(text) == 1 {
-        first_char(text)
-    } else {
-        None
-    }
 }
 
 // The insertion with this clock, from behind its letter on, while its text is put in.
