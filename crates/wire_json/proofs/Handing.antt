@@ -1,19 +1,18 @@
 -- The operations that tokens hand over, one object after another.
-use Rattle.std.proofs.Common.{◌≡◌, ℕ, suc, Bool, List, [], ◌∷◌, ◌++◌, Some, Result, Ok, Err, refl, sym, ap, subst, ◌∙◌, take, codes}
+use Rattle.std.proofs.Common.{◌≡◌, ℕ, Bool, List, [], ◌∷◌, ◌++◌, Result, Ok, Err, refl, sym, ap, subst, ◌∙◌, take, codes}
 use Rattle.std.proofs.lemmas.List.{flat_map_more}
 use Rattle.json.specs.Token.{Token, begin_object, end_object, begin_array, end_array, key}
 use Rattle.serde_json.specs.Data.{Data, array, object, string, no_members}
 use Rattle.opid.specs.declared.refusal.Refusal.{Refusal}
 use Rattle.opid.specs.Operations.{Operation}
 use Rattle.room.specs.declared.call.Call.TheVariants.{Put}
-use Rattle.wire_json.specs.Flat.{lone_value, value_of_tokens}
 use Rattle.wire_json.specs.Members.{◌>>=◌}
 use Rattle.wire_json.specs.Request.{call_in}
 use Rattle.wire_json.specs.Packing.{typed_behind}
 use Rattle.wire_json.specs.PackedOperations.{ItemOffer, item_offer_of, item_sited, item_operations, item_ops_of, concatenated, handed_over}
 use Rattle.wire_json.specs.Coming.{Comes, TellsItems, ReadsItem, items_of, put_entries}
-use Rattle.wire_json.specs.Handed.{TellsOps, ReadsOps, ReadsPut}
-use Rattle.wire_json.proofs.Come.{array_comes, object_comes, one_more_item}
+use Rattle.wire_json.specs.Handed.{TellsOps, ReadsOps, ReadsRest}
+use Rattle.wire_json.proofs.Come.{array_comes, one_more_item}
 use Rattle.wire_json.proofs.Spelling.{each_more}
 use Rattle.wire_json.proofs.Spelt.{told_back}
 use Rattle.wire_json.proofs.Unfolding.{kept_on}
@@ -84,26 +83,14 @@ ops_read old now rest new ops opened t closed = record {
   are = rw t.offered (rw t.sited (rw t.made (ap Ok (sym t.kept))));
 }
 
-pub five_deep : (old new : List Token) (d : Data) → Comes 1 old d new → Comes 5 old d new
-five_deep old new d c =
-    record { tree = c.tree; read = λ depth. c.read (suc (suc (suc (suc depth)))); is = c.is; shorter = c.shorter }
-
 put_asked : (ds : List Data) (ops : List Operation) → handed_over ds ≡ Ok ops
     → call_in (object (put_entries ((codes "t", string (codes "put")) ∷ (codes "ops", array (items_of ds)) ∷ []) no_members)) ≡ Ok (Put ops)
 put_asked ds ops h = rw (told_back ds) (rw h refl)
 
-pub whole : (all : List Token) (d : Data) → Comes 6 all d [] → value_of_tokens all ≡ Some d
-whole all d c = ap lone_value (c.read 121) ∙ c.is
-
-pub put_read : (all a b c d e f : List Token) (ops : List Operation) → all ≡ begin_object ∷ a → a ≡ key (codes "t") ∷ b
-    → Comes 1 b (string (codes "put")) c → c ≡ key (codes "ops") ∷ d → ReadsOps d ops e → e ≡ end_object ∷ f → f ≡ [] → ReadsPut all ops
-put_read all a b c d e f ops opened first told second r closed over =
-    let value : Data = object (put_entries ((codes "t", string (codes "put")) ∷ (codes "ops", array (items_of r.values)) ∷ []) no_members) in
-    let last : e ≡ end_object ∷ [] = closed ∙ ap (λ ts. end_object ∷ ts) over in
-    record {
-      value = value;
-      is = whole all value (subst (λ ts. Comes 6 ts value []) (sym opened) (object_comes 5 a
-          ((codes "t", string (codes "put")) ∷ (codes "ops", array (items_of r.values)) ∷ []) []
-          (b, c, first, five_deep b c (string (codes "put")) told, (d, e, second, r.first, last))));
-      asks = put_asked r.values ops r.are;
-    }
+pub put_rest : (old a b : List Token) (ops : List Operation) → old ≡ key (codes "ops") ∷ a → ReadsOps a ops b → b ≡ end_object ∷ []
+    → ReadsRest (codes "put") old (Put ops)
+put_rest old a b ops first r last = record {
+  entries = (codes "ops", array (items_of r.values)) ∷ [];
+  told = (a, b, first, r.first, last);
+  asks = put_asked r.values ops r.are;
+}

@@ -1,52 +1,37 @@
-//! A `put` read byte by byte, with no tree, where its operations are spelled as servers spell them.
-ghost use Rattle.std.specs.Prelude.{◌≡◌, ◌≤◌, length, IfOk, IfErr, IfSome};
+//! What a `put` hands over read byte by byte, with no tree, where its operations are spelled as servers spell them.
+ghost use Rattle.std.specs.Prelude.{◌≡◌, ◌≤◌, codes, length, IfOk, IfErr, IfSome};
 ghost use Rattle.opid.specs.declared.refusal.Refusal.TheVariants.{Memory};
-ghost use Rattle.wire_json.specs.Handed.{ReadsOps, ReadsPut, AsksToPut};
+ghost use Rattle.wire_json.specs.Handed.{ReadsOps, ReadsRest};
 
 use crate::items::{behind_first, unfold_run};
 use crate::plain::{MAX_TEXT, PlainReader};
-use crate::spelled::{is_one, rest_of_item};
+use crate::spelled::{is_closed, rest_of_item};
 use arrayvec::ArrayString;
 use causal_clock::Op;
 use opid::{MAX_COUNT, Refusal};
+use room::{Call, Operations};
 use std::alloc::Global;
-use std::str;
 
-/// The operations that a `put` hands over, at most the first 65, where the bytes are one and at most 64 operation objects and run
-/// objects stand in it, each spelled as `rest_of_item` reads it. None otherwise. An error is for want of memory.
-pub(crate) fn read_spelled_put(alloc: Global, bytes: &[u8]) -> Result<Option<Vec<Op>>, Refusal>
-    ensures told { IfOk result (λ r. IfSome r (λ ops. AsksToPut bytes.now ops.items)) }
+// What a `put` has behind its kind: one and at most 64 operation objects and run objects, each spelled as `rest_of_item` reads it.
+// The call has at most the first 65 of their operations.
+pub(crate) fn rest_of_put(
+    alloc: Global,
+    reader: &mut PlainReader<'_>,
+    text: &mut ArrayString<MAX_TEXT>,
+) -> Result<Option<Call>, Refusal>
+    ensures told { IfOk result (λ r. IfSome r (λ call. ReadsRest (codes "put") reader.old call)) }
     ensures memory { IfErr result (λ e. e ≡ Memory) }
 {
-    let Ok(text) = str::from_utf8(bytes) else {
+    if !reader.take_key("ops") {
+        return Ok(None);
+    }
+    let Some(ops) = next_ops(alloc, reader, text)? else {
         return Ok(None);
     };
-    let mut reader = PlainReader::new(text);
-    match read_members(alloc, &mut reader)? {
-        Some(ops) => Ok(Some(ops)),
-        None => Ok(None),
-    }
-}
-
-// The operations of the one object that the reader has, whose `t` comes before its `ops`.
-fn read_members(alloc: Global, reader: &mut PlainReader<'_>) -> Result<Option<Vec<Op>>, Refusal>
-    ensures told { IfOk result (λ r. IfSome r (λ ops. ReadsPut reader.old ops.items)) }
-    ensures memory { IfErr result (λ e. e ≡ Memory) }
-{
-    let mut text = ArrayString::new();
-    if !reader.take_begin_object() || !reader.take_key("t") || !reader.next_text(&mut text) {
+    if !is_closed(reader) {
         return Ok(None);
     }
-    if !is_one(text.as_str(), "put") || !reader.take_key("ops") {
-        return Ok(None);
-    }
-    let Some(ops) = next_ops(alloc, reader, &mut text)? else {
-        return Ok(None);
-    };
-    if !reader.take_end_object() || !reader.is_over() {
-        return Ok(None);
-    }
-    Ok(Some(ops))
+    Ok(Some(Call::Put(Operations::new(ops))))
 }
 
 // The operations of the next value, a list of at most 64 objects: at most the first 65 of them.

@@ -1,6 +1,7 @@
 //! Requests and replies as JSON texts: which call the bytes of a request ask for, and the one text of each reply.
 #![tactic(auto)]
 
+mod asked;
 mod fields;
 mod flat;
 mod handed;

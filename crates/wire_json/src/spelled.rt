@@ -2,7 +2,7 @@
 //! of their kind, in the order of their bytes. What is spelled otherwise or would be refused isn't read here: it is read as a tree.
 ghost use Rattle.std.specs.Prelude.{◌≡◌, ◌≤◌, ◌<◌, ◌∷◌, ◌+◌, [], false, true, List, length, sum, take, drop, codes, IfSome};
 ghost use Rattle.std.specs.Str.{chars};
-ghost use Rattle.json.specs.Token.{Token as Sign, begin_array, end_array, key};
+ghost use Rattle.json.specs.Token.{Token as Sign, begin_array, end_array, end_object, key};
 ghost use Rattle.serde_json.specs.Data as tree;
 ghost use Rattle.serde_json.specs.Data.{unsigned};
 ghost use Rattle.wire_json.specs.Coming.{Comes, ReadsTwo, TellsPairs, ReadsStamp, ReadsParent, ReadsClock, ReadsTyped, ReadsDeleted};
@@ -20,6 +20,14 @@ pub(crate) fn is_one(a: &str, b: &str) -> bool
     ensures { result ≡ true → a.now ≡ b.now }
 {
     a == b
+}
+
+// Whether just the bracket that closes the object is left.
+#[inline(always)]
+pub(crate) fn is_closed(reader: &mut PlainReader<'_>) -> bool
+    ensures { result ≡ true → reader.old ≡ end_object ∷ [] }
+{
+    reader.take_end_object() && reader.is_over()
 }
 
 // The two numbers of a list whose opening bracket was taken.

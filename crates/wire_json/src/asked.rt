@@ -1,0 +1,137 @@
+//! Requests read byte by byte, with no tree, where their keys come in the order in which the page of the protocol tells them: those
+//! of an insertion, a deletion, a pull, a `put` and a call for operations. All else is read elsewhere, which alone knows refusals.
+ghost use Rattle.std.specs.Prelude.{◌≡◌, true, codes, IfOk, IfErr, IfSome};
+ghost use Rattle.std.specs.List.{list_all};
+ghost use Rattle.opid.specs.declared.refusal.Refusal.TheVariants.{Memory};
+ghost use Rattle.wire_json.specs.Plain.{is_plain};
+ghost use Rattle.wire_json.specs.Handed.{ReadsField, ReadsPlace, ReadsRest, ReadsCall, AsksFor};
+
+use crate::handed::rest_of_put;
+use crate::plain::{MAX_TEXT, PlainReader};
+use crate::spelled::{is_closed, is_one};
+use arrayvec::ArrayString;
+use opid::Refusal;
+use room::{Call, Characters};
+use std::alloc::Global;
+use std::str;
+
+/// The call that the bytes ask for, where they are an object whose first key is `t` and whose others come in the order of the
+/// protocol's page, its numbers of at most nine digits and its texts of at most 256 bytes, with no code point that is escaped by its
+/// number; the operations of a `put` are spelled as `rest_of_item` reads them. None otherwise. An error is for want of memory.
+pub(crate) fn read_asked(alloc: Global, bytes: &[u8]) -> Result<Option<Call>, Refusal>
+    ensures told { IfOk result (λ r. IfSome r (λ call. AsksFor bytes.now call)) }
+    ensures memory { IfErr result (λ e. e ≡ Memory) }
+{
+    let Ok(text) = str::from_utf8(bytes) else {
+        return Ok(None);
+    };
+    let mut reader = PlainReader::new(text);
+    read_object(alloc, &mut reader)
+}
+
+// The call that the one object asks for that the reader has.
+fn read_object(alloc: Global, reader: &mut PlainReader<'_>) -> Result<Option<Call>, Refusal>
+    ensures told { IfOk result (λ r. IfSome r (λ call. ReadsCall reader.old call)) }
+    ensures memory { IfErr result (λ e. e ≡ Memory) }
+{
+    let mut text = ArrayString::new();
+    if !reader.take_begin_object() || !reader.take_key("t") || !reader.next_text(&mut text) {
+        return Ok(None);
+    }
+    if is_one(text.as_str(), "ins") {
+        return rest_of_ins(alloc, reader, &mut text);
+    }
+    if is_one(text.as_str(), "pull") {
+        return Ok(rest_of_pull(reader));
+    }
+    if is_one(text.as_str(), "del") {
+        return Ok(rest_of_del(reader));
+    }
+    if is_one(text.as_str(), "put") {
+        return rest_of_put(alloc, reader, &mut text);
+    }
+    if is_one(text.as_str(), "ops") {
+        return Ok(rest_of_part(reader));
+    }
+    Ok(None)
+}
+
+// The number at a key, which is next.
+#[inline(always)]
+fn next_field(reader: &mut PlainReader<'_>, name: &str) -> Option<u32>
+    requires { list_all is_plain name.now ≡ true }
+    ensures { IfSome result (λ n. ReadsField reader.old name.now n reader.new) }
+{
+    if !reader.take_key(name) {
+        return None;
+    }
+    reader.next_number()
+}
+
+// What an insertion has behind its kind.
+fn rest_of_ins(
+    alloc: Global,
+    reader: &mut PlainReader<'_>,
+    text: &mut ArrayString<MAX_TEXT>,
+) -> Result<Option<Call>, Refusal>
+    ensures told { IfOk result (λ r. IfSome r (λ call. ReadsRest (codes "ins") reader.old call)) }
+    ensures memory { IfErr result (λ e. e ≡ Memory) }
+{
+    let Some((s, n, v, k)) = next_place(reader) else {
+        return Ok(None);
+    };
+    if !reader.take_key("x") || !reader.next_text(text) || !is_closed(reader) {
+        return Ok(None);
+    }
+    let x = Characters::from_str(alloc, text.as_str())?;
+    Ok(Some(Call::Ins { s, n, v, k, x }))
+}
+
+// The session, its number, the version and the place of a submission.
+#[inline(always)]
+fn next_place(reader: &mut PlainReader<'_>) -> Option<(u32, u32, u32, u32)>
+    ensures { IfSome result (λ p. ReadsPlace reader.old p.0 p.1 p.2 p.3 reader.new) }
+{
+    let s = next_field(reader, "s")?;
+    let n = next_field(reader, "n")?;
+    let v = next_field(reader, "v")?;
+    let k = next_field(reader, "k")?;
+    Some((s, n, v, k))
+}
+
+// What a deletion has behind its kind.
+fn rest_of_del(reader: &mut PlainReader<'_>) -> Option<Call>
+    ensures { IfSome result (λ call. ReadsRest (codes "del") reader.old call) }
+{
+    let (s, n, v, k) = next_place(reader)?;
+    let c = next_field(reader, "c")?;
+    if !is_closed(reader) {
+        return None;
+    }
+    Some(Call::Del { s, n, v, k, c })
+}
+
+// What a pull has behind its kind.
+fn rest_of_pull(reader: &mut PlainReader<'_>) -> Option<Call>
+    ensures { IfSome result (λ call. ReadsRest (codes "pull") reader.old call) }
+{
+    let s = next_field(reader, "s")?;
+    let have = next_field(reader, "have")?;
+    let max = next_field(reader, "max")?;
+    if !is_closed(reader) {
+        return None;
+    }
+    Some(Call::Pull { s, have, max })
+}
+
+// What a call for a part of the log has behind its kind.
+fn rest_of_part(reader: &mut PlainReader<'_>) -> Option<Call>
+    ensures { IfSome result (λ call. ReadsRest (codes "ops") reader.old call) }
+{
+    let after = next_field(reader, "after")?;
+    let max = next_field(reader, "max")?;
+    if !is_closed(reader) {
+        return None;
+    }
+    Some(Call::Ops { after, max })
+}
