@@ -146,3 +146,14 @@ data_of (Ops «from» ops) = part_data «from» ops
 data_of (Put os) = put_data os
 data_of (Text v x) = text_data v (encode_utf8_all x)
 data_of (No why) = no_data why
+
+-- the reply's text is put together token by token, and not piece by piece
+abbrev pub IsByTokens : reply.Reply → Type 0
+IsByTokens (Joined s v x) = Unit {0}
+IsByTokens (Ok «from» to) = ⊥
+IsByTokens (Edits «from» es) = ⊥
+IsByTokens Left = Unit {0}
+IsByTokens (Ops «from» ops) = Unit {0}
+IsByTokens (Put os) = ⊥
+IsByTokens (Text v x) = Unit {0}
+IsByTokens (No why) = Unit {0}

@@ -12,6 +12,7 @@ mod opening;
 mod operation_writing;
 mod operations;
 mod packing;
+mod pieces;
 mod plain;
 mod reading;
 mod spelled;

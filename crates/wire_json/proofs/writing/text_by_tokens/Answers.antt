@@ -3,7 +3,7 @@ use Rattle.std.proofs.Common.{◌∙◌}
 use Rattle.wire_json.specs.Written.{data_of}
 use Rattle.wire_json.proofs.Printed.{print-tokens_of}
 use Rattle.wire_json.proofs.Texts.{compact}
-use Rattle.wire_json.proofs.writing.write_reply.Goals as goal
+use Rattle.wire_json.proofs.writing.text_by_tokens.Goals as goal
 
 pub returns-clause-text : goal.returns-clause-text
 returns-clause-text c =
