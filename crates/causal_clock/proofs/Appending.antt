@@ -1,6 +1,6 @@
 -- The parts of a log of one operation more.
-use Rattle.std.proofs.Common.{◌≡◌, ℕ, zero, suc, ◌+◌, ◌%◌, ◌<◌, ◌≤◌, ◌⊎◌, inl, inr, Bool, true, false, eqb, List, [], ◌∷◌, ◌++◌, length}
-use Rattle.std.proofs.Common.{set, get_or, refl, ap, ◌∙◌, sym, subst, arith, length-append, get_or-set_other, get_or-set_same}
+use Rattle.std.proofs.Common.{◌≡◌, ℕ, zero, suc, ◌+◌, ◌*◌, ◌%◌, ◌<◌, ◌≤◌, ◌⊎◌, inl, inr, Bool, true, false, eqb, List, [], ◌∷◌, ◌++◌}
+use Rattle.std.proofs.Common.{length, set, get_or, cond, refl, ap, ◌∙◌, sym, subst, arith, length-append, get_or-set_other, get_or-set_same}
 use mathlib.Core.Path.{ap₂}
 use Rattle.std.proofs.lemmas.Bool.{cases_eq, cond-true, cond-false, eq-eqb, eqb-true, false_from_ne_true}
 use Rattle.std.proofs.lemmas.List.{get_or_append_left, get_or_push, length_push}
@@ -10,12 +10,12 @@ use Rattle.causal_clock.specs.declared.row.Row.{Row}
 use Rattle.causal_clock.specs.Kinds.{IsOperation}
 use Rattle.causal_clock.specs.Stored.{changes, is_whole, latest, entries_of}
 use Rattle.causal_clock.specs.Packed.{no_row, no_op, row_at, operation_at, fill, row_clock, after, no_clocks, logged, IsRow}
-use Rattle.causal_clock.specs.Packed.{AreRows, IsLastBefore, IsSite, IsPacked}
+use Rattle.causal_clock.specs.Packed.{AreRows, IsLastBefore, IsSite, IsPacked, is_marked, marks_of, unmarked}
 use Rattle.causal_clock.proofs.Changing.{fill-changes, length-changes_le}
 use Rattle.causal_clock.proofs.Lasts.{last-grown, last-other, last-own}
 use Rattle.causal_clock.proofs.Telling.{told-append, after-append, told-one, after-one, changes_of-new, AreWithin}
 use Rattle.causal_clock.proofs.Telling.{told-grown, after-grown, latest-push, count-push, stored-push}
-use Rattle.causal_clock.proofs.Packing.{packed_same, GoesBack, Tells, line-grown, new-near, line-new}
+use Rattle.causal_clock.proofs.Packing.{packed_same, GoesBack, Tells, line-grown, new-near, line-new, eighths-more, one_each}
 
 -- a site other than the operation's stays what it was
 site-other : (rows : List Row) (ops : List Operation) (clocks : List (List ℕ)) (lasts numbers : List ℕ) (r : Row) (x : Operation)
@@ -43,7 +43,7 @@ site-other rows ops clocks lasts numbers r x n m s e d p =
           ap (λ j. (row_at (rows ++ r ∷ []) j).back) place
           ∙ ap (λ (v : Row). v.back) (get_or_append_left rows (r ∷ []) no_row (get_or lasts s 0)
           (p.last (omega (arith, z, many))).before) in
-          let q : count_of (ops ++ x ∷ []) s % 64 ≡ count_of ops s % 64 = ap (λ v. v % 64) many in
+          let q : count_of (ops ++ x ∷ []) s % 8 ≡ count_of ops s % 8 = ap (λ v. v % 8) many in
           omega (arith, b, q, p.near (omega (arith, z, many)));
       same = λ z.
           ap (λ j. (operation_at (ops ++ x ∷ []) j).clock) place
@@ -53,12 +53,12 @@ site-other rows ops clocks lasts numbers r x n m s e d p =
     }
 
 -- the operation's site has it last
-site-own : (es : List (ℕ × ℕ)) (rows : List Row) (ops : List Operation) (clocks : List (List ℕ)) (lasts numbers : List ℕ) (r : Row)
-    (x : Operation) (m : ℕ)
+site-own : (es : List (ℕ × ℕ)) (ms : List (List ℕ)) (rows : List Row) (ops : List Operation) (clocks : List (List ℕ))
+    (lasts numbers : List ℕ) (r : Row) (x : Operation) (m : ℕ)
     → length ops ≡ length rows → length clocks ≡ 32 → length lasts ≡ 32 → length numbers ≡ 32 → m ≡ count_of ops x.site + 1
-    → IsSite rows ops clocks lasts numbers x.site → Tells es rows ops lasts x r
+    → IsSite rows ops clocks lasts numbers x.site → Tells es ms rows ops lasts x r
     → IsSite (rows ++ r ∷ []) (ops ++ x ∷ []) (set clocks x.site x.clock) (set lasts x.site (length rows)) (set numbers x.site m) x.site
-site-own es rows ops clocks lasts numbers r x m e wc wl wn c p t =
+site-own es ms rows ops clocks lasts numbers r x m e wc wl wn c p t =
     let yes : eqb x.site x.site ≡ true = eq-eqb x.site x.site refl in
     let newest : latest (ops ++ x ∷ []) x.site ≡ x.clock = latest-push (clock_of []) ops x x.site ∙ cond-true _ _ _ yes in
     let many : count_of (ops ++ x ∷ []) x.site ≡ count_of ops x.site + 1 =
@@ -67,7 +67,7 @@ site-own es rows ops clocks lasts numbers r x m e wc wl wn c p t =
     get_or-set_same lasts x.site (length rows) 0 (omega (arith, t.valid.site)) in
     let b : (row_at (rows ++ r ∷ []) (get_or (set lasts x.site (length rows)) x.site 0)).back ≡ r.back =
     ap (λ j. (row_at (rows ++ r ∷ []) j).back) place ∙ ap (λ (v : Row). v.back) (get_or_push rows r no_row (length rows) refl) in
-    let q : count_of (ops ++ x ∷ []) x.site % 64 ≡ (count_of ops x.site + 1) % 64 = ap (λ v. v % 64) many in
+    let q : count_of (ops ++ x ∷ []) x.site % 8 ≡ (count_of ops x.site + 1) % 8 = ap (λ v. v % 8) many in
     record {
       clock = get_or-set_same clocks x.site x.clock [] (omega (arith, t.valid.site)) ∙ sym newest;
       number = get_or-set_same numbers x.site m 0 (omega (arith, t.valid.site)) ∙ c ∙ sym many;
@@ -76,23 +76,23 @@ site-own es rows ops clocks lasts numbers r x m e wc wl wn c p t =
           subst (λ j. IsLastBefore (ops ++ x ∷ []) x.site (length (rows ++ r ∷ [])) j) (sym place)
           (subst (λ n. IsLastBefore (ops ++ x ∷ []) x.site n (length rows)) (sym (length_push rows r))
           (last-own (ops ++ x ∷ []) x.site (length rows) (ap (λ (v : Operation). v.site) (get_or_push ops x no_op (length rows) e))));
-      near = λ z. omega (arith, b, q, new-near rows ops clocks lasts numbers x r p t.back);
+      near = λ z. omega (arith, b, q, new-near ms rows ops clocks lasts numbers x r p t.back);
       same = λ z. ap (λ j. (operation_at (ops ++ x ∷ []) j).clock) place
           ∙ ap (λ (v : Operation). v.clock) (get_or_push ops x no_op (length rows) e) ∙ sym newest;
     }
 
-within_each : (es : List (ℕ × ℕ)) (rows : List Row) (ops : List Operation) → AreRows es rows ops → AreWithin es rows
-within_each es rows ops h = λ k l. (h k l).within
+within_each : (es : List (ℕ × ℕ)) (ms : List (List ℕ)) (rows : List Row) (ops : List Operation) → AreRows es ms rows ops → AreWithin es rows
+within_each es ms rows ops h = λ k l. (h k l).within
 
 -- the clock that the new row tells
-clock-new : (es : List (ℕ × ℕ)) (rows : List Row) (ops : List Operation) (clocks : List (List ℕ)) (lasts numbers : List ℕ) (r : Row)
-    (x : Operation)
-    → length (latest ops x.site) ≡ 32 → IsPacked es rows ops clocks lasts numbers → Tells es rows ops lasts x r
+clock-new : (es : List (ℕ × ℕ)) (ms ns : List (List ℕ)) (rows : List Row) (ops : List Operation) (clocks : List (List ℕ))
+    (lasts numbers : List ℕ) (r : Row) (x : Operation)
+    → length (latest ops x.site) ≡ 32 → IsPacked es ms rows ops clocks lasts numbers → Tells es ns rows ops lasts x r
     → row_clock (after no_clocks (es ++ entries_of ops x) rows) (es ++ entries_of ops x) r ≡ x.clock
-clock-new es rows ops clocks lasts numbers r x w p t =
+clock-new es ms ns rows ops clocks lasts numbers r x w p t =
     let more : List (ℕ × ℕ) = entries_of ops x in
     let now : after no_clocks (es ++ more) rows ≡ clocks =
-    after-grown no_clocks es more rows (within_each es rows ops p.lines) ∙ sym p.current in
+    after-grown no_clocks es more rows (within_each es ms rows ops p.lines) ∙ sym p.current in
     let before : get_or (after no_clocks (es ++ more) rows) r.site [] ≡ latest ops x.site =
     ap₂ (λ (c : List (List ℕ)) s. get_or c s []) now t.site ∙ (p.sites x.site t.valid.site).clock in
     ap₂ (λ (c : List ℕ) (e : List (ℕ × ℕ)). fill c e) before (changes_of-new es more r t.from t.count)
@@ -106,36 +106,39 @@ same-op x r c a b k =
     ∙ ap (λ v. let y : Operation = record { site = x.site; clock = x.clock; kind = v } in y) k
 
 -- the log of one row more
-logged-push : (es : List (ℕ × ℕ)) (rows : List Row) (clocks : List (List ℕ)) (lasts numbers : List ℕ) (r : Row) (x : Operation)
-    → length (latest (logged es rows) x.site) ≡ 32 → IsPacked es rows (logged es rows) clocks lasts numbers
-    → Tells es rows (logged es rows) lasts x r
+logged-push : (es : List (ℕ × ℕ)) (ms ns : List (List ℕ)) (rows : List Row) (clocks : List (List ℕ)) (lasts numbers : List ℕ) (r : Row)
+    (x : Operation)
+    → length (latest (logged es rows) x.site) ≡ 32 → IsPacked es ms rows (logged es rows) clocks lasts numbers
+    → Tells es ns rows (logged es rows) lasts x r
     → logged (es ++ entries_of (logged es rows) x) (rows ++ r ∷ []) ≡ logged es rows ++ x ∷ []
-logged-push es rows clocks lasts numbers r x w p t =
+logged-push es ms ns rows clocks lasts numbers r x w p t =
     let more : List (ℕ × ℕ) = entries_of (logged es rows) x in
     told-append no_clocks (es ++ more) rows (r ∷ [])
     ∙ ap₂ (λ (a b : List Operation). a ++ b)
-    (told-grown no_clocks es more rows (within_each es rows (logged es rows) p.lines))
+    (told-grown no_clocks es more rows (within_each es ms rows (logged es rows) p.lines))
     (told-one (after no_clocks (es ++ more) rows) (es ++ more) r
     ∙ ap (λ (v : Operation). v ∷ []) (same-op x r (row_clock (after no_clocks (es ++ more) rows) (es ++ more) r) t.site
-    (clock-new es rows (logged es rows) clocks lasts numbers r x w p t) t.kind))
+    (clock-new es ms ns rows (logged es rows) clocks lasts numbers r x w p t) t.kind))
 
 -- the parts of one operation more
-packed-push : (es : List (ℕ × ℕ)) (rows : List Row) (ops : List Operation) (clocks : List (List ℕ)) (lasts numbers : List ℕ) (r : Row)
-    (x : Operation) (m : ℕ)
-    → length clocks ≡ 32 → length lasts ≡ 32 → length numbers ≡ 32 → m ≡ count_of ops x.site + 1 → length (latest ops x.site) ≡ 32
-    → IsPacked es rows ops clocks lasts numbers → Tells es rows ops lasts x r
-    → IsPacked (es ++ entries_of ops x) (rows ++ r ∷ []) (ops ++ x ∷ []) (set clocks x.site x.clock) (set lasts x.site (length rows))
-    (set numbers x.site m)
-packed-push es rows ops clocks lasts numbers r x m wc wl wn c w p t =
+packed-push : (es : List (ℕ × ℕ)) (ms fresh : List (List ℕ)) (rows : List Row) (ops : List Operation) (clocks : List (List ℕ))
+    (lasts numbers : List ℕ) (r : Row) (x : Operation) (m : ℕ)
+    → length clocks ≡ 32 → length lasts ≡ 32 → length numbers ≡ 32 → m ≡ get_or numbers x.site 0 + 1 → length (latest ops x.site) ≡ 32
+    → 8 * length fresh + (get_or numbers x.site 0 + 1) % 8 ≡ get_or numbers x.site 0 % 8 + 1
+    → IsPacked es ms rows ops clocks lasts numbers → Tells es (ms ++ fresh) rows ops lasts x r
+    → IsPacked (es ++ entries_of ops x) (ms ++ fresh) (rows ++ r ∷ []) (ops ++ x ∷ []) (set clocks x.site x.clock)
+    (set lasts x.site (length rows)) (set numbers x.site m)
+packed-push es ms fresh rows ops clocks lasts numbers r x m wc wl wn c w f p t =
     let more : List (ℕ × ℕ) = entries_of ops x in
     let now : after no_clocks (es ++ more) rows ≡ clocks =
-    after-grown no_clocks es more rows (within_each es rows ops p.lines) ∙ sym p.current in
+    after-grown no_clocks es more rows (within_each es ms rows ops p.lines) ∙ sym p.current in
     record {
       each = length_push ops x ∙ ap (λ v. v + 1) p.each ∙ sym (length_push rows r);
       lines = λ k l. line k l (cases_eq k (length rows));
       sites = λ s l. site s l (cases_eq s x.site);
       current = sym (after-append no_clocks (es ++ more) rows (r ∷ []) ∙ after-one (after no_clocks (es ++ more) rows) (es ++ more) r
-          ∙ ap (λ (v : List ℕ). set (after no_clocks (es ++ more) rows) r.site v) (clock-new es rows ops clocks lasts numbers r x w p t)
+          ∙ ap (λ (v : List ℕ). set (after no_clocks (es ++ more) rows) r.site v)
+          (clock-new es ms (ms ++ fresh) rows ops clocks lasts numbers r x w p t)
           ∙ ap₂ (λ (v : List (List ℕ)) s. set v s x.clock) now t.site);
       kept = ap (λ v. v ++ more) p.kept ∙ sym (stored-push [] ops x);
       small = omega (
@@ -145,15 +148,17 @@ packed-push es rows ops clocks lasts numbers r x m wc wl wn c w p t =
         length_push rows r,
         length-changes_le (is_whole (count_of ops x.site)) (latest ops x.site) x.clock 32,
       );
+      eighths = ap (λ v. 8 * length (ms ++ fresh) + unmarked (set numbers x.site v)) c
+          ∙ eighths-more ms fresh numbers x.site (length rows) (omega (arith, wn, t.valid.site)) f p.eighths ∙ sym (length_push rows r);
     }
   where
     line : (k : ℕ) → k < length (rows ++ r ∷ []) → (k ≡ length rows) ⊎ (k ≡ length rows → ⊥)
-        → IsRow (es ++ entries_of ops x) (rows ++ r ∷ []) (ops ++ x ∷ []) k
-    line k l (inl e) = subst (λ v. IsRow (es ++ entries_of ops x) (rows ++ r ∷ []) (ops ++ x ∷ []) v) (sym e)
-        (line-new es rows ops clocks lasts numbers r x w p t)
+        → IsRow (es ++ entries_of ops x) (ms ++ fresh) (rows ++ r ∷ []) (ops ++ x ∷ []) k
+    line k l (inl e) = subst (λ v. IsRow (es ++ entries_of ops x) (ms ++ fresh) (rows ++ r ∷ []) (ops ++ x ∷ []) v) (sym e)
+        (line-new es ms (ms ++ fresh) rows ops clocks lasts numbers r x w p t)
     line k l (inr d) =
         let before : k < length rows = beneath k (length rows) (omega (arith, l, length_push rows r)) d in
-        line-grown es (entries_of ops x) rows ops r x k p.each before (p.lines k before)
+        line-grown es (entries_of ops x) ms fresh rows ops r x k p.each before (p.lines k before)
       where
         beneath : (a b : ℕ) → a < b + 1 → (a ≡ b → ⊥) → a < b
         beneath a b u v = grind (arith)
@@ -163,93 +168,125 @@ packed-push es rows ops clocks lasts numbers r x m wc wl wn c w p t =
     site s l (inl e) =
         subst (λ v. IsSite (rows ++ r ∷ []) (ops ++ x ∷ []) (set clocks x.site x.clock) (set lasts x.site (length rows))
         (set numbers x.site m) v) (sym e)
-        (site-own es rows ops clocks lasts numbers r x m p.each wc wl wn c (p.sites x.site t.valid.site) t)
+        (site-own es (ms ++ fresh) rows ops clocks lasts numbers r x m p.each wc wl wn
+        (c ∙ ap (λ v. v + 1) (p.sites x.site t.valid.site).number) (p.sites x.site t.valid.site) t)
     site s l (inr d) = site-other rows ops clocks lasts numbers r x (length rows) m s p.each d (p.sites s l)
 
 -- the vectors after one operation more
-pub appended : (es fs : List (ℕ × ℕ)) (rows lines : List Row) (clocks : List (List ℕ)) (lasts numbers : List ℕ) (r : Row)
-    (x : Operation) (m : ℕ)
-    → fs ≡ es ++ entries_of (logged es rows) x → lines ≡ rows ++ r ∷ []
-    → length clocks ≡ 32 → length lasts ≡ 32 → length numbers ≡ 32 → m ≡ count_of (logged es rows) x.site + 1
+pub appended : (es fs : List (ℕ × ℕ)) (ms fresh ns : List (List ℕ)) (rows lines : List Row) (clocks : List (List ℕ))
+    (lasts numbers : List ℕ) (r : Row) (x : Operation) (m : ℕ)
+    → fs ≡ es ++ entries_of (logged es rows) x → ns ≡ ms ++ fresh → lines ≡ rows ++ r ∷ []
+    → length clocks ≡ 32 → length lasts ≡ 32 → length numbers ≡ 32 → m ≡ get_or numbers x.site 0 + 1
     → length (latest (logged es rows) x.site) ≡ 32
-    → IsPacked es rows (logged es rows) clocks lasts numbers → Tells es rows (logged es rows) lasts x r
-    → IsPacked fs lines (logged fs lines) (set clocks x.site x.clock) (set lasts x.site (length rows)) (set numbers x.site m)
+    → 8 * length fresh + (get_or numbers x.site 0 + 1) % 8 ≡ get_or numbers x.site 0 % 8 + 1
+    → IsPacked es ms rows (logged es rows) clocks lasts numbers → Tells es (ms ++ fresh) rows (logged es rows) lasts x r
+    → IsPacked fs ns lines (logged fs lines) (set clocks x.site x.clock) (set lasts x.site (length rows)) (set numbers x.site m)
     × (logged fs lines ≡ logged es rows ++ x ∷ [])
-appended es fs rows lines clocks lasts numbers r x m ef el wc wl wn c w p t =
+appended es fs ms fresh ns rows lines clocks lasts numbers r x m ef em el wc wl wn c w f p t =
     let grown : logged (es ++ entries_of (logged es rows) x) (rows ++ r ∷ []) ≡ logged es rows ++ x ∷ [] =
-    logged-push es rows clocks lasts numbers r x w p t in
-    let all : IsPacked (es ++ entries_of (logged es rows) x) (rows ++ r ∷ [])
+    logged-push es ms (ms ++ fresh) rows clocks lasts numbers r x w p t in
+    let all : IsPacked (es ++ entries_of (logged es rows) x) (ms ++ fresh) (rows ++ r ∷ [])
     (logged (es ++ entries_of (logged es rows) x) (rows ++ r ∷ [])) (set clocks x.site x.clock) (set lasts x.site (length rows))
     (set numbers x.site m) =
-    subst (λ (v : List Operation). IsPacked (es ++ entries_of (logged es rows) x) (rows ++ r ∷ []) v (set clocks x.site x.clock)
-    (set lasts x.site (length rows)) (set numbers x.site m)) (sym grown)
-    (packed-push es rows (logged es rows) clocks lasts numbers r x m wc wl wn c w p t) in (
-      packed_same (es ++ entries_of (logged es rows) x) fs (rows ++ r ∷ []) lines (set clocks x.site x.clock)
-          (set lasts x.site (length rows)) (set numbers x.site m) ef el all,
+    subst (λ (v : List Operation). IsPacked (es ++ entries_of (logged es rows) x) (ms ++ fresh) (rows ++ r ∷ []) v
+    (set clocks x.site x.clock) (set lasts x.site (length rows)) (set numbers x.site m)) (sym grown)
+    (packed-push es ms fresh rows (logged es rows) clocks lasts numbers r x m wc wl wn c w f p t) in (
+      packed_same (es ++ entries_of (logged es rows) x) fs (ms ++ fresh) ns (rows ++ r ∷ []) lines (set clocks x.site x.clock)
+          (set lasts x.site (length rows)) (set numbers x.site m) ef em el all,
       ap₂ (λ (a : List (ℕ × ℕ)) (b : List Row). logged a b) ef el ∙ grown,
     )
 
 -- ---- what the calls answered
 
-pub width-latest : (es : List (ℕ × ℕ)) (rows : List Row) (ops : List Operation) (clocks : List (List ℕ)) (lasts numbers : List ℕ)
-    (s place : ℕ) (before : List ℕ) → IsPacked es rows ops clocks lasts numbers
+pub width-latest : (es : List (ℕ × ℕ)) (ms : List (List ℕ)) (rows : List Row) (ops : List Operation) (clocks : List (List ℕ))
+    (lasts numbers : List ℕ) (s place : ℕ) (before : List ℕ) → IsPacked es ms rows ops clocks lasts numbers
     → s < 32 → place ≡ s → before ≡ get_or clocks place [] → before ≡ latest ops s
-width-latest es rows ops clocks lasts numbers s place before p l e b = b ∙ ap (λ k. get_or clocks k []) e ∙ (p.sites s l).clock
+width-latest es ms rows ops clocks lasts numbers s place before p l e b = b ∙ ap (λ k. get_or clocks k []) e ∙ (p.sites s l).clock
 
-goes-back : (rows : List Row) (ops : List Operation) (clocks : List (List ℕ)) (lasts numbers : List ℕ) (x : Operation) (r : Row)
-    → IsSite rows ops clocks lasts numbers x.site
-    → r.prev ≡ get_or lasts x.site 0
-    → (is_whole (get_or numbers x.site 0) ≡ true → r.back ≡ 0) → (get_or numbers x.site 0 + 1 ≤ 1 → r.back ≡ 0)
-    → (is_whole (get_or numbers x.site 0) ≡ false → 1 < get_or numbers x.site 0 + 1 → r.back ≡ (row_at rows r.prev).back + 1)
-    → GoesBack rows ops lasts x r
-goes-back rows ops clocks lasts numbers x r own e h f g = go (is_whole (count_of ops x.site)) (count_of ops x.site) refl refl
+-- the row names the clock before, or goes back
+goes-back : (ms : List (List ℕ)) (rows : List Row) (ops : List Operation) (clocks : List (List ℕ)) (lasts numbers : List ℕ) (x : Operation)
+    (r : Row) → IsSite rows ops clocks lasts numbers x.site
+    → r.marked ≡ is_marked (get_or numbers x.site 0)
+    → (is_marked (get_or numbers x.site 0) ≡ true → get_or ms r.prev [] ≡ latest ops x.site)
+    → (is_marked (get_or numbers x.site 0) ≡ false → r.prev ≡ get_or lasts x.site 0)
+    → (is_marked (get_or numbers x.site 0) ≡ true → r.back ≡ 0) → (get_or numbers x.site 0 + 1 ≤ 1 → r.back ≡ 0)
+    → (is_marked (get_or numbers x.site 0) ≡ false → 1 < get_or numbers x.site 0 + 1
+    → r.back ≡ (row_at rows (get_or lasts x.site 0)).back + 1)
+    → GoesBack ms rows ops lasts x r
+goes-back ms rows ops clocks lasts numbers x r own d b e h f g = go (is_marked (count_of ops x.site)) (count_of ops x.site) refl refl
   where
-    go : (t : Bool) (n : ℕ) → is_whole (count_of ops x.site) ≡ t → count_of ops x.site ≡ n → GoesBack rows ops lasts x r
-    go true n a b = inl (h (ap is_whole own.number ∙ a), inl a)
-    go false zero a b = inl (f (omega (arith, own.number, b)), inr b)
-    go false (suc n) a b = inr (
-      omega (arith, b),
-      a,
-      e,
-      g (ap is_whole own.number ∙ a) (omega (arith, own.number, b))
-          ∙ ap (λ j. (row_at rows j).back + 1) e,
-    )
+    go : (t : Bool) (n : ℕ) → is_marked (count_of ops x.site) ≡ t → count_of ops x.site ≡ n → GoesBack ms rows ops lasts x r
+    go true n q c =
+        let m : is_marked (get_or numbers x.site 0) ≡ true = ap is_marked own.number ∙ q in
+        inl (h m, cond-true _ _ _ (d ∙ m) ∙ b m)
+    go false zero q c =
+        let m : is_marked (get_or numbers x.site 0) ≡ false = ap is_marked own.number ∙ q in
+        inl (f (omega (arith, own.number, c)), cond-false _ _ _ (d ∙ m) ∙ sym (own.none c))
+    go false (suc n) q c =
+        let m : is_marked (get_or numbers x.site 0) ≡ false = ap is_marked own.number ∙ q in
+        inr (omega (arith, c), q, e m, g m (omega (arith, own.number, c)))
 
-pub appended_read : (es fs : List (ℕ × ℕ)) (rows lines : List Row) (clocks : List (List ℕ)) (lasts numbers : List ℕ) (r : Row)
-    (x : Operation) (place : ℕ) (before clock : List ℕ)
-    → IsPacked es rows (logged es rows) clocks lasts numbers → IsOperation x
+-- the mark stands at its place
+marked_at : (ms : List (List ℕ)) (t : Bool) (before : List ℕ) → t ≡ true → get_or (ms ++ marks_of t before) (length ms) [] ≡ before
+marked_at ms true before e = get_or_push ms before [] (length ms) refl
+marked_at ms false before e = absurd (cc)
+
+marked_within : (ms : List (List ℕ)) (t : Bool) (before : List ℕ) → t ≡ true → length ms < length (ms ++ marks_of t before)
+marked_within ms true before e = omega (arith, length_push ms before)
+marked_within ms false before e = absurd (cc)
+
+pub appended_read : (es fs : List (ℕ × ℕ)) (ms ns : List (List ℕ)) (rows lines : List Row) (clocks : List (List ℕ)) (lasts numbers : List ℕ)
+    (r : Row) (x : Operation) (place : ℕ) (before clock : List ℕ)
+    → IsPacked es ms rows (logged es rows) clocks lasts numbers → IsOperation x
     → length clocks ≡ 32 → length lasts ≡ 32 → length numbers ≡ 32
     → place ≡ x.site → clock ≡ x.clock → before ≡ get_or clocks place [] → length before ≡ 32
-    → fs ≡ es ++ changes (is_whole (get_or numbers place 0)) before clock 32 → lines ≡ rows ++ r ∷ []
+    → fs ≡ es ++ changes (is_whole (get_or numbers place 0)) before clock 32
+    → ns ≡ ms ++ marks_of (is_marked (get_or numbers place 0)) before → lines ≡ rows ++ r ∷ []
     → r.site ≡ x.site → r.kind ≡ x.kind → r.from ≡ length es
-    → r.count ≡ length (changes (is_whole (get_or numbers place 0)) before clock 32) → r.prev ≡ get_or lasts place 0
-    → (is_whole (get_or numbers place 0) ≡ true → r.back ≡ 0) → (get_or numbers place 0 + 1 ≤ 1 → r.back ≡ 0)
-    → (is_whole (get_or numbers place 0) ≡ false → 1 < get_or numbers place 0 + 1 → r.back ≡ (row_at rows r.prev).back + 1)
-    → IsPacked fs lines (logged fs lines) (set clocks place clock) (set lasts place (length rows))
+    → r.count ≡ length (changes (is_whole (get_or numbers place 0)) before clock 32)
+    → r.marked ≡ is_marked (get_or numbers place 0)
+    → r.prev ≡ cond (is_marked (get_or numbers place 0)) (length ms) (get_or lasts place 0)
+    → (is_marked (get_or numbers place 0) ≡ true → r.back ≡ 0) → (get_or numbers place 0 + 1 ≤ 1 → r.back ≡ 0)
+    → (is_marked (get_or numbers place 0) ≡ false → 1 < get_or numbers place 0 + 1 → r.back ≡ (row_at rows (get_or lasts place 0)).back + 1)
+    → IsPacked fs ns lines (logged fs lines) (set clocks place clock) (set lasts place (length rows))
     (set numbers place (get_or numbers place 0 + 1)) × (logged fs lines ≡ logged es rows ++ x ∷ [])
-appended_read es fs rows lines clocks lasts numbers r x place before clock p v wc wl wn s c b wb ef el rs rk rf rn rp h f g =
+appended_read es fs ms ns rows lines clocks lasts numbers r x place before clock p v wc wl wn s c b wb ef em el rs rk rf rn rm rp h f g =
     let own : IsSite rows (logged es rows) clocks lasts numbers x.site = p.sites x.site v.site in
     let old : before ≡ latest (logged es rows) x.site =
-    width-latest es rows (logged es rows) clocks lasts numbers x.site place before p v.site s b in
+    width-latest es ms rows (logged es rows) clocks lasts numbers x.site place before p v.site s b in
     let number : get_or numbers place 0 ≡ count_of (logged es rows) x.site = ap (λ k. get_or numbers k 0) s ∙ own.number in
     let same : changes (is_whole (get_or numbers place 0)) before clock 32 ≡ entries_of (logged es rows) x =
     ap (λ n. changes (is_whole n) before clock 32) number ∙ ap₂
     (λ (a d : List ℕ). changes (is_whole (count_of (logged es rows) x.site)) a d 32) old c in
     let at : get_or numbers x.site 0 ≡ get_or numbers place 0 = ap (λ k. get_or numbers k 0) (sym s) in
-    let tells : Tells es rows (logged es rows) lasts x r = record {
+    let there : get_or lasts place 0 ≡ get_or lasts x.site 0 = ap (λ k. get_or lasts k 0) s in
+    let fresh : List (List ℕ) = marks_of (is_marked (get_or numbers place 0)) before in
+    let tells : Tells es (ms ++ fresh) rows (logged es rows) lasts x r = record {
       valid = v;
       site = rs;
       kind = rk;
       from = rf;
       count = rn ∙ ap length same;
-      back = goes-back rows (logged es rows) clocks lasts numbers x r own (rp ∙ ap (λ k. get_or lasts k 0) s)
-          (λ q. h (ap is_whole (sym at) ∙ q)) (λ q. f (omega (arith, q, at))) (λ q w. g (ap is_whole (sym at) ∙ q) (omega (arith, w, at)));
+      mark = λ q.
+          let m : is_marked (get_or numbers place 0) ≡ true = sym rm ∙ q in
+          omega (arith, rp ∙ cond-true _ _ _ m, marked_within ms (is_marked (get_or numbers place 0)) before m);
+      back = goes-back (ms ++ fresh) rows (logged es rows) clocks lasts numbers x r own (rm ∙ sym (ap is_marked at))
+          (λ q.
+          let m : is_marked (get_or numbers place 0) ≡ true = ap is_marked (sym at) ∙ q in
+          ap (λ k. get_or (ms ++ fresh) k []) (rp ∙ cond-true _ _ _ m)
+          ∙ marked_at ms (is_marked (get_or numbers place 0)) before m ∙ old)
+          (λ q.
+          let m : is_marked (get_or numbers place 0) ≡ false = ap is_marked (sym at) ∙ q in
+          rp ∙ cond-false _ _ _ m ∙ there)
+          (λ q. h (ap is_marked (sym at) ∙ q)) (λ q. f (omega (arith, q, at)))
+          (λ q w. g (ap is_marked (sym at) ∙ q) (omega (arith, w, at)) ∙ ap (λ k. (row_at rows k).back + 1) there);
     } in
-    let all = appended es fs rows lines clocks lasts numbers r x (get_or numbers place 0 + 1) (ef ∙ ap (λ m. es ++ m) same) el wc wl wn
-    (ap (λ n. n + 1) number) (sym (ap length old) ∙ wb) p tells in (
-      subst (λ (k : ℕ). IsPacked fs lines (logged fs lines) (set clocks k clock) (set lasts k (length rows))
+    let all = appended es fs ms fresh ns rows lines clocks lasts numbers r x (get_or numbers place 0 + 1) (ef ∙ ap (λ m. es ++ m) same) em
+    el wc wl wn (ap (λ n. n + 1) (sym at)) (sym (ap length old) ∙ wb)
+    (subst (λ n. 8 * length fresh + (n + 1) % 8 ≡ n % 8 + 1) (sym at) (one_each (get_or numbers place 0) before)) p tells in (
+      subst (λ (k : ℕ). IsPacked fs ns lines (logged fs lines) (set clocks k clock) (set lasts k (length rows))
           (set numbers k (get_or numbers place 0 + 1))) (sym s)
-          (subst (λ (d : List ℕ). IsPacked fs lines (logged fs lines) (set clocks x.site d) (set lasts x.site (length rows))
+          (subst (λ (d : List ℕ). IsPacked fs ns lines (logged fs lines) (set clocks x.site d) (set lasts x.site (length rows))
           (set numbers x.site (get_or numbers place 0 + 1))) (sym c) all.0),
       all.1,
     )

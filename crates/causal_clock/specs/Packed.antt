@@ -1,5 +1,7 @@
 -- What holds of a log's parts; no public clause cites these.
-use Rattle.std.specs.Prelude.{◌≡◌, ℕ, ◌+◌, ◌*◌, ◌%◌, ◌<◌, ◌≤◌, List, [], ◌∷◌, length, take, drop, replicate, get_or, slice_set}
+use Rattle.std.specs.Prelude.{◌≡◌, ℕ, ◌+◌, ◌*◌, ◌%◌, ◌<◌, ◌≤◌, ◌==◌, Bool, true, false, if◌then◌else◌, List, [], ◌∷◌, length, take, drop}
+use Rattle.std.specs.Prelude.{replicate, get_or, slice_set}
+use Rattle.std.specs.List.{sum_by}
 use Rattle.opid.specs.declared.kind.OpKind.{OpKind}
 use Rattle.opid.specs.declared.kind.OpKind.TheVariants.{Del}
 use Rattle.opid.specs.Operations.{Operation}
@@ -14,7 +16,7 @@ no_kind = Del (record { sum = 0; site = 0 })
 
 -- what stands for a row where there is none
 abbrev pub no_row : Row
-no_row = record { kind = no_kind; from = 0; prev = 0; site = 0; back = 0; count = 0 }
+no_row = record { kind = no_kind; from = 0; prev = 0; site = 0; back = 0; count = 0; marked = false }
 
 -- what stands for an operation where there is none
 abbrev pub no_op : Operation
@@ -67,23 +69,38 @@ pub record IsLastBefore (ops : List Operation) (site end place : ℕ) : Type 0 w
   pub own : (operation_at ops place).site ≡ site
   pub last : (j : ℕ) → place < j → j < end → (operation_at ops j).site ≡ site → ⊥
 
--- The row at k tells the operation there: its entries are put into the clock of no operations, or into that of
--- the row that it names, its site's last one before, which is one step nearer to a row of the first kind.
-pub record IsRow (entries : List (ℕ × ℕ)) (rows : List Row) (ops : List Operation) (k : ℕ) : Type 0 where
+-- a site's 8th, 16th .. operation, after so many, has a mark: the clock of the site's operation before it
+abbrev pub is_marked : ℕ → Bool
+is_marked count = (count + 1) % 8 == 0
+
+-- the marks that are added with an operation
+abbrev pub marks_of : Bool → List ℕ → List (List ℕ)
+marks_of true before = before ∷ []
+marks_of false before = []
+
+-- the clock that a row names: its mark, or that of no operations
+abbrev pub base_of : List (List ℕ) → Row → List ℕ
+base_of marks row = if row.marked then get_or marks row.prev [] else clock_of []
+
+-- The row at k tells the operation there: its entries are put into its mark or the clock of no operations, or into the
+-- clock of the row that it names, its site's last one before, which is one step nearer to a row of the first kind.
+pub record IsRow (entries : List (ℕ × ℕ)) (marks : List (List ℕ)) (rows : List Row) (ops : List Operation) (k : ℕ) : Type 0 where
   pub valid : IsOperation (operation_at ops k)
   pub site : (row_at rows k).site ≡ (operation_at ops k).site
   pub kind : (row_at rows k).kind ≡ (operation_at ops k).kind
   pub within : (row_at rows k).from + (row_at rows k).count ≤ length entries
-  pub base : (row_at rows k).back ≡ 0 → (operation_at ops k).clock ≡ fill (clock_of []) (changes_of entries (row_at rows k))
-  pub short : (row_at rows k).back < 64
+  pub mark : (row_at rows k).marked ≡ true → (row_at rows k).prev < length marks
+  pub base : (row_at rows k).back ≡ 0
+      → (operation_at ops k).clock ≡ fill (base_of marks (row_at rows k)) (changes_of entries (row_at rows k))
+  pub short : (row_at rows k).back < 8
   pub earlier : 0 < (row_at rows k).back → IsLastBefore ops (operation_at ops k).site k (row_at rows k).prev
   pub nearer : 0 < (row_at rows k).back → (row_at rows (row_at rows k).prev).back + 1 ≡ (row_at rows k).back
   pub step : 0 < (row_at rows k).back
       → (operation_at ops k).clock ≡ fill (operation_at ops (row_at rows k).prev).clock (changes_of entries (row_at rows k))
 
 -- each row tells the operation at its place
-abbrev pub AreRows : List (ℕ × ℕ) → List Row → List Operation → Type 0
-AreRows entries rows ops = (k : ℕ) → k < length rows → IsRow entries rows ops k
+abbrev pub AreRows : List (ℕ × ℕ) → List (List ℕ) → List Row → List Operation → Type 0
+AreRows entries marks rows ops = (k : ℕ) → k < length rows → IsRow entries marks rows ops k
 
 -- what is kept of a site: its last operation's clock and place, and how many operations it has
 pub record IsSite (rows : List Row) (ops : List Operation) (clocks : List (List ℕ)) (lasts numbers : List ℕ) (site : ℕ) : Type 0 where
@@ -91,21 +108,27 @@ pub record IsSite (rows : List Row) (ops : List Operation) (clocks : List (List 
   pub number : get_or numbers site 0 ≡ count_of ops site
   pub none : count_of ops site ≡ 0 → latest ops site ≡ clock_of []
   pub last : 0 < count_of ops site → IsLastBefore ops site (length rows) (get_or lasts site 0)
-  pub near : 0 < count_of ops site → (row_at rows (get_or lasts site 0)).back ≤ count_of ops site % 64
+  pub near : 0 < count_of ops site → (row_at rows (get_or lasts site 0)).back ≤ count_of ops site % 8
   pub same : 0 < count_of ops site → (operation_at ops (get_or lasts site 0)).clock ≡ latest ops site
 
+-- how many operations the sites have since their last marked ones
+abbrev pub unmarked : List ℕ → ℕ
+unmarked numbers = sum_by (λ n. n % 8) numbers
+
 -- the parts of a log of these operations
-pub record IsPacked (entries : List (ℕ × ℕ)) (rows : List Row) (ops : List Operation) (clocks : List (List ℕ))
+pub record IsPacked (entries : List (ℕ × ℕ)) (marks : List (List ℕ)) (rows : List Row) (ops : List Operation) (clocks : List (List ℕ))
     (lasts numbers : List ℕ) : Type 0 where
   pub each : length ops ≡ length rows
-  pub lines : AreRows entries rows ops
+  pub lines : AreRows entries marks rows ops
   pub sites : (site : ℕ) → site < 32 → IsSite rows ops clocks lasts numbers site
   pub current : clocks ≡ after no_clocks entries rows
   pub kept : entries ≡ stored ops
   pub small : length entries ≤ 32 * length rows
+  pub eighths : 8 * length marks + unmarked numbers ≡ length rows
 
--- memory for so many operations more, each with up to 32 entries
-pub record AreReserved (rows_len rows_capacity entries_len entries_capacity room : ℕ) : Type 0 where
+-- memory for so many operations more, each with up to 32 entries, and one mark for eight of all
+pub record AreReserved (rows_len rows_capacity entries_len entries_capacity marks_capacity room : ℕ) : Type 0 where
   pub rows : rows_len + room ≤ rows_capacity
   pub entries : entries_len + 32 * room ≤ entries_capacity
+  pub marks : rows_len + room < 8 * marks_capacity + 8
   pub few : rows_len + room ≤ 67108864

@@ -1,11 +1,11 @@
 //! A log of operations that keeps of each clock the entries that changed.
 ghost use Rattle.std.specs.Prelude.{◌≡◌, ◌==◌, ◌||◌, not, ◌+◌, ◌-◌, ◌*◌, ◌<◌, ◌≤◌, ◌++◌, [], ◌∷◌, ℕ, Bool, Some, max, length, drop};
-ghost use Rattle.std.specs.Prelude.{slice_get, OnOk, OnErr, IfErr, vec_len, vec_capacity, true, false};
+ghost use Rattle.std.specs.Prelude.{slice_get, OnOk, OnErr, IfErr, vec_len, vec_capacity, true, false, if◌then◌else◌};
 ghost use Rattle.opid.specs.declared.refusal.Refusal.TheVariants.{Memory};
-ghost use Rattle.opid.specs.Delivery.{clock_of};
 ghost use Rattle.causal_clock.specs.Kinds.{IsOperation};
 ghost use Rattle.causal_clock.specs.Stored.{changes, entries_of, stored};
-ghost use Rattle.causal_clock.specs.Packed.{AreReserved, AreRows, IsPacked, changes_of, fill, operation_at, row_at, logged};
+ghost use Rattle.causal_clock.specs.Packed.{AreReserved, AreRows, IsPacked, base_of, changes_of, fill, marks_of, operation_at};
+ghost use Rattle.causal_clock.specs.Packed.{row_at, logged};
 
 use crate::changed::Changed;
 use crate::clock::Clock;
@@ -22,15 +22,20 @@ use std::sync::ledger::Ledger;
 /// No log is longer: its entries have places of 32 bits.
 const MAX_ROWS: usize = 67_108_864;
 
-/// Each operation of a site that has a number of this multiple keeps its whole clock.
+/// Each operation of a site that has a number of this multiple keeps its whole clock as entries.
 const WHOLE: u32 = 64;
 
+/// Each operation of a site that has a number of this multiple has a mark.
+const MARK: u32 = 8;
+
 /// A log of operations. Of each operation it keeps the entries of its clock that differ from those of its site's
-/// operation before, and of each 64th operation of a site all 32.
+/// operation before, and of each 64th operation of a site all 32. Beside them each 8th operation of a site has a mark,
+/// the whole clock of its site's operation before it, so that what is asked for is near one.
 #[derive(Drop)]
 pub struct OpLog {
     rows: Vec<Row>,
     entries: Vec<Changed>,
+    marks: Vec<[u32; SITES]>,
     clocks: [Clock; SITES],
     lasts: [u32; SITES],
     numbers: [u32; SITES],
@@ -47,8 +52,9 @@ impl Model for OpLog {
 
     ghost view = { λ l. record { ops = logged l.entries.items l.rows.items; room = l.room } };
 
-    ghost invariant = { λ l. IsPacked l.entries.items l.rows.items (logged l.entries.items l.rows.items) l.clocks l.lasts l.numbers
-        × AreReserved (vec_len l.rows) (vec_capacity l.rows) (vec_len l.entries) (vec_capacity l.entries) l.room };
+    ghost invariant = { λ l. IsPacked l.entries.items l.marks.items l.rows.items (logged l.entries.items l.rows.items) l.clocks l.lasts
+        l.numbers
+        × AreReserved (vec_len l.rows) (vec_capacity l.rows) (vec_len l.entries) (vec_capacity l.entries) (vec_capacity l.marks) l.room };
 }
 
 impl OpLog {
@@ -59,6 +65,7 @@ impl OpLog {
         OpLog {
             rows: Vec::new(alloc),
             entries: Vec::new(alloc),
+            marks: Vec::new(alloc),
             clocks: [Clock::zero(); SITES],
             lasts: [0; SITES],
             numbers: [0; SITES],
@@ -80,17 +87,17 @@ impl OpLog {
         self.entries.len()
     }
 
-    /// The operation at the place. Takes no memory, and reads what is kept of at most 64 operations: itself, and those of
-    /// its site before it back to one that has its whole clock. It sets 32 counts, and puts in the entries of each of them.
+    /// The operation at the place. Takes no memory, and reads what is kept of at most 8 operations: itself, and those of
+    /// its site before it back to one that has a mark, or to its first. It copies 32 counts, and puts in the entries of each of them.
     pub fn get<L: Ledger>(&self, i: usize, steps: &mut Reads<L>) -> Op
         requires { i < length self.now.ops }
         ensures value { slice_get self.now.ops i ≡ Some result }
-        ensures cost { steps.new ≤ steps.old + 64 }
+        ensures cost { steps.new ≤ steps.old + 8 }
     {
         let rows = self.rows.as_slice();
         let entries = self.entries.as_slice();
         let (row, changes) = read(rows, entries, i, steps);
-        let before = counts_before(rows, entries, &row, steps);
+        let before = counts_before(rows, entries, self.marks.as_slice(), &row, steps);
         told_by(&row, filled(before, changes))
     }
 
@@ -101,11 +108,17 @@ impl OpLog {
         ensures passed { result.passed ≡ [] }
         ensures left { result.left ≡ drop place self.now.ops }
     {
-        Replay::new(self.rows.as_slice(), self.entries.as_slice(), place)
+        Replay::new(
+            self.rows.as_slice(),
+            self.entries.as_slice(),
+            self.marks.as_slice(),
+            place,
+        )
     }
 
     /// Reserves memory for the next `n` operations, so that they aren't refused with `Memory`: for each 20 bytes,
-    /// and 128 for the 32 entries that it may have. Constant time; nothing grows where so many are reserved already. Refused with `Memory`,
+    /// 128 for the 32 entries that it may have, and 16 for its part of a mark, of which there is at most one for eight operations of
+    /// the log. Constant time; nothing grows where so many are reserved already. Refused with `Memory`,
     /// only where fewer are: for want of it, or above 67,108,864 operations.
     pub fn reserve(&mut self, n: usize) -> Result<(), Refusal>
         ensures ok { OnOk result (self.new ≡ record self.old { room = max self.old.room n }) }
@@ -113,7 +126,7 @@ impl OpLog {
         ensures memory { IfErr result (λ e. (e ≡ Memory) × (self.old.room < n)) }
     {
         if self.room < n {
-            reserve_each(&mut self.rows, &mut self.entries, n)?;
+            reserve_each(&mut self.rows, &mut self.entries, &mut self.marks, n)?;
             self.room = n;
         }
         Ok(())
@@ -130,11 +143,12 @@ impl OpLog {
         ensures memory { IfErr result (λ e. (e ≡ Memory) × (self.old.room ≡ 0)) }
     {
         if self.room == 0 {
-            reserve_each(&mut self.rows, &mut self.entries, 1)?;
+            reserve_each(&mut self.rows, &mut self.entries, &mut self.marks, 1)?;
         }
         append(
             &mut self.rows,
             &mut self.entries,
+            &mut self.marks,
             &mut self.clocks,
             &mut self.lasts,
             &mut self.numbers,
@@ -146,12 +160,22 @@ impl OpLog {
 }
 
 /// Reserves memory for `n` more operations.
-fn reserve_each(rows: &mut Vec<Row>, entries: &mut Vec<Changed>, n: usize) -> Result<(), Refusal>
+fn reserve_each(
+    rows: &mut Vec<Row>,
+    entries: &mut Vec<Changed>,
+    marks: &mut Vec<[u32; SITES]>,
+    n: usize,
+) -> Result<(), Refusal>
     ensures rows { rows.new.items ≡ rows.old.items }
     ensures entries { entries.new.items ≡ entries.old.items }
-    ensures kept { (room : ℕ) → AreReserved (vec_len rows.old) (vec_capacity rows.old) (vec_len entries.old) (vec_capacity entries.old) room
-        → AreReserved (vec_len rows.new) (vec_capacity rows.new) (vec_len entries.new) (vec_capacity entries.new) room }
-    ensures ok { OnOk result (AreReserved (vec_len rows.new) (vec_capacity rows.new) (vec_len entries.new) (vec_capacity entries.new) n) }
+    ensures marks { marks.new.items ≡ marks.old.items }
+    ensures kept { (room : ℕ)
+        → AreReserved (vec_len rows.old) (vec_capacity rows.old) (vec_len entries.old) (vec_capacity entries.old)
+        (vec_capacity marks.old) room
+        → AreReserved (vec_len rows.new) (vec_capacity rows.new) (vec_len entries.new) (vec_capacity entries.new)
+        (vec_capacity marks.new) room }
+    ensures ok { OnOk result (AreReserved (vec_len rows.new) (vec_capacity rows.new) (vec_len entries.new) (vec_capacity entries.new)
+        (vec_capacity marks.new) n) }
     ensures memory { IfErr result (λ e. e ≡ Memory) }
 {
     if rows.len() > MAX_ROWS || n > MAX_ROWS - rows.len() {
@@ -159,49 +183,64 @@ fn reserve_each(rows: &mut Vec<Row>, entries: &mut Vec<Changed>, n: usize) -> Re
     }
     rows.reserve(n)?;
     entries.reserve(SITES * n)?;
+    let eighths = (rows.len() + n) / MARK as usize;
+    marks.reserve(eighths.saturating_sub(marks.len()))?;
     Ok(())
 }
 
-/// The counts into which a row's entries are put: none, or those of the clock of its site's operation before. Reads as
-/// many operations as the row goes back.
+/// The counts into which a row's entries are put: those that it names, or those of the clock of its site's operation before.
+/// Reads as many operations as the row goes back.
 pub(crate) fn counts_before<L: Ledger>(
     rows: &[Row],
     entries: &[Changed],
+    marks: &[[u32; SITES]],
     row: &Row,
     steps: &mut Reads<L>,
 ) -> [u32; SITES]
-    requires rows { AreRows entries.now rows.now (logged entries.now rows.now) }
+    requires rows { AreRows entries.now marks.now rows.now (logged entries.now rows.now) }
     requires row { (k : ℕ) × (k < length rows.now) × (row_at rows.now k ≡ row.now) }
     ensures counts { (k : ℕ) → k < length rows.now → row_at rows.now k ≡ row.now
         → fill result (changes_of entries.now row.now) ≡ (operation_at (logged entries.now rows.now) k).clock }
     ensures cost { steps.new ≡ steps.old + row.now.back }
 {
     let mut counts = [0; SITES];
-    put_before(rows, entries, row, &mut counts, steps);
+    put_before(rows, entries, marks, row, &mut counts, steps);
     counts
 }
 
-/// Puts these counts where none are. In place, since a row may go back over 63 others.
+/// Puts these counts over others. In place, since a row may go back over 7 others.
 fn put_before<L: Ledger>(
     rows: &[Row],
     entries: &[Changed],
+    marks: &[[u32; SITES]],
     row: &Row,
     counts: &mut [u32; SITES],
     steps: &mut Reads<L>,
 )
-    requires none { counts.old ≡ clock_of [] }
-    requires rows { AreRows entries.now rows.now (logged entries.now rows.now) }
+    requires rows { AreRows entries.now marks.now rows.now (logged entries.now rows.now) }
     requires row { (k : ℕ) × (k < length rows.now) × (row_at rows.now k ≡ row.now) }
     ensures counts { (k : ℕ) → k < length rows.now → row_at rows.now k ≡ row.now
         → fill counts.new (changes_of entries.now row.now) ≡ (operation_at (logged entries.now rows.now) k).clock }
     ensures cost { steps.new ≡ steps.old + row.now.back }
 {
     if row.back == 0 {
+        *counts = named_counts(marks, row);
         return;
     }
     let (last, changes) = read(rows, entries, row.prev as usize, steps);
-    put_before(rows, entries, &last, counts, steps);
+    put_before(rows, entries, marks, &last, counts, steps);
     put_in(counts, changes);
+}
+
+/// The counts that a row names: those of its mark, or none.
+fn named_counts(marks: &[[u32; SITES]], row: &Row) -> [u32; SITES]
+    requires { row.now.marked ≡ true → row.now.prev < length marks.now }
+    ensures { result ≡ base_of marks.now row.now }
+{
+    if row.marked {
+        return marks[row.prev as usize];
+    }
+    [0; SITES]
 }
 
 /// Puts in each of the entries.
@@ -261,52 +300,75 @@ fn push_changes(entries: &mut Vec<Changed>, whole: bool, before: &[u32; SITES], 
     told
 }
 
-/// How many operations of its site a site's operation of this number has to go back to one that tells its whole clock.
-fn back_of(rows: &[Row], whole: bool, number: u32, prev: u32) -> u8
-    requires { whole ≡ false → 1 < number → (prev < length rows.now) × ((row_at rows.now prev).back < 64) }
-    ensures whole { whole ≡ true → result ≡ 0 }
-    ensures first { number ≤ 1 → result ≡ 0 }
-    ensures next { whole ≡ false → 1 < number → result ≡ (row_at rows.now prev).back + 1 }
+/// Keeps the counts as the mark of an operation that has one, and tells where, or else the place that is given.
+fn push_mark(marks: &mut Vec<[u32; SITES]>, marked: bool, before: &[u32; SITES], last: u32) -> u32
+    requires room { marked ≡ true → vec_len marks.old < vec_capacity marks.old }
+    requires few { vec_len marks.old < MAX_ROWS }
+    ensures items { marks.new.items ≡ marks.old.items ++ marks_of marked before.now }
+    ensures place { result ≡ (if marked then length marks.old.items else last) }
+    ensures capacity { vec_capacity marks.old ≤ vec_capacity marks.new }
 {
-    if whole {
+    if !marked {
+        return last;
+    }
+    let place = marks.len() as u32;
+    marks.push_reserved(*before);
+    place
+}
+
+/// How many operations of its site a site's operation of this number has to go back to one that has a mark, or is its first.
+fn back_of(rows: &[Row], marked: bool, number: u32, last: u32) -> u8
+    requires { marked ≡ false → 1 < number → (last < length rows.now) × ((row_at rows.now last).back < 8) }
+    ensures marked { marked ≡ true → result ≡ 0 }
+    ensures first { number ≤ 1 → result ≡ 0 }
+    ensures next { marked ≡ false → 1 < number → result ≡ (row_at rows.now last).back + 1 }
+{
+    if marked {
         return 0;
     }
     if number <= 1 {
         return 0;
     }
-    rows[prev as usize].back + 1
+    rows[last as usize].back + 1
 }
 
 /// Adds an operation that there is room for.
 fn append(
     rows: &mut Vec<Row>,
     entries: &mut Vec<Changed>,
+    marks: &mut Vec<[u32; SITES]>,
     clocks: &mut [Clock; SITES],
     lasts: &mut [u32; SITES],
     numbers: &mut [u32; SITES],
     op: Op,
 )
-    requires packed { IsPacked entries.old.items rows.old.items (logged entries.old.items rows.old.items) clocks.old lasts.old numbers.old }
+    requires packed { IsPacked entries.old.items marks.old.items rows.old.items (logged entries.old.items rows.old.items) clocks.old
+        lasts.old numbers.old }
     requires rows { vec_len rows.old < vec_capacity rows.old }
     requires entries { vec_len entries.old + 32 ≤ vec_capacity entries.old }
+    requires marks { vec_len rows.old + 1 < 8 * vec_capacity marks.old + 8 }
     requires few { vec_len rows.old < MAX_ROWS }
-    ensures packed { IsPacked entries.new.items rows.new.items (logged entries.new.items rows.new.items) clocks.new lasts.new numbers.new }
+    ensures packed { IsPacked entries.new.items marks.new.items rows.new.items (logged entries.new.items rows.new.items) clocks.new
+        lasts.new numbers.new }
     ensures grown { logged entries.new.items rows.new.items ≡ logged entries.old.items rows.old.items ++ op ∷ [] }
     ensures rows { vec_len rows.new ≡ vec_len rows.old + 1 }
     ensures entries { vec_len entries.new ≤ vec_len entries.old + 32 }
     ensures row_capacity { vec_capacity rows.old ≤ vec_capacity rows.new }
     ensures entry_capacity { vec_capacity entries.old ≤ vec_capacity entries.new }
+    ensures mark_capacity { vec_capacity marks.old ≤ vec_capacity marks.new }
 {
     let site = op.site();
     let place = usize::from(site.number());
     let clock = op.clock();
     let number = numbers[place] + 1;
     let whole = number % WHOLE == 0;
+    let marked = number % MARK == 0;
     let from = entries.len() as u32;
     let before = clocks[place].counts();
     let count = push_changes(entries, whole, before, &clock);
-    let prev = lasts[place];
-    let back = back_of(rows.as_slice(), whole, number, prev);
+    let last = lasts[place];
+    let back = back_of(rows.as_slice(), marked, number, last);
+    let prev = push_mark(marks, marked, before, last);
     lasts[place] = rows.len() as u32;
     numbers[place] = number;
     clocks[place] = clock;
@@ -317,5 +379,6 @@ fn append(
         site,
         back,
         count,
+        marked,
     });
 }

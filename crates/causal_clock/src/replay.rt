@@ -20,6 +20,7 @@ use std::sync::ledger::{Blank, Ledger};
 pub struct Replay<'a> {
     rows: &'a [Row],
     entries: &'a [Changed],
+    marks: &'a [[u32; SITES]],
 
     /// Where the walk began.
     start: usize,
@@ -45,13 +46,18 @@ impl<'a> Model for Replay<'a> {
       left = drop r.place (logged r.entries.now r.rows.now);
     } };
 
-    ghost invariant = { λ r. IsReplay r.seen r.entries.now r.rows.now r.start r.place };
+    ghost invariant = { λ r. IsReplay r.seen r.entries.now r.marks.now r.rows.now r.start r.place };
 }
 
 impl<'a> Replay<'a> {
     /// These rows' operations from a place on.
-    pub(crate) fn new(rows: &'a [Row], entries: &'a [Changed], place: usize) -> Replay<'a>
-        requires rows { AreRows entries.now rows.now (logged entries.now rows.now) }
+    pub(crate) fn new(
+        rows: &'a [Row],
+        entries: &'a [Changed],
+        marks: &'a [[u32; SITES]],
+        place: usize,
+    ) -> Replay<'a>
+        requires rows { AreRows entries.now marks.now rows.now (logged entries.now rows.now) }
         requires place { place ≤ length rows.now }
         ensures passed { result.passed ≡ [] }
         ensures left { result.left ≡ drop place (logged entries.now rows.now) }
@@ -59,6 +65,7 @@ impl<'a> Replay<'a> {
         Replay {
             rows,
             entries,
+            marks,
             start: place,
             place,
             seen: [None; SITES],
@@ -76,18 +83,25 @@ impl<'a> Replay<'a> {
     }
 
     /// The next operation, where one is left, and counts the operations that are read. Takes no memory, and reads what is kept
-    /// of that operation alone where one of its site was passed, else that of at most 64 operations. It copies 32 counts, and puts
+    /// of that operation alone where one of its site was passed, else that of at most 8 operations. It copies 32 counts, and puts
     /// in the entries of each that is read.
     pub fn read_next<L: Ledger>(&mut self, steps: &mut Reads<L>) -> Op
         requires { 0 < length self.old.left }
         ensures value { self.old.left ≡ result ∷ self.new.left }
         ensures passed { self.new.passed ≡ self.old.passed ++ result ∷ [] }
-        ensures cost { steps.new ≤ steps.old + 64 }
+        ensures cost { steps.new ≤ steps.old + 8 }
         ensures next { 0 < count_of self.old.passed result.site → steps.new ≡ steps.old + 1 }
     {
         let at = self.place;
         self.place = at + 1;
-        op_after(&mut self.seen, self.rows, self.entries, at, steps)
+        op_after(
+            &mut self.seen,
+            self.rows,
+            self.entries,
+            self.marks,
+            at,
+            steps,
+        )
     }
 }
 
@@ -126,22 +140,23 @@ fn op_after<L: Ledger>(
     seen: &mut [Option<[u32; SITES]>; SITES],
     rows: &[Row],
     entries: &[Changed],
+    marks: &[[u32; SITES]],
     at: usize,
     steps: &mut Reads<L>,
 ) -> Op
     requires within { at < length rows.now }
-    requires rows { AreRows entries.now rows.now (logged entries.now rows.now) }
+    requires rows { AreRows entries.now marks.now rows.now (logged entries.now rows.now) }
     requires seen { AreSeen seen.old (logged entries.now rows.now) at }
     ensures op { slice_get (logged entries.now rows.now) at ≡ Some result }
     ensures seen { AreSeen seen.new (logged entries.now rows.now) (at + 1) }
     ensures kept { (counts : List ℕ) × (seen.new ≡ slice_set seen.old result.site (Some counts)) }
     ensures site { result.site < length seen.old }
-    ensures cost { steps.new ≤ steps.old + 64 }
+    ensures cost { steps.new ≤ steps.old + 8 }
     ensures next { (counts : List ℕ) → get_or seen.old result.site None ≡ Some counts → steps.new ≡ steps.old + 1 }
 {
     let (row, changes) = read(rows, entries, at, steps);
     let site = usize::from(row.site.number());
-    let before = counts_after(seen[site], rows, entries, &row, steps);
+    let before = counts_after(seen[site], rows, entries, marks, &row, steps);
     let counts = filled(before, changes);
     seen[site] = Some(counts);
     told_by(&row, counts)
@@ -152,10 +167,11 @@ fn counts_after<L: Ledger>(
     kept: Option<[u32; SITES]>,
     rows: &[Row],
     entries: &[Changed],
+    marks: &[[u32; SITES]],
     row: &Row,
     steps: &mut Reads<L>,
 ) -> [u32; SITES]
-    requires rows { AreRows entries.now rows.now (logged entries.now rows.now) }
+    requires rows { AreRows entries.now marks.now rows.now (logged entries.now rows.now) }
     requires row { (k : ℕ) × (k < length rows.now) × (row_at rows.now k ≡ row.now) }
     requires kept { (counts : List ℕ) → kept ≡ Some counts → 0 < row.now.back
         → counts ≡ (operation_at (logged entries.now rows.now) row.now.prev).clock }
@@ -166,6 +182,6 @@ fn counts_after<L: Ledger>(
 {
     match kept {
         Some(counts) if row.back > 0 => counts,
-        _ => counts_before(rows, entries, row, steps),
+        _ => counts_before(rows, entries, marks, row, steps),
     }
 }

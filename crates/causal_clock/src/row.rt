@@ -8,19 +8,21 @@ use crate::reads::Reads;
 use opid::Site;
 use std::sync::ledger::Ledger;
 
-/// An operation's site and kind, where its entries are, and where its site's operation before it is.
+/// An operation's site and kind, where its entries are, and where its mark or its site's operation before it is.
 #[derive(Clone, Copy)]
 pub(crate) struct Row {
     pub(crate) kind: PackedKind,
     /// The first of its entries, in the vector of entries.
     pub(crate) from: u32,
-    /// The place of its site's operation before it, where there is one.
+    /// The place of its mark, in the vector of marks, or else of its site's operation before it, where there is one.
     pub(crate) prev: u32,
     pub(crate) site: Site,
-    /// How many operations of its site one has to go back to one whose entries tell its whole clock.
+    /// How many operations of its site one has to go back to one that has a mark, or is its first.
     pub(crate) back: u8,
     /// How many entries it has.
     pub(crate) count: u8,
+    /// Whether it has a mark: the whole clock of its site's operation before it.
+    pub(crate) marked: bool,
 }
 
 const _: () = prove!(size_of::<Row>() == 20);
