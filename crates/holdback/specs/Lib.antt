@@ -2,4 +2,5 @@
 pub mod Same
 pub mod Offered
 pub mod Ready
+pub mod Packed
 pub mod First

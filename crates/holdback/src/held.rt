@@ -1,21 +1,28 @@
 //! The operations that are held back, in order of arrival.
-ghost use Rattle.std.specs.Prelude.{◌≡◌, ◌==◌, ◌<◌, ◌≤◌, ◌+◌, ◌⊎◌, [], true, Ok, Err, length, map, max, position};
-ghost use Rattle.std.specs.Prelude.{IfOk, IfErr, OnOk, OnErr, IfSome, OnSome, IfNone};
+ghost use Rattle.std.specs.Prelude.{◌≡◌, ◌==◌, ◌<◌, ◌≤◌, ◌+◌, ◌⊎◌, [], true, not, Ok, Err, length, map, max, position};
+ghost use Rattle.std.specs.Prelude.{IfOk, IfErr, OnOk, OnErr, IfSome, OnSome, IfNone, MatchOption, IsFalse};
+ghost use Rattle.std.specs.List.{prefix_len};
+ghost use Rattle.std.specs.Simd.Lanes.{chunk};
 ghost use Rattle.opid.specs.declared.refusal.Refusal.TheVariants.{Memory};
 ghost use Rattle.opid.specs.Clocks.{entry, is_next};
 ghost use Rattle.opid.specs.Operations.{number_of};
 ghost use Rattle.holdback.specs.declared.held.Arrival.TheVariants as arrivals;
 ghost use Rattle.holdback.specs.Same.{is_same_operation};
-ghost use Rattle.holdback.specs.Offered.{look_for, offered, is_same_number, after_arrival};
+ghost use Rattle.holdback.specs.Offered.{look_for, offered, after_arrival};
+ghost use Rattle.holdback.specs.Packed.{unpacked, AreDue, NoneDue, NoneReadyIn, IsFirstReadyIn};
 ghost use Rattle.holdback.specs.Ready.{first_ready, without_first_ready};
 
 use causal_clock::{Clock, Op};
-use opid::{Refusal, Site};
+use opid::{Refusal, SITES, Site};
 use std::alloc::Global;
 use std::marker::Model;
+use std::simd::prelude::*;
 
 /// At most so many operations are held back.
 pub const MAX_HELD: usize = 1024;
+
+/// So many numbers are looked at together.
+const BLOCK: usize = 16;
 
 /// How an operation arrived.
 #[derive(Clone, Copy, Debug, PartialEq, Eq)]
@@ -26,12 +33,12 @@ pub enum Arrival {
     Again,
 }
 
-/// Operations whose causal past isn't there yet, in order of arrival: at most 1,024 of some 170 bytes each.
+/// Operations whose causal past isn't there yet, in order of arrival: at most 1,024 of some 160 bytes each.
 #[derive(Drop)]
 pub struct Held {
     ops: Vec<Op>,
-    /// The number of each, so that those which can't be meant are passed without a look at the operation.
-    numbers: Vec<(Site, u32)>,
+    /// The number of each, packed into one, so that those which can't be meant are passed without a look at the operation.
+    numbers: Vec<u32>,
     room: usize,
 }
 
@@ -39,13 +46,14 @@ impl Model for Held {
     ghost use Rattle.std.specs.Prelude.{◌≡◌, ◌≤◌, map, vec_len, vec_capacity};
     ghost use Rattle.opid.specs.Operations.{number_of};
     ghost use Rattle.holdback.specs.Offered.{HeldOperations};
+    ghost use Rattle.holdback.specs.Packed.{unpacked};
 
     ghost Value = { HeldOperations };
 
     ghost view = { λ h. record { ops = h.ops.items; room = h.room } };
 
     ghost invariant = { λ h. (vec_len h.ops ≤ 1024) × (h.room ≤ vec_capacity h.ops) × (h.room ≤ vec_capacity h.numbers)
-        × (h.numbers.items ≡ map number_of h.ops.items) };
+        × (map unpacked h.numbers.items ≡ map number_of h.ops.items) };
 }
 
 impl Held {
@@ -73,7 +81,7 @@ impl Held {
     pub fn look(&self, op: &Op) -> Result<bool, Refusal>
         ensures { result ≡ look_for op.now self.now.ops }
     {
-        match place_of(self.numbers.as_slice(), op.number()) {
+        match place_of(self.numbers.as_slice(), packed(op)) {
             None => Ok(false),
             Some(place) => {
                 if is_same(op, &self.ops[place]) {
@@ -104,7 +112,7 @@ impl Held {
         if self.len() >= MAX_HELD {
             return Err(Refusal::HoldFull);
         }
-        let number = op.number();
+        let number = packed(&op);
         self.numbers.reserve(1)?;
         self.ops.push(op)?;
         self.numbers.push_reserved(number);
@@ -112,8 +120,9 @@ impl Held {
     }
 
     /// Takes out the first operation, in order of arrival, that is ready where just the operations are that the clock
-    /// counts. The others keep their order, so those behind it move up. Takes no memory, and the
-    /// steps of `Clock::ready`, some 32, for each operation up to the one that is taken; each one behind it is moved once.
+    /// counts. The others keep their order, so those behind it move up. Takes no memory, a step for each of 32 sites, a step for
+    /// each operation up to 15 behind the one that is taken, and the steps of `Clock::ready`, some 32, for those of them that are
+    /// their sites' next ones; each one behind it is moved once.
     #[tactic(auto, using(crate::proofs::Places::taken, crate::proofs::Places::none_taken, crate::proofs::Places::left, crate::proofs::Places::all_left))]
     pub fn take_first_ready(&mut self, clock: &Clock) -> Option<Op>
         ensures taken { result ≡ first_ready clock.now self.old.ops }
@@ -155,28 +164,106 @@ fn is_same(a: &Op, b: &Op) -> bool
     a == b
 }
 
-/// The place of the first number that is this one.
-fn place_of(numbers: &[(Site, u32)], number: (Site, u32)) -> Option<usize>
-    ensures { result ≡ position (λ m. is_same_number number m) numbers.now }
+/// The operation's number, its site and its count, as one: the site, and 32 times the count.
+fn packed(op: &Op) -> u32
+    ensures { unpacked result ≡ number_of op.now }
 {
-    numbers.iter().position(|held| is_number(number, held))
+    let site = op.site().number();
+    let (_, count) = op.number();
+    u32::from(site) + count * 32
 }
 
-/// Whether the two numbers are one.
-fn is_number(number: (Site, u32), held: &(Site, u32)) -> bool
-    ensures { result ≡ is_same_number number held.now }
+/// The place of the first number that is this one. The numbers of a whole block are compared with it at once, and those behind the
+/// last one by one.
+fn place_of(numbers: &[u32], number: u32) -> Option<usize>
+    ensures { result ≡ position (λ n. n == number) numbers.now }
 {
-    number == *held
+    for block in 0..numbers.len() / BLOCK {
+        let start = block * BLOCK;
+        let before = others_before(numbers, start, number);
+        if before < BLOCK {
+            return Some(start + before);
+        }
+    }
+    for at in numbers.len() / BLOCK * BLOCK..numbers.len() {
+        if numbers[at] == number {
+            return Some(at);
+        }
+    }
+    None
 }
 
-/// The place of the first operation that is ready where just the operations are that the clock counts. Of those whose number isn't
-/// its site's next one nothing else is looked at.
-fn first_ready(ops: &[Op], numbers: &[(Site, u32)], clock: &Clock) -> Option<usize>
-    requires { numbers.now ≡ map number_of ops.now }
+/// How many numbers of the block that starts here stand before the first that is this one: all, where none is.
+fn others_before(numbers: &[u32], start: usize, number: u32) -> usize
+    requires { start + BLOCK ≤ length numbers.now }
+    ensures { result ≡ prefix_len (λ n. not (n == number)) (chunk start BLOCK numbers.now) }
+{
+    let same = u32x16::from_slice(&numbers[start..])
+        .simd_eq(u32x16::splat(number))
+        .to_bitmask();
+    if same == 0 {
+        BLOCK
+    } else {
+        same.trailing_zeros() as usize
+    }
+}
+
+/// The place of the first operation that is ready where just the operations are that the clock counts. A whole block is passed
+/// by its numbers where none of them is its site's next one; a table of these isn't made where fewer are held than a block.
+fn first_ready(ops: &[Op], numbers: &[u32], clock: &Clock) -> Option<usize>
+    requires { map unpacked numbers.now ≡ map number_of ops.now }
     ensures { result ≡ position (λ x. is_next x.site x.clock clock.now) ops.now }
 {
-    for place in 0..numbers.len() {
-        if is_due(numbers[place], clock) && clock.ready(&ops[place]) {
+    if ops.len() < BLOCK {
+        return first_ready_of(ops, 0, ops.len(), clock);
+    }
+    let due = due_numbers(clock);
+    for block in 0..ops.len() / BLOCK {
+        let start = block * BLOCK;
+        if has_due(numbers, start, &due) {
+            let found = first_ready_of(ops, start, start + BLOCK, clock);
+            if found.is_some() {
+                return found;
+            }
+        }
+    }
+    first_ready_of(ops, ops.len() / BLOCK * BLOCK, ops.len(), clock)
+}
+
+/// The number of each site's next operation after those that the clock counts, packed. Takes a step for each site.
+fn due_numbers(clock: &Clock) -> [u32; SITES]
+    ensures { AreDue clock.now result }
+{
+    let mut due = [0; SITES];
+    for number in 0..SITES {
+        if let Ok(site) = Site::new(number as u8) {
+            due[number] = number as u32 + (clock.entry(site) + 1) * 32;
+        }
+    }
+    due
+}
+
+/// Whether one of the block of numbers that starts here is its site's next one. All are looked at, so that no step waits for the
+/// one before it.
+fn has_due(numbers: &[u32], start: usize, due: &[u32; SITES]) -> bool
+    requires { start + BLOCK ≤ length numbers.now }
+    ensures { IsFalse result → NoneDue due.now numbers.now start (start + BLOCK) }
+{
+    let mut found = false;
+    for place in 0..BLOCK {
+        let number = numbers[start + place];
+        found |= due[(number % 32) as usize] == number;
+    }
+    found
+}
+
+/// The place of the first of these operations that is ready where just the operations are that the clock counts. Of those whose number isn't its site's next one nothing else is looked at.
+fn first_ready_of(ops: &[Op], start: usize, end: usize, clock: &Clock) -> Option<usize>
+    requires { (start ≤ end) × (end ≤ length ops.now) }
+    ensures { MatchOption result (NoneReadyIn clock.now ops.now start end) (IsFirstReadyIn clock.now ops.now start end) }
+{
+    for place in start..end {
+        if is_due(ops[place].number(), clock) && clock.ready(&ops[place]) {
             return Some(place);
         }
     }

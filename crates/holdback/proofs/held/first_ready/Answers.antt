@@ -1,30 +1,35 @@
-use Rattle.std.proofs.Common.{◌∙◌, get_or, ap, sym, arith}
-use Rattle.holdback.proofs.Numbers.{as_many, first_at, none_at_all, one_more, not_ready, not_due}
+use Rattle.std.proofs.Common.{◌+◌, ◌*◌, ◌/◌, length, arith, sym, ◌∙◌, refl}
+use Rattle.opid.specs.Clocks.{is_next}
+use Rattle.opid.specs.Operations.{Operation}
+use Rattle.holdback.proofs.Numbers.{first_of, found_in, not_found_in, in_both, none_due}
 use Rattle.holdback.proofs.held.first_ready.Goals as goal
-use Rattle.holdback.proofs.held.first_ready.Goals.{else-is_due-via-then-is_due+else-ready, else-is_due-via-else-is_due}
+use Rattle.holdback.proofs.held.first_ready.Goals.{then-has_due+else-is_some, else-has_due}
 
-pub returns-then-ready : goal.returns-then-ready
-returns-then-ready c =
-    first_at c.args.clock.now c.args.ops.now c.loop-place.place c.index-ops-place.result
-    (omega (arith, c.loop-place-test.true, as_many c.args.numbers.now c.args.ops.now c.requires)) c.index-ops-place.is
-    c.loop-place.invariant (sym c.ready.ensures ∙ c.if-ready.true)
+pub returns-then-ops-lt-BLOCK : goal.returns-then-ops-lt-BLOCK
+returns-then-ops-lt-BLOCK c =
+    first_of c.args.clock.now c.args.ops.now 0 (length c.args.ops.now) c.first_ready_of.result refl (λ k d s l. absurd (omega (arith, l)))
+    c.first_ready_of.ensures
 
-pub loop-place-preserved : goal.loop-place-preserved
-loop-place-preserved c =
-    one_more c.args.clock.now c.args.ops.now c.loop-place.place c.loop-place.invariant
-    (elim c.else-is_due.branch [
-      | else-is_due-via-then-is_due+else-ready w ↦
-          not_ready c.args.clock.now c.args.ops.now c.loop-place.place w.index-ops-place.result
-          (omega (arith, c.loop-place-test.true, as_many c.args.numbers.now c.args.ops.now c.requires)) w.index-ops-place.is
-          (sym w.ready.ensures ∙ w.if-ready.false)
-      | else-is_due-via-else-is_due w ↦
-          not_due c.args.clock.now c.args.ops.now c.loop-place.place c.index-numbers-place.result
-          (omega (arith, c.loop-place-test.true, as_many c.args.numbers.now c.args.ops.now c.requires))
-          (c.index-numbers-place.is ∙ ap (λ ns. get_or ns c.loop-place.place c.index-numbers-place.result) c.requires)
-          (sym c.is_due.ensures ∙ w.if-is_due.false)
+pub returns-then-is_some : goal.returns-then-is_some
+returns-then-is_some c =
+    found_in c.args.clock.now c.args.ops.now (c.loop-block.block * 16) (c.loop-block.block * 16 + 16) c.first_ready_of-found.result
+    (omega (arith, c.loop-block-test.true)) c.loop-block.invariant c.first_ready_of-found.ensures (sym c.is_some.ensures ∙ c.if-is_some.true)
+
+pub loop-block-preserved : goal.loop-block-preserved
+loop-block-preserved c k d s l =
+    in_both (λ (y : Operation). is_next y.site y.clock c.args.clock.now) c.args.ops.now 0 (c.loop-block.block * 16) (c.loop-block.block * 16 + 16)
+    c.loop-block.invariant
+    (elim c.if-has_due.branch [
+      | then-has_due+else-is_some w ↦
+          not_found_in c.args.clock.now c.args.ops.now (c.loop-block.block * 16) (c.loop-block.block * 16 + 16) w.first_ready_of-found.result
+          w.first_ready_of-found.ensures (sym w.is_some.ensures ∙ w.if-is_some.false)
+      | else-has_due w ↦
+          none_due c.args.clock.now c.due_numbers-due.result c.args.numbers.now c.args.ops.now (c.loop-block.block * 16)
+          (c.loop-block.block * 16 + 16) c.due_numbers-due.ensures c.requires (omega (arith, c.loop-block-test.true)) (c.has_due.ensures w.if-has_due.false)
     ])
+    k d s (omega (arith, l))
 
 pub returns : goal.returns
 returns c =
-    none_at_all c.args.clock.now c.args.ops.now c.loop-place.place
-    (omega (arith, c.loop-place-test.false, as_many c.args.numbers.now c.args.ops.now c.requires)) c.loop-place.invariant
+    first_of c.args.clock.now c.args.ops.now (length c.args.ops.now / 16 * 16) (length c.args.ops.now) c.first_ready_of-2.result refl
+    (λ k d s l. c.loop-block.invariant k d s (omega (arith, l, c.loop-block-test.false))) c.first_ready_of-2.ensures

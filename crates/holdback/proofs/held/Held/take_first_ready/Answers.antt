@@ -1,12 +1,12 @@
 -- Where none is ready, all stay; what is taken out is ready.
 use Rattle.std.proofs.Common.{◌≡◌, ◌∙◌, None, Some, List, ap, sym, arith, map, position}
-use Rattle.std.specs.List.{remove}
 use Rattle.opid.specs.Clocks.{is_next}
 use Rattle.opid.specs.Operations.{Operation, number_of}
 use Rattle.holdback.specs.Offered.{HeldOperations}
+use Rattle.holdback.specs.Packed.{unpacked}
 use Rattle.holdback.specs.Ready.{first_ready, without_first_ready}
 use Rattle.holdback.proofs.Places.{none_taken, all_left, taken-ready}
-use Rattle.holdback.proofs.Numbers.{one_removed}
+use Rattle.holdback.proofs.Numbers.{both_removed}
 use Rattle.holdback.proofs.held.Held.take_first_ready.Goals as goal
 
 pub returns-in-None-clause-taken : goal.returns-in-None-clause-taken
@@ -37,7 +37,7 @@ invariant_of-self c = (
   omega (arith, c.remove-in-Some.ensures.len, c.self.invariant.0),
   omega (arith, c.remove-in-Some.ensures.capacity, c.self.invariant.1),
   omega (arith, c.remove.ensures.capacity, c.self.invariant.2),
-  c.remove.ensures.items ∙ ap (λ ns. remove ns c.in-Some.place) c.self.invariant.3
-      ∙ one_removed c.self.inside.ops.items c.in-Some.place
+  ap (map unpacked) c.remove.ensures.items
+      ∙ both_removed c.self.inside.numbers.items c.self.inside.ops.items c.in-Some.place c.self.invariant.3
       ∙ ap (map number_of) (sym c.remove-in-Some.ensures.items),
 )
