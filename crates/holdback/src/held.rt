@@ -257,7 +257,8 @@ fn has_due(numbers: &[u32], start: usize, due: &[u32; SITES]) -> bool
     found
 }
 
-/// The place of the first of these operations that is ready where just the operations are that the clock counts. Of those whose number isn't its site's next one nothing else is looked at.
+/// The place of the first of these operations that is ready where just the operations are that the clock counts. Of those whose number
+/// isn't its site's next one nothing else is looked at.
 fn first_ready_of(ops: &[Op], start: usize, end: usize, clock: &Clock) -> Option<usize>
     requires { (start ≤ end) × (end ≤ length ops.now) }
     ensures { MatchOption result (NoneReadyIn clock.now ops.now start end) (IsFirstReadyIn clock.now ops.now start end) }

@@ -72,7 +72,7 @@ impl World {
     /// One thing happens. An error is for want of memory, and changes nothing.
     ///
     /// At most 32 steps find each site. A call then takes what `Room::call` takes; what is carried, one look-up in the log
-    /// of its source, which goes at most 63 steps back, and what a `put` of one operation takes; a fork, a walk over the
+    /// of its source, which goes at most 7 steps back, and what a `put` of one operation takes; a fork, a walk over the
     /// first `n` operations and a copy of them (`Doc::copy_ops`), and the time and memory to integrate them into a new
     /// room.
     pub fn step(&mut self, event: Event) -> Result<WorldReply, AllocError>

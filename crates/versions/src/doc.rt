@@ -88,7 +88,7 @@ impl Doc {
         self.clock
     }
 
-    /// The operation that made version `i + 1` of version `i`. Takes the steps of `OpLog::get`: at most 63 back along its
+    /// The operation that made version `i + 1` of version `i`. Takes the steps of `OpLog::get`: at most 7 back along its
     /// site's operations.
     pub fn op(&self, i: u32) -> Op
         requires { i < length self.now.log }
