@@ -119,6 +119,19 @@ impl Rga {
         }
     }
 
+    /// What `get` and `next` say of an element, read at once: its stamp, its character, whether it is shown, and the element right
+    /// after it in the linked order (`None`: it is the last). Constant time.
+    pub fn step(&self, elem: Elem) -> (Stamp, char, bool, Option<Elem>)
+        requires { elem < length self.now.entries }
+        ensures entry { entry_of elem self.now.entries ≡ Some (record { elem = elem; stamp = result.0; ch = result.1; shown = result.2 }) }
+        ensures next { result.3 ≡ next_of (Some elem) self.now.entries }
+        ensures within { IfSome result.3 (λ k. k < length self.now.entries) }
+    {
+        let node = self.nodes[elem as usize].get();
+        let ch = node.ch;
+        (node.stamp, ch, node.shown, node.next)
+    }
+
     /// The greatest stamp of the site, if it inserted an element. Constant time.
     pub fn last_of(&self, site: Site) -> Option<Stamp>
         ensures some { IfSome result (λ stamp. IsGreatestOf self.now.entries site stamp) }
