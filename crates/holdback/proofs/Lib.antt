@@ -4,3 +4,4 @@ pub mod Places
 pub mod Sameness
 pub mod Firsts
 pub mod Stated
+pub mod Slotted

@@ -212,7 +212,7 @@ among x y xs m ns i b e f h g s =
 
 -- ---- what is taken out of both
 
-one_removed : {A B : Type 0} (f : A → B) (xs : List A) (i : ℕ) → map f (remove xs i) ≡ remove (map f xs) i
+pub one_removed : {A B : Type 0} (f : A → B) (xs : List A) (i : ℕ) → map f (remove xs i) ≡ remove (map f xs) i
 one_removed f [] zero = refl
 one_removed f [] (suc i) = refl
 one_removed f (x ∷ xs) zero = refl
@@ -221,3 +221,9 @@ one_removed f (x ∷ xs) (suc i) = ap (λ ys. f x ∷ ys) (one_removed f xs i)
 pub both_removed : (ns : List ℕ) (xs : List Operation) (i : ℕ) → map unpacked ns ≡ map number_of xs
     → map unpacked (remove ns i) ≡ map number_of (remove xs i)
 both_removed ns xs i e = one_removed unpacked ns i ∙ ap (λ ms. remove ms i) e ∙ sym (one_removed number_of xs i)
+
+pub no_more : {A : Type 0} (xs : List A) (i : ℕ) → length (remove xs i) ≤ length xs
+no_more [] zero = omega arith
+no_more [] (suc i) = omega arith
+no_more (x ∷ xs) zero = omega arith
+no_more (x ∷ xs) (suc i) = omega (arith, no_more xs i)

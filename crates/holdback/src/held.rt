@@ -12,6 +12,7 @@ ghost use Rattle.holdback.specs.Offered.{look_for, offered, after_arrival};
 ghost use Rattle.holdback.specs.Packed.{unpacked, AreDue, NoneDue, NoneReadyIn, IsFirstReadyIn};
 ghost use Rattle.holdback.specs.Ready.{first_ready, without_first_ready};
 
+use crate::in_order::InOrder;
 use causal_clock::{Clock, Op};
 use opid::{Refusal, SITES, Site};
 use std::alloc::Global;
@@ -36,24 +37,23 @@ pub enum Arrival {
 /// Operations whose causal past isn't there yet, in order of arrival: at most 1,024 of some 160 bytes each.
 #[derive(Drop)]
 pub struct Held {
-    ops: Vec<Op>,
+    kept: InOrder,
     /// The number of each, packed into one, so that those which can't be meant are passed without a look at the operation.
     numbers: Vec<u32>,
-    room: usize,
 }
 
 impl Model for Held {
-    ghost use Rattle.std.specs.Prelude.{◌≡◌, ◌≤◌, map, vec_len, vec_capacity};
+    ghost use Rattle.std.specs.Prelude.{◌≡◌, ◌≤◌, map, length, vec_capacity};
     ghost use Rattle.opid.specs.Operations.{number_of};
     ghost use Rattle.holdback.specs.Offered.{HeldOperations};
     ghost use Rattle.holdback.specs.Packed.{unpacked};
 
     ghost Value = { HeldOperations };
 
-    ghost view = { λ h. record { ops = h.ops.items; room = h.room } };
+    ghost view = { λ h. h.kept };
 
-    ghost invariant = { λ h. (vec_len h.ops ≤ 1024) × (h.room ≤ vec_capacity h.ops) × (h.room ≤ vec_capacity h.numbers)
-        × (map unpacked h.numbers.items ≡ map number_of h.ops.items) };
+    ghost invariant = { λ h. (length h.kept.ops ≤ 1024) × (h.kept.room ≤ vec_capacity h.numbers)
+        × (map unpacked h.numbers.items ≡ map number_of h.kept.ops) };
 }
 
 impl Held {
@@ -62,9 +62,8 @@ impl Held {
         ensures { result ≡ record { ops = []; room = 0 } }
     {
         Held {
-            ops: Vec::new(alloc),
+            kept: InOrder::new(alloc),
             numbers: Vec::new(alloc),
-            room: 0,
         }
     }
 
@@ -73,7 +72,7 @@ impl Held {
         ensures value { result ≡ length self.now.ops }
         ensures within { result ≤ MAX_HELD }
     {
-        self.ops.len()
+        self.kept.len()
     }
 
     /// Whether the operation is held back. Refused with `Conflict` where another one with its number is. Takes a step
@@ -84,7 +83,7 @@ impl Held {
         match place_of(self.numbers.as_slice(), packed(op)) {
             None => Ok(false),
             Some(place) => {
-                if is_same(op, &self.ops[place]) {
+                if is_same(op, self.kept.get(place)) {
                     Ok(true)
                 } else {
                     Err(Refusal::Conflict)
@@ -114,15 +113,15 @@ impl Held {
         }
         let number = packed(&op);
         self.numbers.reserve(1)?;
-        self.ops.push(op)?;
+        self.kept.push(op)?;
         self.numbers.push_reserved(number);
         Ok(Arrival::Kept)
     }
 
     /// Takes out the first operation, in order of arrival, that is ready where just the operations are that the clock
-    /// counts. The others keep their order, so those behind it move up. Takes no memory, a step for each of 32 sites, a step for
-    /// each operation up to 15 behind the one that is taken, and the steps of `Clock::ready`, some 32, for those of them that are
-    /// their sites' next ones; each one behind it is moved once.
+    /// counts. The others keep their order. Takes no memory, a step for each of 32 sites, a step for each operation up to 15 behind
+    /// the one that is taken, and the steps of `Clock::ready`, some 32, for those of them that are their sites' next ones; six bytes
+    /// are moved for each one behind it, and two for each slot that is free.
     #[tactic(auto, using(crate::proofs::Places::taken, crate::proofs::Places::none_taken, crate::proofs::Places::left, crate::proofs::Places::all_left))]
     pub fn take_first_ready(&mut self, clock: &Clock) -> Option<Op>
         ensures taken { result ≡ first_ready clock.now self.old.ops }
@@ -131,11 +130,11 @@ impl Held {
         ensures fewer { OnSome result (length self.new.ops + 1 ≡ length self.old.ops) }
         ensures none { IfNone result (self.new ≡ self.old) }
     {
-        match first_ready(self.ops.as_slice(), self.numbers.as_slice(), clock) {
+        match first_ready(&self.kept, self.numbers.as_slice(), clock) {
             None => None,
             Some(place) => {
                 self.numbers.remove(place);
-                Some(self.ops.remove(place))
+                Some(self.kept.remove(place))
             }
         }
     }
@@ -147,13 +146,8 @@ impl Held {
         ensures err { OnErr result (self.new ≡ self.old) }
         ensures memory { IfErr result (λ e. (e ≡ Memory) × (self.old.room < length self.old.ops + n)) }
     {
-        if self.len() <= self.room && n <= self.room - self.len() {
-            return Ok(());
-        }
-        self.ops.reserve(n)?;
         self.numbers.reserve(n)?;
-        self.room = self.len() + n;
-        Ok(())
+        self.kept.reserve(n)
     }
 }
 
@@ -210,15 +204,16 @@ fn others_before(numbers: &[u32], start: usize, number: u32) -> usize
 
 /// The place of the first operation that is ready where just the operations are that the clock counts. A whole block is passed
 /// by its numbers where none of them is its site's next one; a table of these isn't made where fewer are held than a block.
-fn first_ready(ops: &[Op], numbers: &[u32], clock: &Clock) -> Option<usize>
-    requires { map unpacked numbers.now ≡ map number_of ops.now }
-    ensures { result ≡ position (λ x. is_next x.site x.clock clock.now) ops.now }
+fn first_ready(ops: &InOrder, numbers: &[u32], clock: &Clock) -> Option<usize>
+    requires { map unpacked numbers.now ≡ map number_of ops.now.ops }
+    ensures { result ≡ position (λ x. is_next x.site x.clock clock.now) ops.now.ops }
 {
-    if ops.len() < BLOCK {
-        return first_ready_of(ops, 0, ops.len(), clock);
+    let count = ops.len();
+    if count < BLOCK {
+        return first_ready_of(ops, 0, count, clock);
     }
     let due = due_numbers(clock);
-    for block in 0..ops.len() / BLOCK {
+    for block in 0..count / BLOCK {
         let start = block * BLOCK;
         if has_due(numbers, start, &due) {
             let found = first_ready_of(ops, start, start + BLOCK, clock);
@@ -227,7 +222,7 @@ fn first_ready(ops: &[Op], numbers: &[u32], clock: &Clock) -> Option<usize>
             }
         }
     }
-    first_ready_of(ops, ops.len() / BLOCK * BLOCK, ops.len(), clock)
+    first_ready_of(ops, count / BLOCK * BLOCK, count, clock)
 }
 
 /// The number of each site's next operation after those that the clock counts, packed. Takes a step for each site.
@@ -257,14 +252,14 @@ fn has_due(numbers: &[u32], start: usize, due: &[u32; SITES]) -> bool
     found
 }
 
-/// The place of the first of these operations that is ready where just the operations are that the clock counts. Of those whose number
-/// isn't its site's next one nothing else is looked at.
-fn first_ready_of(ops: &[Op], start: usize, end: usize, clock: &Clock) -> Option<usize>
-    requires { (start ≤ end) × (end ≤ length ops.now) }
-    ensures { MatchOption result (NoneReadyIn clock.now ops.now start end) (IsFirstReadyIn clock.now ops.now start end) }
+/// The place of the first of these operations that is ready where just the operations are that the clock counts. Of those whose
+/// number isn't its site's next one nothing else is looked at.
+fn first_ready_of(ops: &InOrder, start: usize, end: usize, clock: &Clock) -> Option<usize>
+    requires { (start ≤ end) × (end ≤ length ops.now.ops) }
+    ensures { MatchOption result (NoneReadyIn clock.now ops.now.ops start end) (IsFirstReadyIn clock.now ops.now.ops start end) }
 {
     for place in start..end {
-        if is_due(ops[place].number(), clock) && clock.ready(&ops[place]) {
+        if is_due(ops.get(place).number(), clock) && clock.ready(ops.get(place)) {
             return Some(place);
         }
     }

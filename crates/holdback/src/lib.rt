@@ -5,6 +5,7 @@
 #![tactic(auto)]
 
 mod held;
+mod in_order;
 pub mod laws;
 
 pub use held::{Arrival, Held, MAX_HELD};

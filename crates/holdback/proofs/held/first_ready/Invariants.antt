@@ -4,4 +4,4 @@ use Rattle.holdback.specs.Packed.{NoneReadyIn}
 use Rattle.holdback.proofs.held.first_ready.Given as goal
 
 abbrev pub invariant-loop-block : goal.invariant-loop-block
-invariant-loop-block l = NoneReadyIn l.clock l.ops 0 (l.block * 16)
+invariant-loop-block l = NoneReadyIn l.clock l.ops.ops 0 (l.block * 16)

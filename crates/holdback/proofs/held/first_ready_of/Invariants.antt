@@ -3,4 +3,4 @@ use Rattle.holdback.specs.Packed.{NoneReadyIn}
 use Rattle.holdback.proofs.held.first_ready_of.Given as goal
 
 abbrev pub invariant-loop-place : goal.invariant-loop-place
-invariant-loop-place l = NoneReadyIn l.clock l.ops l.start l.place
+invariant-loop-place l = NoneReadyIn l.clock l.ops.ops l.start l.place

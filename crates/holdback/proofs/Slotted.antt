@@ -1,0 +1,156 @@
+-- Operations in slots.
+use Rattle.std.proofs.Common.{◌≡◌, ℕ, zero, suc, ◌+◌, ◌<◌, ◌≤◌, Bool, true, false, List, [], ◌∷◌, ◌++◌, length, map, get_or, refl, ap, ◌∙◌}
+use Rattle.std.proofs.Common.{sym, subst, arith, ◌==◌, eqb-true, eq-eqb, take, set, cond}
+use mathlib.Core.Path.{ap₂}
+use Rattle.std.specs.List.{remove, All, AllByRecursion, IsDistinct}
+use Rattle.std.specs.Prelude.{IsPermutation}
+use Rattle.std.proofs.lemmas.List.{get_or-map, get_or-take, get_or_default, length-map, length-take-le, get_or-set_same, get_or-set_other}
+use Rattle.std.proofs.lemmas.List.{length-append, map-append, get_or_append_left, take-append-le}
+use Rattle.std.proofs.lemmas.List.Elements.{All-append}
+use Rattle.std.proofs.lemmas.List.Sorted.{All-permutation, IsPermutation-remove, IsPermutation-append_comm, IsPermutation-trans}
+use Rattle.std.proofs.lemmas.Map.Keys.{IsDistinct-IsPermutation}
+use Rattle.std.proofs.Math.Seq.{take-suc, take-length, get_or-append_seam}
+use Rattle.opid.specs.Operations.{Operation}
+use Rattle.holdback.proofs.Numbers.{one_removed}
+use Rattle.holdback.specs.Slots.{arranged, no_op, AreSlots}
+
+pub arranged_length : (slots : List Operation) (order : List ℕ) (n : ℕ) → n ≤ length order → length (arranged slots order n) ≡ n
+arranged_length slots order n l = length-map (take n order) (λ s. get_or slots s no_op) ∙ length-take-le n order l
+
+-- the operation at a place is the one in the slot that stands there
+pub arranged_at : (slots : List Operation) (order : List ℕ) (n i s : ℕ) (d x : Operation) → i < n → n ≤ length order → s ≡ get_or order i s
+    → s < length slots → x ≡ get_or slots s x → x ≡ get_or (arranged slots order n) i d
+arranged_at slots order n i s d x l m e b g =
+    g ∙ get_or_default slots s x no_op b
+    ∙ ap (λ k. get_or slots k no_op) (e ∙ sym (get_or-take n order i s l))
+    ∙ sym (get_or-map (λ k. get_or slots k no_op) (take n order) i s d (omega (arith, l, m, length-take-le n order m)))
+
+-- what an operation in a slot that isn't among these changes
+untouched : (slots : List Operation) (s : ℕ) (x : Operation) (ks : List ℕ) → AllByRecursion (λ k. (k == s) ≡ false) ks
+    → map (λ k. get_or (set slots s x) k no_op) ks ≡ map (λ k. get_or slots k no_op) ks
+untouched slots s x [] h = refl
+untouched slots s x (k ∷ ks) h =
+    ap₂ (λ (y : Operation) (ys : List Operation). y ∷ ys)
+    (get_or-set_other slots s k x no_op (λ e. absurd (omega (arith, ap {B = ℕ} (λ b. cond b 1 0) (sym (eq-eqb k s e) ∙ h.0))))) (untouched slots s x ks h.1)
+
+at_one : (P : ℕ → Type 0) (ks : List ℕ) (n d : ℕ) → n < length ks → AllByRecursion P ks → P (get_or ks n d)
+at_one P [] n d l h = absurd (omega arith)
+at_one P (k ∷ ks) zero d l h = h.0
+at_one P (k ∷ ks) (suc n) d l h = at_one P ks n d (omega (arith, l)) h.1
+
+fresh : (ks : List ℕ) (n d : ℕ) → n < length ks → IsDistinct (λ s t. s == t) ks → AllByRecursion (λ k. (k == get_or ks n d) ≡ false) (take n ks)
+unfolding IsDistinct
+fresh [] n d l h = absurd (omega arith)
+fresh (k ∷ ks) zero d l h = tt
+fresh (k ∷ ks) (suc n) d l h = (at_one (λ j. (k == j) ≡ false) ks n d (omega (arith, l)) h.0, fresh ks n d (omega (arith, l)) h.1)
+
+-- an operation in the first free slot stands behind the others
+pub put_free : (slots : List Operation) (order : List ℕ) (n s : ℕ) (x : Operation) → n < length order → s ≡ get_or order n s → AreSlots (length slots) order
+    → arranged (set slots s x) order (n + 1) ≡ arranged slots order n ++ x ∷ []
+put_free slots order n s x l e h =
+    let old : ℕ → Operation = λ k. get_or slots k no_op in
+    let new : ℕ → Operation = λ k. get_or (set slots s x) k no_op in
+    let one : n + 1 ≡ suc n = omega arith in
+    let others : AllByRecursion (λ k. (k == s) ≡ false) (take n order) =
+    subst (λ t. AllByRecursion (λ k. (k == t) ≡ false) (take n order)) (sym e) (fresh order n s l h.1) in
+    let inside : s < length slots = subst (λ t. t < length slots) (sym e) (h.0 n s l) in
+    ap (λ m. map new (take m order)) one ∙ ap (map new) (take-suc order n s l) ∙ map-append new (take n order) (get_or order n s ∷ [])
+    ∙ ap₂ (λ (ys : List Operation) (y : Operation). ys ++ y ∷ []) (untouched slots s x (take n order) others)
+    (ap new (sym e) ∙ get_or-set_same slots s x no_op inside)
+
+-- in a new slot too
+stay : (slots : List Operation) (x : Operation) (ks : List ℕ) → ((k d : ℕ) → k < length ks → get_or ks k d < length slots)
+    → map (λ k. get_or (slots ++ x ∷ []) k no_op) ks ≡ map (λ k. get_or slots k no_op) ks
+stay slots x [] h = refl
+stay slots x (k ∷ ks) h =
+    ap₂ (λ (y : Operation) (ys : List Operation). y ∷ ys) (get_or_append_left slots (x ∷ []) no_op k (h 0 0 (omega arith)))
+    (stay slots x ks (λ j d l. h (suc j) d (omega (arith, l))))
+
+put_last : (slots : List Operation) (order : List ℕ) (n : ℕ) (x : Operation) → n ≡ length order → n ≡ length slots
+    → AreSlots (length slots) order → arranged (slots ++ x ∷ []) (order ++ n ∷ []) (n + 1) ≡ arranged slots order n ++ x ∷ []
+put_last slots order n x e f h =
+    let old : ℕ → Operation = λ k. get_or slots k no_op in
+    let new : ℕ → Operation = λ k. get_or (slots ++ x ∷ []) k no_op in
+    let many : n + 1 ≡ length (order ++ n ∷ []) = omega (arith, e, length-append order (n ∷ [])) in
+    ap (λ m. map new (take m (order ++ n ∷ []))) many ∙ ap (map new) (take-length (order ++ n ∷ [])) ∙ map-append new order (n ∷ [])
+    ∙ ap₂ (λ (ys : List Operation) (y : Operation). ys ++ y ∷ []) (stay slots x order h.0)
+    (ap new f ∙ get_or-append_seam slots x [] no_op)
+    ∙ ap (λ ks. map old ks ++ x ∷ []) (sym (ap (λ m. take m order) e ∙ take-length order))
+
+pub put_new : (slots more : List Operation) (order longer : List ℕ) (n : ℕ) (x : Operation) → n ≡ length order → n ≡ length slots
+    → more ≡ slots ++ x ∷ [] → longer ≡ order ++ n ∷ [] → AreSlots (length slots) order
+    → arranged more longer (n + 1) ≡ arranged slots order n ++ x ∷ []
+put_new slots more order longer n x e f g k h =
+    ap₂ (λ (ys : List Operation) (ks : List ℕ). arranged ys ks (n + 1)) g k ∙ put_last slots order n x e f h
+
+apart_from : (n : ℕ) (ks : List ℕ) → ((k d : ℕ) → k < length ks → get_or ks k d < n) → AllByRecursion (λ k. (n == k) ≡ false) ks
+apart_from n [] h = tt
+apart_from n (k ∷ ks) h = (differ (h 0 0 (omega arith)), apart_from n ks (λ j d l. h (suc j) d (omega (arith, l))))
+  where
+    differ : k < n → (n == k) ≡ false
+    differ l = go (n == k) refl
+      where
+        go : (b : Bool) → (n == k) ≡ b → b ≡ false
+        go true e = absurd (omega (arith, l, eqb-true n k e))
+        go false e = refl
+
+flips : (m n : ℕ) → (m == n) ≡ (n == m)
+flips m n = go (m == n) refl
+  where
+    go : (b : Bool) → (m == n) ≡ b → b ≡ (n == m)
+    go true e = sym (eq-eqb n m (sym (eqb-true m n e)))
+    go false e = sym (other (n == m) refl)
+      where
+        other : (b : Bool) → (n == m) ≡ b → b ≡ false
+        other true h = sym (eq-eqb m n (sym (eqb-true n m h))) ∙ e
+        other false h = refl
+
+first_apart : (n : ℕ) (ks : List ℕ) → AllByRecursion (λ k. (n == k) ≡ false) ks → IsDistinct (λ s t. s == t) ks → IsDistinct (λ s t. s == t) (n ∷ ks)
+unfolding IsDistinct
+first_apart n ks h d = (h, d)
+
+one_more_slot : (order : List ℕ) (n : ℕ) → AreSlots n order → AreSlots (n + 1) (order ++ n ∷ [])
+one_more_slot order n h = (
+  All-append (λ s. s < n + 1) order (n ∷ []) (λ k d l. omega (arith, h.0 k d l)) (one n),
+  IsDistinct-IsPermutation (λ s t. s == t) flips (n ∷ order) (order ++ n ∷ []) (IsPermutation-append_comm (n ∷ []) order)
+      (first_apart n order (apart_from n order h.0) h.1),
+)
+  where
+    one : (n : ℕ) → All (λ s. s < n + 1) (n ∷ [])
+    one n zero d l = omega arith
+    one n (suc k) d l = absurd (omega (arith, l))
+
+pub more_slots : (order longer : List ℕ) (count n m : ℕ) → count ≡ n → m ≡ n + 1 → longer ≡ order ++ n ∷ [] → AreSlots count order
+    → AreSlots m longer
+more_slots order longer count n m e f g h =
+    subst (λ k. AreSlots k longer) (sym f)
+    (subst (AreSlots (n + 1)) (sym g) (one_more_slot order n (subst (λ k. AreSlots k order) e h)))
+
+-- one that is taken out is free from then on
+cut : (ks : List ℕ) (m i s : ℕ) → i ≤ m → suc m ≤ length ks → take m (remove ks i ++ s ∷ []) ≡ remove (take (suc m) ks) i
+cut [] m i s l h = absurd (omega (arith, h))
+cut (k ∷ ks) m zero s l h = take-append-le m ks (s ∷ []) (omega (arith, h))
+cut (k ∷ ks) zero (suc i) s l h = absurd (omega (arith, l))
+cut (k ∷ ks) (suc m) (suc i) s l h = ap (λ js. k ∷ js) (cut ks m i s (omega (arith, l)) (omega (arith, h)))
+
+pub taken_out : (slots : List Operation) (order : List ℕ) (n m i s : ℕ) → n ≡ suc m → i < n → n ≤ length order
+    → arranged slots (remove order i ++ s ∷ []) m ≡ remove (arranged slots order n) i
+taken_out slots order n m i s e l h =
+    let at : ℕ → Operation = λ k. get_or slots k no_op in
+    ap (map at) (cut order m i s (omega (arith, l, e)) (omega (arith, h, e)) ∙ ap (λ k. remove (take k order) i) (sym e))
+    ∙ one_removed at (take n order) i
+
+pub same_slots : (order : List ℕ) (count i s : ℕ) → i < length order → s ≡ get_or order i s → AreSlots count order
+    → AreSlots count (remove order i ++ s ∷ [])
+same_slots order count i s l e h =
+    let moved : IsPermutation order (remove order i ++ s ∷ []) =
+    IsPermutation-trans order (s ∷ remove order i) (remove order i ++ s ∷ []) (IsPermutation-remove order i s l e)
+    (IsPermutation-append_comm (s ∷ []) (remove order i)) in (
+      All-permutation (λ k. k < count) order (remove order i ++ s ∷ []) moved h.0,
+      IsDistinct-IsPermutation (λ k t. k == t) flips order (remove order i ++ s ∷ []) moved h.1,
+    )
+
+pub no_slots : (count : ℕ) (order : List ℕ) → order ≡ [] → AreSlots count order
+unfolding IsDistinct
+no_slots count [] e = (λ k d l. absurd (omega (arith, l)), tt)
+no_slots count (k ∷ order) e = cc
