@@ -143,7 +143,8 @@ pub first_in : (clock : List ℕ) (xs : List Operation) (start end i : ℕ) → 
     → IsFirstReadyIn clock xs start end i → Some i ≡ position (λ y. is_next y.site y.clock clock) xs
 first_in clock xs start end i within before h =
     let test : Operation → Bool = λ y. is_next y.site y.clock clock in
-    first_at test xs i (get_or xs i no_op) (omega (arith, h.high, within)) (get_or_default xs i no_op (get_or xs i no_op) (omega (arith, h.high, within)))
+    first_at test xs i (get_or xs i no_op) (omega (arith, h.high, within))
+    (get_or_default xs i no_op (get_or xs i no_op) (omega (arith, h.high, within)))
     (λ k d l. in_both test xs 0 start i before h.before k d (omega arith) l) (h.ready no_op)
 
 pub first_of : (clock : List ℕ) (xs : List Operation) (start : ℕ) (end : ℕ) (r : Option ℕ) → end ≡ length xs → NoneReadyIn clock xs 0 start
@@ -162,7 +163,8 @@ found_in clock xs start end None within before h e = cc
 found_in clock xs start end (Some i) within before h e = first_in clock xs start end i within before h
 
 pub not_found_in : (clock : List ℕ) (xs : List Operation) (start end : ℕ) (r : Option ℕ)
-    → MatchOption r (NoneReadyIn clock xs start end) (IsFirstReadyIn clock xs start end) → is_some r ≡ false → NoneReadyIn clock xs start end
+    → MatchOption r (NoneReadyIn clock xs start end) (IsFirstReadyIn clock xs start end) → is_some r ≡ false
+    → NoneReadyIn clock xs start end
 not_found_in clock xs start end None h e = h
 not_found_in clock xs start end (Some i) h e = cc
 

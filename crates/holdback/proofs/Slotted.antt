@@ -12,69 +12,72 @@ use Rattle.std.proofs.lemmas.Map.Keys.{IsDistinct-IsPermutation}
 use Rattle.std.proofs.Math.Seq.{take-suc, take-length, get_or-append_seam}
 use Rattle.opid.specs.Operations.{Operation}
 use Rattle.holdback.proofs.Numbers.{one_removed}
-use Rattle.holdback.specs.Slots.{arranged, no_op, AreSlots}
+use Rattle.holdback.specs.Slots.{arranged, in_no_slot, AreSlots}
 
 pub arranged_length : (slots : List Operation) (order : List ℕ) (n : ℕ) → n ≤ length order → length (arranged slots order n) ≡ n
-arranged_length slots order n l = length-map (take n order) (λ s. get_or slots s no_op) ∙ length-take-le n order l
+arranged_length slots order n l = length-map (take n order) (λ s. get_or slots s in_no_slot) ∙ length-take-le n order l
 
 -- the operation at a place is the one in the slot that stands there
 pub arranged_at : (slots : List Operation) (order : List ℕ) (n i s : ℕ) (d x : Operation) → i < n → n ≤ length order → s ≡ get_or order i s
     → s < length slots → x ≡ get_or slots s x → x ≡ get_or (arranged slots order n) i d
 arranged_at slots order n i s d x l m e b g =
-    g ∙ get_or_default slots s x no_op b
-    ∙ ap (λ k. get_or slots k no_op) (e ∙ sym (get_or-take n order i s l))
-    ∙ sym (get_or-map (λ k. get_or slots k no_op) (take n order) i s d (omega (arith, l, m, length-take-le n order m)))
+    g ∙ get_or_default slots s x in_no_slot b
+    ∙ ap (λ k. get_or slots k in_no_slot) (e ∙ sym (get_or-take n order i s l))
+    ∙ sym (get_or-map (λ k. get_or slots k in_no_slot) (take n order) i s d (omega (arith, l, m, length-take-le n order m)))
 
 -- what an operation in a slot that isn't among these changes
 untouched : (slots : List Operation) (s : ℕ) (x : Operation) (ks : List ℕ) → AllByRecursion (λ k. (k == s) ≡ false) ks
-    → map (λ k. get_or (set slots s x) k no_op) ks ≡ map (λ k. get_or slots k no_op) ks
+    → map (λ k. get_or (set slots s x) k in_no_slot) ks ≡ map (λ k. get_or slots k in_no_slot) ks
 untouched slots s x [] h = refl
 untouched slots s x (k ∷ ks) h =
     ap₂ (λ (y : Operation) (ys : List Operation). y ∷ ys)
-    (get_or-set_other slots s k x no_op (λ e. absurd (omega (arith, ap {B = ℕ} (λ b. cond b 1 0) (sym (eq-eqb k s e) ∙ h.0))))) (untouched slots s x ks h.1)
+    (get_or-set_other slots s k x in_no_slot (λ e. absurd (omega
+    (arith, ap {B = ℕ} (λ b. cond b 1 0) (sym (eq-eqb k s e) ∙ h.0))))) (untouched slots s x ks h.1)
 
 at_one : (P : ℕ → Type 0) (ks : List ℕ) (n d : ℕ) → n < length ks → AllByRecursion P ks → P (get_or ks n d)
 at_one P [] n d l h = absurd (omega arith)
 at_one P (k ∷ ks) zero d l h = h.0
 at_one P (k ∷ ks) (suc n) d l h = at_one P ks n d (omega (arith, l)) h.1
 
-fresh : (ks : List ℕ) (n d : ℕ) → n < length ks → IsDistinct (λ s t. s == t) ks → AllByRecursion (λ k. (k == get_or ks n d) ≡ false) (take n ks)
+fresh : (ks : List ℕ) (n d : ℕ) → n < length ks → IsDistinct (λ s t. s == t) ks → AllByRecursion
+    (λ k. (k == get_or ks n d) ≡ false) (take n ks)
 unfolding IsDistinct
 fresh [] n d l h = absurd (omega arith)
 fresh (k ∷ ks) zero d l h = tt
 fresh (k ∷ ks) (suc n) d l h = (at_one (λ j. (k == j) ≡ false) ks n d (omega (arith, l)) h.0, fresh ks n d (omega (arith, l)) h.1)
 
 -- an operation in the first free slot stands behind the others
-pub put_free : (slots : List Operation) (order : List ℕ) (n s : ℕ) (x : Operation) → n < length order → s ≡ get_or order n s → AreSlots (length slots) order
+pub put_free : (slots : List Operation) (order : List ℕ) (n s : ℕ) (x : Operation) → n < length order → s ≡ get_or order n s
+    → AreSlots (length slots) order
     → arranged (set slots s x) order (n + 1) ≡ arranged slots order n ++ x ∷ []
 put_free slots order n s x l e h =
-    let old : ℕ → Operation = λ k. get_or slots k no_op in
-    let new : ℕ → Operation = λ k. get_or (set slots s x) k no_op in
+    let old : ℕ → Operation = λ k. get_or slots k in_no_slot in
+    let new : ℕ → Operation = λ k. get_or (set slots s x) k in_no_slot in
     let one : n + 1 ≡ suc n = omega arith in
     let others : AllByRecursion (λ k. (k == s) ≡ false) (take n order) =
     subst (λ t. AllByRecursion (λ k. (k == t) ≡ false) (take n order)) (sym e) (fresh order n s l h.1) in
     let inside : s < length slots = subst (λ t. t < length slots) (sym e) (h.0 n s l) in
     ap (λ m. map new (take m order)) one ∙ ap (map new) (take-suc order n s l) ∙ map-append new (take n order) (get_or order n s ∷ [])
     ∙ ap₂ (λ (ys : List Operation) (y : Operation). ys ++ y ∷ []) (untouched slots s x (take n order) others)
-    (ap new (sym e) ∙ get_or-set_same slots s x no_op inside)
+    (ap new (sym e) ∙ get_or-set_same slots s x in_no_slot inside)
 
 -- in a new slot too
 stay : (slots : List Operation) (x : Operation) (ks : List ℕ) → ((k d : ℕ) → k < length ks → get_or ks k d < length slots)
-    → map (λ k. get_or (slots ++ x ∷ []) k no_op) ks ≡ map (λ k. get_or slots k no_op) ks
+    → map (λ k. get_or (slots ++ x ∷ []) k in_no_slot) ks ≡ map (λ k. get_or slots k in_no_slot) ks
 stay slots x [] h = refl
 stay slots x (k ∷ ks) h =
-    ap₂ (λ (y : Operation) (ys : List Operation). y ∷ ys) (get_or_append_left slots (x ∷ []) no_op k (h 0 0 (omega arith)))
+    ap₂ (λ (y : Operation) (ys : List Operation). y ∷ ys) (get_or_append_left slots (x ∷ []) in_no_slot k (h 0 0 (omega arith)))
     (stay slots x ks (λ j d l. h (suc j) d (omega (arith, l))))
 
 put_last : (slots : List Operation) (order : List ℕ) (n : ℕ) (x : Operation) → n ≡ length order → n ≡ length slots
     → AreSlots (length slots) order → arranged (slots ++ x ∷ []) (order ++ n ∷ []) (n + 1) ≡ arranged slots order n ++ x ∷ []
 put_last slots order n x e f h =
-    let old : ℕ → Operation = λ k. get_or slots k no_op in
-    let new : ℕ → Operation = λ k. get_or (slots ++ x ∷ []) k no_op in
+    let old : ℕ → Operation = λ k. get_or slots k in_no_slot in
+    let new : ℕ → Operation = λ k. get_or (slots ++ x ∷ []) k in_no_slot in
     let many : n + 1 ≡ length (order ++ n ∷ []) = omega (arith, e, length-append order (n ∷ [])) in
     ap (λ m. map new (take m (order ++ n ∷ []))) many ∙ ap (map new) (take-length (order ++ n ∷ [])) ∙ map-append new order (n ∷ [])
     ∙ ap₂ (λ (ys : List Operation) (y : Operation). ys ++ y ∷ []) (stay slots x order h.0)
-    (ap new f ∙ get_or-append_seam slots x [] no_op)
+    (ap new f ∙ get_or-append_seam slots x [] in_no_slot)
     ∙ ap (λ ks. map old ks ++ x ∷ []) (sym (ap (λ m. take m order) e ∙ take-length order))
 
 pub put_new : (slots more : List Operation) (order longer : List ℕ) (n : ℕ) (x : Operation) → n ≡ length order → n ≡ length slots
@@ -105,7 +108,8 @@ flips m n = go (m == n) refl
         other true h = sym (eq-eqb m n (sym (eqb-true n m h))) ∙ e
         other false h = refl
 
-first_apart : (n : ℕ) (ks : List ℕ) → AllByRecursion (λ k. (n == k) ≡ false) ks → IsDistinct (λ s t. s == t) ks → IsDistinct (λ s t. s == t) (n ∷ ks)
+first_apart : (n : ℕ) (ks : List ℕ) → AllByRecursion (λ k. (n == k) ≡ false) ks → IsDistinct (λ s t. s == t) ks → IsDistinct
+    (λ s t. s == t) (n ∷ ks)
 unfolding IsDistinct
 first_apart n ks h d = (h, d)
 
@@ -136,7 +140,7 @@ cut (k ∷ ks) (suc m) (suc i) s l h = ap (λ js. k ∷ js) (cut ks m i s (omega
 pub taken_out : (slots : List Operation) (order : List ℕ) (n m i s : ℕ) → n ≡ suc m → i < n → n ≤ length order
     → arranged slots (remove order i ++ s ∷ []) m ≡ remove (arranged slots order n) i
 taken_out slots order n m i s e l h =
-    let at : ℕ → Operation = λ k. get_or slots k no_op in
+    let at : ℕ → Operation = λ k. get_or slots k in_no_slot in
     ap (map at) (cut order m i s (omega (arith, l, e)) (omega (arith, h, e)) ∙ ap (λ k. remove (take k order) i) (sym e))
     ∙ one_removed at (take n order) i
 

@@ -25,14 +25,17 @@ loop-block-preserved c k d l =
     let within : start + 16 ≤ length ns = omega (arith, c.loop-block-test.true) in
     let test : ℕ → Bool = λ n. n == c.args.number in
     in_both test ns 0 start (start + 16) (λ j e s m. c.loop-block.invariant j e m)
-    (λ j e s m. run_in_chunk_fails test ns start 16 before e within c.others_before-before.ensures j s (omega (arith, m, c.if-before-lt-BLOCK.false)))
+    (λ j e s m. run_in_chunk_fails test ns start 16 before e within c.others_before-before.ensures j s
+    (omega (arith, m, c.if-before-lt-BLOCK.false)))
     k d (omega arith) (omega (arith, l))
 
 pub returns-then-numbers-at : goal.returns-then-numbers-at
 returns-then-numbers-at c =
     first_at (λ n. n == c.args.number) c.args.numbers.now c.loop-at.at (get_or c.args.numbers.now c.loop-at.at 0)
-    (omega (arith, c.loop-at-test.true)) (get_or_default c.args.numbers.now c.loop-at.at 0 (get_or c.args.numbers.now c.loop-at.at 0) (omega (arith, c.loop-at-test.true)))
+    (omega (arith, c.loop-at-test.true)) (get_or_default c.args.numbers.now c.loop-at.at 0
+    (get_or c.args.numbers.now c.loop-at.at 0) (omega (arith, c.loop-at-test.true)))
     c.loop-at.invariant (eq-eqb (get_or c.args.numbers.now c.loop-at.at 0) c.args.number c.if-numbers-at.true)
 
 pub returns : goal.returns
-returns c = none_at_all (λ n. n == c.args.number) c.args.numbers.now c.loop-at.at 0 (omega (arith, c.loop-at-test.false)) c.loop-at.invariant
+returns c = none_at_all (λ n. n == c.args.number) c.args.numbers.now c.loop-at.at 0
+    (omega (arith, c.loop-at-test.false)) c.loop-at.invariant

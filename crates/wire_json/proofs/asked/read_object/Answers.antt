@@ -12,7 +12,8 @@ returns-then-is_one-clause-told c =
 pub returns-then-is_one-2-clause-told : goal.returns-then-is_one-2-clause-told
 returns-then-is_one-2-clause-told c =
     some_read c.args.reader.now c.take_begin_object.new.self c.take_key.new.self c.next_text.new.self (codes "pull") c.next_text.new.into.bytes
-    c.rest_of_pull.result (c.take_begin_object.ensures.yes c.if-not-take_begin_object.false) (c.take_key.ensures.yes c.if-not-take_key.false)
+    c.rest_of_pull.result (c.take_begin_object.ensures.yes c.if-not-take_begin_object.false)
+    (c.take_key.ensures.yes c.if-not-take_key.false)
     (c.next_text.ensures c.if-not-next_text.false) (sym c.as_str-2.ensures.value ∙ c.is_one-2.ensures c.if-is_one-2.true)
     c.rest_of_pull.ensures
 
@@ -33,6 +34,7 @@ returns-then-is_one-4-clause-told c =
 pub returns-then-is_one-5-clause-told : goal.returns-then-is_one-5-clause-told
 returns-then-is_one-5-clause-told c =
     some_read c.args.reader.now c.take_begin_object.new.self c.take_key.new.self c.next_text.new.self (codes "ops") c.next_text.new.into.bytes
-    c.rest_of_part.result (c.take_begin_object.ensures.yes c.if-not-take_begin_object.false) (c.take_key.ensures.yes c.if-not-take_key.false)
+    c.rest_of_part.result (c.take_begin_object.ensures.yes c.if-not-take_begin_object.false)
+    (c.take_key.ensures.yes c.if-not-take_key.false)
     (c.next_text.ensures c.if-not-next_text.false) (sym c.as_str-5.ensures.value ∙ c.is_one-5.ensures c.if-is_one-5.true)
     c.rest_of_part.ensures

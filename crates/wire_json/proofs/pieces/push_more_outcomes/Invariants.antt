@@ -6,6 +6,7 @@ use Rattle.wire_json.proofs.pieces.push_more_outcomes.Given as goal
 
 abbrev pub invariant-loop-outcome : goal.invariant-loop-outcome
 invariant-loop-outcome l = record {
-  text : string_bytes l.out ++ more (map outcome_text (drop l.outcome-index l.outcomes)) ≡ string_bytes l.fn.out ++ more (map outcome_text l.outcomes);
+  text : string_bytes l.out ++ more (map outcome_text (drop l.outcome-index l.outcomes)) ≡ string_bytes l.fn.out ++ more
+      (map outcome_text l.outcomes);
   in_range : AllByRecursion IsOutcomeInRange (take l.outcome-index l.outcomes);
 }

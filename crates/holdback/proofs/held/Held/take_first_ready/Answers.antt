@@ -34,7 +34,13 @@ returns-in-Some-clause-ready c =
 
 pub invariant_of-self : goal.invariant_of-self
 invariant_of-self c = (
-  omega (arith, ap (λ (h : HeldOperations). length h.ops) c.remove-in-Some.ensures.others, no_more c.self.inside.kept.ops c.in-Some.place, c.self.invariant.0),
+  omega (
+    arith,
+    ap (λ (h : HeldOperations). length h.ops) c.remove-in-Some.ensures.others,
+    no_more c.self.inside.kept.ops
+        c.in-Some.place,
+    c.self.invariant.0,
+  ),
   omega (arith, ap (λ (h : HeldOperations). h.room) c.remove-in-Some.ensures.others, c.remove.ensures.capacity, c.self.invariant.1),
   ap (map unpacked) c.remove.ensures.items
       ∙ both_removed c.self.inside.numbers.items c.self.inside.kept.ops c.in-Some.place c.self.invariant.2
