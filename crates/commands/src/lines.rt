@@ -27,7 +27,7 @@ use std::io::Write;
 /// Refused with `BadSnapshot` where the first line is no snapshot, and with `SiteUsed` where its log has an operation of the
 /// site; else a fault of the engine, or of the write of the snapshot or of memory. Takes the time of the engine and of the
 /// calls that the lines ask for, and memory for the engine's buffer and the room; a snapshot that is read is in memory as a
-/// whole with its JSON value, and so is the text of the one that is written.
+/// whole, with its JSON value where `load_doc` needs it, and so is the text of the one that is written.
 pub fn play_lines<R: Source, W: Write>(
     alloc: Global,
     site: Site,

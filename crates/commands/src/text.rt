@@ -20,8 +20,8 @@ use versions::Characters;
 /// Prints the reading of a version, the newest unless one is named, of the snapshot that the whole input is, and LF.
 ///
 /// Refused with `BadSnapshot` where the input is none, and with `BadVersion` where the version is above the newest; else a
-/// fault of a read, of the write or of memory. Takes time and memory in proportion to the input, which is in memory as a whole
-/// with its JSON value, and so is the text.
+/// fault of a read, of the write or of memory. Takes time and memory in proportion to the input, which is in memory as a whole,
+/// and so is the text, and the input's JSON value where `load_doc` needs it.
 pub fn play_text<R: Source, W: Write>(
     alloc: Global,
     version: Option<u32>,

@@ -11,7 +11,7 @@ use Rattle.wire_json.specs.Packing.{typed_behind}
 use Rattle.wire_json.specs.Coming.{Comes, ReadsItem, items_of, put_entries}
 use Rattle.wire_json.proofs.Come.{array_comes, object_comes, one_more_item}
 use Rattle.wire_json.proofs.Spelt.{told_back}
-use Rattle.wire_json.proofs.Handing.{five_deep, whole}
+use Rattle.wire_json.proofs.Calling.{five_deep, whole}
 use Rattle.snapshot.specs.Snapshot.{ops_told}
 use Rattle.snapshot.specs.Values.{value_told}
 use Rattle.snapshot.specs.Coming.{ReadsFormat, TellsLog, ReadsLog}

@@ -10,6 +10,7 @@ ghost use Rattle.snapshot.specs.Coming.{ReadsFormat, ReadsLog, TellsLog};
 use crate::loading::append;
 use arrayvec::ArrayString;
 use causal_clock::{MAX_SUM, Op};
+use memchr::memchr;
 use opid::Refusal;
 use std::alloc::Global;
 use std::str;
@@ -26,6 +27,9 @@ pub(crate) fn read_spelled(alloc: Global, bytes: &[u8]) -> Result<Option<Doc>, R
     let Ok(text) = str::from_utf8(bytes) else {
         return Ok(None);
     };
+    if !ends_as_list_in_object(text) || has_numbered_escape(bytes) {
+        return Ok(None);
+    }
     let mut reader = PlainReader::new(text);
     match read_members(alloc, &mut reader)? {
         Some(doc) => {
@@ -34,6 +38,28 @@ pub(crate) fn read_spelled(alloc: Global, bytes: &[u8]) -> Result<Option<Doc>, R
         }
         None => Ok(None),
     }
+}
+
+// Whether the last signs close a list and an object. A text that was cut short, or that has more behind its operations, is left to
+// the tree before any operation of it is integrated.
+fn ends_as_list_in_object(text: &str) -> bool {
+    match text.trim_end().strip_suffix('}') {
+        Some(inside) => inside.trim_end().ends_with(']'),
+        None => false,
+    }
+}
+
+// Whether a code point is escaped by its number: what `PlainReader` leaves to the tree, before any operation is integrated.
+fn has_numbered_escape(bytes: &[u8]) -> bool {
+    let mut rest = bytes;
+    while let Some(at) = memchr(b'\\', rest) {
+        match &rest[at..] {
+            [_, b'u', ..] => return true,
+            [_, _, behind @ ..] => rest = behind,
+            _ => return false,
+        }
+    }
+    false
 }
 
 // The document of the one object that the reader has.

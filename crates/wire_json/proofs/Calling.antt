@@ -15,11 +15,11 @@ use Rattle.wire_json.specs.Handed.{ReadsField, ReadsPlace, ReadsRest, ReadsCall,
 use Rattle.wire_json.proofs.Come.{object_comes}
 use Rattle.wire_json.proofs.Steps.{json_read}
 
-five_deep : (old new : List Token) (d : Data) → Comes 1 old d new → Comes 5 old d new
+pub five_deep : (old new : List Token) (d : Data) → Comes 1 old d new → Comes 5 old d new
 five_deep old new d c =
     record { tree = c.tree; read = λ depth. c.read (suc (suc (suc (suc depth)))); is = c.is; shorter = c.shorter }
 
-whole : (all : List Token) (d : Data) → Comes 6 all d [] → value_of_tokens all ≡ Some d
+pub whole : (all : List Token) (d : Data) → Comes 6 all d [] → value_of_tokens all ≡ Some d
 whole all d c = ap lone_value (c.read 121) ∙ c.is
 
 -- the object of this kind asks for what its rest asks for

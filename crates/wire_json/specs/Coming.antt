@@ -1,4 +1,4 @@
--- The values that come next of tokens (RFC 8259). No public clause cites this: it is the code's alone.
+-- The values that come next of tokens (RFC 8259): what `PlainReader` and `rest_of_item` tell of what they have read.
 use Rattle.std.specs.Prelude.{◌≡◌, ℕ, zero, suc, ◌<◌, ◌^◌, Bool, false, List, [], ◌∷◌, Option, Some, None, Ok, ◌+◌, ◌≤◌, length, sum, codes}
 use Rattle.json.specs.Token.{Token, key, begin_array, end_array, begin_object, end_object}
 use Rattle.json.specs.Json as json

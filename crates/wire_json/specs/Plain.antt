@@ -1,4 +1,4 @@
--- What is left of a JSON text that is read byte by byte, as tokens (RFC 8259). No public clause cites this: it is the code's alone.
+-- What is left of a JSON text that is read byte by byte, as tokens (RFC 8259): the value of a `PlainReader`, and what a key may have.
 use Rattle.std.specs.Prelude.{◌≡◌, ◌≤◌, ◌<◌, ◌^◌, ◌+◌, ℕ, List, ◌∷◌, length, drop, Bool, true, nat_le, ◌&&◌, not, ◌==◌, Some}
 use Rattle.json.specs.Token.{Token, number}
 use Rattle.json.specs.Text.{content, plain}

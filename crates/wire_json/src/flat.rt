@@ -137,7 +137,7 @@ fn primitive_of<'a>(token: Token<'a>) -> Option<Primitive<'a>>
 }
 
 // The number that a token writes, if it is whole and written by digits alone.
-pub(crate) fn whole_number(text: &str) -> Option<u64>
+fn whole_number(text: &str) -> Option<u64>
     ensures { IfSome result (λ n. number_of text.now ≡ Some (unsigned n)) }
 {
     let bytes = text.as_bytes();

@@ -12,7 +12,7 @@ use opid::{MAX_COUNT, Refusal};
 use room::{Call, Operations};
 use std::alloc::Global;
 
-// What a `put` has behind its kind: one and at most 64 operation objects and run objects, each spelled as `rest_of_item` reads it.
+// What a `put` has behind its kind: at most 64 operation objects and run objects, each spelled as `rest_of_item` reads it.
 // The call has at most the first 65 of their operations.
 pub(crate) fn rest_of_put(
     alloc: Global,

@@ -355,7 +355,7 @@ impl<'a> PlainReader<'a> {
         true
     }
 
-    /// Takes the key with its colon, if it is next. Passes the spaces behind it.
+    /// Takes the key with its colon right behind it, if it is next. Passes the spaces behind both.
     #[inline(always)]
     pub fn take_key(&mut self, name: &str) -> bool
         requires { list_all is_plain name.now ≡ true }
@@ -399,8 +399,8 @@ impl<'a> PlainReader<'a> {
         Some(n)
     }
 
-    /// Puts in the next text, in place of what was there, where it has at most so many bytes and no code point is escaped in it.
-    /// Passes what stands between it and what is next.
+    /// Puts in the next text, in place of what was there, where it has at most so many bytes, no code point is escaped in it, and a
+    /// comma or a closing bracket comes behind it. Passes what stands between it and what is next.
     #[inline(always)]
     pub fn next_text(&mut self, into: &mut ArrayString<MAX_TEXT>) -> bool
         ensures { result ≡ true → Comes 1 self.old (tree.string into.new.bytes) self.new }
@@ -422,7 +422,7 @@ impl<'a> PlainReader<'a> {
         true
     }
 
-    /// Whether nothing is left. Constant time.
+    /// Whether nothing is left behind a value. Constant time.
     pub fn is_over(&self) -> bool
         ensures { result ≡ true → self.now ≡ [] }
     {
