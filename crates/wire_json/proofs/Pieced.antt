@@ -8,7 +8,16 @@ use Rattle.std.specs.Char.{digit_char}
 use Rattle.std.proofs.lemmas.Str.{inside_one, encodes-IsAscii}
 use Rattle.json.specs.Print.{escape, escape_byte, escape_letter}
 use Rattle.json.proofs.Printed.Strings.{escape_byte_plain}
-use Rattle.wire_json.specs.Text.{quote}
+use Rattle.wire_json.specs.Text.{quote, more, in_brackets, edit_text, text, IsEditInRange}
+use Rattle.std.proofs.Common.{map, codes, decimal, IsUtf8}
+use Rattle.std.proofs.Common.{◌^◌}
+use Rattle.std.specs.List.{AllByRecursion}
+use Rattle.std.proofs.lemmas.Fmt.{IsAscii-decimal}
+use Rattle.std.proofs.lemmas.Str.{IsUtf8-append, IsUtf8-nil, IsUtf8-from_ascii}
+use Rattle.json.proofs.Printed.Utf8.{IsUtf8-are_ascii, IsUtf8-quoted}
+use Rattle.opid.specs.declared.edit.Edit as edit
+use Rattle.opid.specs.declared.edit.Edit.TheVariants.{Ins, Del, DelUnits, Nop}
+use Rattle.room.specs.declared.reply.Reply.TheVariants.{Edits}
 
 -- bytes above ASCII stand for themselves
 stay : (bs : List ℕ) → ((k : ℕ) → k < length bs → 128 ≤ get_or bs k 0) → escape bs ≡ bs
@@ -60,3 +69,61 @@ number_quote c h e =
     ap (λ bs. 34 ∷ (escape bs ++ 34 ∷ [])) (lone c (omega arith)) ∙ rw e (rw (lt-ltb c 32 h) refl)
 
 -- ---- texts with commas between them
+
+pub ascii_quote : (c : ℕ) → c < 128 → 32 ≤ c → (c ≡ 34 → ⊥) → (c ≡ 92 → ⊥) → quote (c ∷ []) ≡ 34 ∷ c ∷ 34 ∷ []
+ascii_quote c l h q b =
+    plain_quote c h q b ∙ ap (λ bs. 34 ∷ (bs ++ 34 ∷ [])) (sym (append-nil (encode_utf8 c)) ∙ lone c l)
+
+-- ---- what is put together is UTF-8
+
+-- a text, and then others, one behind the other
+abbrev behind : List ℕ → List (List ℕ) → List ℕ
+behind t [] = t
+behind t (u ∷ us) = behind (t ++ u) us
+
+all_texts : (t : List ℕ) (us : List (List ℕ)) → IsUtf8 t → AllByRecursion IsUtf8 us → IsUtf8 (behind t us)
+all_texts t [] h k = h
+all_texts t (u ∷ us) h k = all_texts (t ++ u) us (IsUtf8-append t u h k.0) k.1
+
+more_texts : (ts : List (List ℕ)) → AllByRecursion IsUtf8 ts → IsUtf8 (more ts)
+more_texts [] h = IsUtf8-nil
+more_texts (t ∷ ts) h = all_texts (codes ",") (t ∷ more ts ∷ []) (IsUtf8-are_ascii _ refl) (h.0, (more_texts ts h.1, tt))
+
+listed_texts : (ts : List (List ℕ)) → AllByRecursion IsUtf8 ts → IsUtf8 (in_brackets ts)
+listed_texts [] h = IsUtf8-are_ascii (codes "[]") refl
+listed_texts (t ∷ ts) h =
+    all_texts (codes "[") (t ∷ more ts ∷ codes "]" ∷ []) (IsUtf8-are_ascii _ refl) (h.0, (more_texts ts h.1, (IsUtf8-are_ascii _ refl, tt)))
+
+number_text : (n : ℕ) → n < 2 ^ 64 → IsUtf8 (decimal n)
+number_text n h = IsUtf8-from_ascii (decimal n) (IsAscii-decimal n (omega arith))
+
+one_text : (e : edit.Edit) → IsEditInRange e → IsUtf8 (edit_text e)
+one_text (Ins k c) h =
+    all_texts (codes "[\"i\",") (decimal k ∷ codes "," ∷ quote (c ∷ []) ∷ codes "]" ∷ []) (IsUtf8-are_ascii _ refl) (
+      number_text k h.0,
+      (
+        IsUtf8-are_ascii _ refl,
+        (
+          IsUtf8-quoted (encode_utf8_all (c ∷ [])) (c ∷ [], (h.1, refl)),
+          (IsUtf8-are_ascii _ refl, tt),
+        ),
+      ),
+    )
+one_text (Del k) h =
+    all_texts (codes "[\"d\",") (decimal k ∷ codes "]" ∷ []) (IsUtf8-are_ascii _ refl) (number_text k h, (IsUtf8-are_ascii _ refl, tt))
+one_text (DelUnits k w) h =
+    all_texts (codes "[\"d\",") (decimal k ∷ codes "," ∷ decimal w ∷ codes "]" ∷ []) (IsUtf8-are_ascii _ refl)
+    (number_text k h.0, (IsUtf8-are_ascii _ refl, (number_text w (omega (arith, h.1)), (IsUtf8-are_ascii _ refl, tt))))
+one_text Nop h = IsUtf8-are_ascii (codes "[\"n\"]") refl
+
+each_text : (es : List edit.Edit) → AllByRecursion IsEditInRange es → AllByRecursion IsUtf8 (map edit_text es)
+each_text [] h = tt
+each_text (e ∷ es) h = (one_text e h.0, each_text es h.1)
+
+pub edits_utf8 : (n : ℕ) (es : List edit.Edit) → n < 2 ^ 32 → AllByRecursion IsEditInRange es → IsUtf8 (text (Edits n es))
+edits_utf8 n es h k =
+    all_texts (codes "{\"es\":") (in_brackets (map edit_text es) ∷ codes ",\"from\":" ∷ decimal n ∷ codes ",\"r\":\"edits\"}" ∷ [])
+    (IsUtf8-are_ascii _ refl) (
+      listed_texts (map edit_text es) (each_text es k),
+      (IsUtf8-are_ascii _ refl, (number_text n (omega (arith, h)), (IsUtf8-are_ascii _ refl, tt))),
+    )

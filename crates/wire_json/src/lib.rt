@@ -2,6 +2,7 @@
 #![tactic(auto)]
 
 mod asked;
+mod edit_bytes;
 mod fields;
 mod flat;
 mod handed;

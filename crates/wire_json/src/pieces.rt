@@ -1,12 +1,10 @@
 //! The texts of what most requests get, an `ok`, edits or outcomes, put together piece by piece.
 ghost use Rattle.std.specs.Prelude.{◌≡◌, ◌<◌, ◌≤◌, ◌≢◌, ◌∷◌, [], ◌++◌, map, decimal, IfOk, OnOk, string_bytes};
-ghost use Rattle.std.specs.Char.{digit_char};
 ghost use Rattle.std.specs.List.{AllByRecursion};
-ghost use Rattle.json.specs.Print.{escape_letter};
-ghost use Rattle.opid.specs.declared.edit.Edit.TheVariants as edits;
 ghost use Rattle.room.specs.declared.reply.Reply.TheVariants as replies;
-ghost use Rattle.wire_json.specs.Text.{IsEditInRange, IsOutcomeInRange, edit_text, outcome_text, in_brackets, more, quote, text};
+ghost use Rattle.wire_json.specs.Text.{IsEditInRange, IsOutcomeInRange, edit_text, outcome_text, in_brackets, more, text};
 
+use crate::edit_bytes::push_edit;
 use opid::Edit;
 use room::Outcome;
 use std::alloc::{AllocError, Global};
@@ -34,13 +32,16 @@ pub(crate) fn edits_text(
     ensures text { IfOk result (λ s. string_bytes s ≡ text (replies.Edits from es.now)) }
     ensures in_range { OnOk result (AllByRecursion IsEditInRange es.now) }
 {
-    let mut out = String::with_capacity(alloc, len.saturating_add(1))?;
-    out.push_str("{\"es\":")?;
+    let mut out = Vec::with_capacity(alloc, len.saturating_add(1))?;
+    out.extend_from_slice(b"{\"es\":")?;
     push_edits(&mut out, es)?;
-    out.push_str(",\"from\":")?;
-    push_number(&mut out, u64::from(from))?;
-    out.push_str(",\"r\":\"edits\"}")?;
-    Ok(out)
+    out.extend_from_slice(b",\"from\":")?;
+    out.extend_from_slice(itoa::Buffer::new().format(from).as_bytes())?;
+    out.extend_from_slice(b",\"r\":\"edits\"}")?;
+    match String::from_utf8(out) {
+        Ok(text) => Ok(text),
+        Err(_) => unreachable!(),
+    }
 }
 
 /// The text of what became of the operations of a `put`, in memory for so many bytes at first, and for the line feed that may come
@@ -67,57 +68,29 @@ fn push_number(out: &mut String, n: u64) -> Result<(), AllocError>
     out.push_str(buffer.format(n))
 }
 
-fn push_edits(out: &mut String, es: &[Edit]) -> Result<(), AllocError>
-    ensures text { OnOk result (string_bytes out.new ≡ string_bytes out.old ++ in_brackets (map edit_text es.now)) }
+fn push_edits(out: &mut Vec<u8>, es: &[Edit]) -> Result<(), AllocError>
+    ensures text { OnOk result (out.new.items ≡ out.old.items ++ in_brackets (map edit_text es.now)) }
     ensures in_range { OnOk result (AllByRecursion IsEditInRange es.now) }
 {
     let [first, rest @ ..] = es else {
-        return out.push_str("[]");
+        return out.extend_from_slice(b"[]");
     };
-    out.push_str("[")?;
+    out.extend_from_slice(b"[")?;
     push_edit(out, *first)?;
     push_more(out, rest)?;
-    out.push_str("]")
+    out.extend_from_slice(b"]")
 }
 
 // Appends edits with a comma before each.
-fn push_more(out: &mut String, es: &[Edit]) -> Result<(), AllocError>
-    ensures text { OnOk result (string_bytes out.new ≡ string_bytes out.old ++ more (map edit_text es.now)) }
+fn push_more(out: &mut Vec<u8>, es: &[Edit]) -> Result<(), AllocError>
+    ensures text { OnOk result (out.new.items ≡ out.old.items ++ more (map edit_text es.now)) }
     ensures in_range { OnOk result (AllByRecursion IsEditInRange es.now) }
 {
     for edit in es {
-        out.push_str(",")?;
+        out.push(b',')?;
         push_edit(out, *edit)?;
     }
     Ok(())
-}
-
-fn push_edit(out: &mut String, edit: Edit) -> Result<(), AllocError>
-    ensures text { OnOk result (string_bytes out.new ≡ string_bytes out.old ++ edit_text edit) }
-    ensures in_range { OnOk result (IsEditInRange edit) }
-{
-    match edit {
-        Edit::Ins(place, ch) => {
-            out.push_str("[\"i\",")?;
-            push_number(out, place as u64)?;
-            out.push_str(",")?;
-            push_quoted(out, ch)?;
-            out.push_str("]")
-        }
-        Edit::Del(place) => {
-            out.push_str("[\"d\",")?;
-            push_number(out, place as u64)?;
-            out.push_str("]")
-        }
-        Edit::DelUnits(place, width) => {
-            out.push_str("[\"d\",")?;
-            push_number(out, place as u64)?;
-            out.push_str(",")?;
-            push_number(out, u64::from(width))?;
-            out.push_str("]")
-        }
-        Edit::Nop => out.push_str("[\"n\"]"),
-    }
 }
 
 fn push_outcomes(out: &mut String, outcomes: &[Outcome]) -> Result<(), AllocError>
@@ -164,61 +137,5 @@ fn push_outcome(out: &mut String, outcome: Outcome) -> Result<(), AllocError>
             push_number(out, u64::from(why.number()))?;
             out.push_str("]")
         }
-    }
-}
-
-// Appends the character in quotes, with JSON's shortest escapes.
-fn push_quoted(out: &mut String, ch: char) -> Result<(), AllocError>
-    ensures { OnOk result (string_bytes out.new ≡ string_bytes out.old ++ quote (ch ∷ [])) }
-{
-    if ch >= ' ' && ch != '"' && ch != '\\' {
-        return push_plain(out, ch);
-    }
-    match ch {
-        '"' => out.push_str("\"\\\"\""),
-        '\\' => out.push_str("\"\\\\\""),
-        '\n' => out.push_str("\"\\n\""),
-        '\t' => out.push_str("\"\\t\""),
-        '\r' => out.push_str("\"\\r\""),
-        '\u{8}' => out.push_str("\"\\b\""),
-        '\u{c}' => out.push_str("\"\\f\""),
-        _ => push_by_number(out, ch),
-    }
-}
-
-// Appends in quotes a character that stands for itself.
-fn push_plain(out: &mut String, ch: char) -> Result<(), AllocError>
-    requires space { 32 ≤ ch }
-    requires quote { ch ≢ 34 }
-    requires backslash { ch ≢ 92 }
-    ensures { OnOk result (string_bytes out.new ≡ string_bytes out.old ++ quote (ch ∷ [])) }
-{
-    out.push_str("\"")?;
-    out.push(ch)?;
-    out.push_str("\"")
-}
-
-// Appends in quotes a control character that has no short escape.
-fn push_by_number(out: &mut String, ch: char) -> Result<(), AllocError>
-    requires small { ch < 32 }
-    requires long { escape_letter ch ≡ 0 }
-    ensures { OnOk result (string_bytes out.new ≡ string_bytes out.old ++ quote (ch ∷ [])) }
-{
-    let code = ch as u32;
-    out.push_str("\"\\u00")?;
-    out.push(hex(code / 16))?;
-    out.push(hex(code % 16))?;
-    out.push_str("\"")
-}
-
-// The hexadecimal digit.
-fn hex(digit: u32) -> char
-    requires { digit < 16 }
-    ensures value { result ≡ digit_char digit }
-    ensures ascii { result < 128 }
-{
-    match char::from_digit(digit, 16) {
-        Some(ch) => ch,
-        None => unreachable!(),
     }
 }
