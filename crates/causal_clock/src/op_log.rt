@@ -142,6 +142,21 @@ impl OpLog {
         ensures err { OnErr result (self.new ≡ self.old) }
         ensures memory { IfErr result (λ e. (e ≡ Memory) × (self.old.room ≡ 0)) }
     {
+        self.push_copy(&op)
+    }
+
+    /// Adds an operation as `push` does, where the caller keeps it: of its clock 32 counts are copied, once. Takes
+    /// a step for each site. Refused with `Memory`, only where nothing is reserved, also
+    /// above 67,108,864 operations.
+    pub fn push_copy(&mut self, op: &Op) -> Result<(), Refusal>
+        ensures ok { OnOk result (self.new ≡ record { ops = self.old.ops ++ op.now ∷ []; room = self.old.room - 1 }) }
+
+        // The entries that are stored grow by those that the operation tells.
+        ensures stored { OnOk result
+            (length (stored self.new.ops) ≡ length (stored self.old.ops) + length (entries_of self.old.ops op.now)) }
+        ensures err { OnErr result (self.new ≡ self.old) }
+        ensures memory { IfErr result (λ e. (e ≡ Memory) × (self.old.room ≡ 0)) }
+    {
         if self.room == 0 {
             reserve_each(&mut self.rows, &mut self.entries, &mut self.marks, 1)?;
         }
@@ -340,7 +355,7 @@ fn append(
     clocks: &mut [Clock; SITES],
     lasts: &mut [u32; SITES],
     numbers: &mut [u32; SITES],
-    op: Op,
+    op: &Op,
 )
     requires packed { IsPacked entries.old.items marks.old.items rows.old.items (logged entries.old.items rows.old.items) clocks.old
         lasts.old numbers.old }
@@ -350,7 +365,7 @@ fn append(
     requires few { vec_len rows.old < MAX_ROWS }
     ensures packed { IsPacked entries.new.items marks.new.items rows.new.items (logged entries.new.items rows.new.items) clocks.new
         lasts.new numbers.new }
-    ensures grown { logged entries.new.items rows.new.items ≡ logged entries.old.items rows.old.items ++ op ∷ [] }
+    ensures grown { logged entries.new.items rows.new.items ≡ logged entries.old.items rows.old.items ++ op.now ∷ [] }
     ensures rows { vec_len rows.new ≡ vec_len rows.old + 1 }
     ensures entries { vec_len entries.new ≤ vec_len entries.old + 32 }
     ensures row_capacity { vec_capacity rows.old ≤ vec_capacity rows.new }
@@ -359,19 +374,19 @@ fn append(
 {
     let site = op.site();
     let place = usize::from(site.number());
-    let clock = op.clock();
+    let clock = op.known();
     let number = numbers[place] + 1;
     let whole = number % WHOLE == 0;
     let marked = number % MARK == 0;
     let from = entries.len() as u32;
     let before = clocks[place].counts();
-    let count = push_changes(entries, whole, before, &clock);
+    let count = push_changes(entries, whole, before, clock);
     let last = lasts[place];
     let back = back_of(rows.as_slice(), marked, number, last);
     let prev = push_mark(marks, marked, before, last);
     lasts[place] = rows.len() as u32;
     numbers[place] = number;
-    clocks[place] = clock;
+    clocks[place] = *clock;
     rows.push_reserved(Row {
         kind: PackedKind::new(op.kind()),
         from,
