@@ -1,6 +1,7 @@
 pub mod Kinds
 pub mod Listing
 pub mod Stored
+pub mod Told
 pub mod Logged
 pub mod Packed
 pub mod Replayed

@@ -4,6 +4,7 @@ ghost use Rattle.std.specs.Prelude.{slice_get, OnOk, OnErr, IfErr, vec_len, vec_
 ghost use Rattle.opid.specs.declared.refusal.Refusal.TheVariants.{Memory};
 ghost use Rattle.causal_clock.specs.Kinds.{IsOperation};
 ghost use Rattle.causal_clock.specs.Stored.{changes, entries_of, stored};
+ghost use Rattle.causal_clock.specs.Told.{AreTold};
 ghost use Rattle.causal_clock.specs.Packed.{AreReserved, AreRows, IsPacked, base_of, changes_of, fill, marks_of, operation_at};
 ghost use Rattle.causal_clock.specs.Packed.{row_at, logged};
 
@@ -17,6 +18,7 @@ use crate::row::{Row, read};
 use opid::{Refusal, SITES};
 use std::alloc::Global;
 use std::marker::Model;
+use std::simd::prelude::*;
 use std::sync::ledger::Ledger;
 
 /// No log is longer: its entries have places of 32 bits.
@@ -145,8 +147,8 @@ impl OpLog {
         self.push_copy(&op)
     }
 
-    /// Adds an operation as `push` does, where the caller keeps it: of its clock 32 counts are copied, once. Takes
-    /// a step for each site. Refused with `Memory`, only where nothing is reserved, also
+    /// Adds an operation as `push` does, where the caller keeps it: of its clock 32 counts are copied, once. Compares the counts of
+    /// all sites at once, and takes a step for each entry that is stored. Refused with `Memory`, only where nothing is reserved, also
     /// above 67,108,864 operations.
     pub fn push_copy(&mut self, op: &Op) -> Result<(), Refusal>
         ensures ok { OnOk result (self.new ≡ record { ops = self.old.ops ++ op.now ∷ []; room = self.old.room - 1 }) }
@@ -288,14 +290,20 @@ pub(crate) fn told_by(row: &Row, counts: [u32; SITES]) -> Op
     }
 }
 
-/// Whether an entry is stored: all are, or it differs from the one before.
-fn is_told(whole: bool, before: u32, count: u32) -> bool
-    ensures { result ≡ (whole || not (before == count)) }
+/// Which entries are stored, a bit for each site from the lowest on: all are, or those that differ from the ones before. All counts
+/// are compared at once.
+fn told_sites(whole: bool, before: &[u32; SITES], counts: &[u32; SITES]) -> u64
+    ensures { AreTold whole before.now counts.now result }
 {
-    whole || before != count
+    if whole {
+        return 0xffff_ffff;
+    }
+    u32x32::from_slice(before)
+        .simd_ne(u32x32::from_slice(counts))
+        .to_bitmask()
 }
 
-/// Adds the entries of the clock that differ from those before, or all, and tells how many.
+/// Adds the entries of the clock that differ from those before, or all, and tells how many. Takes a step for each entry that is added.
 fn push_changes(entries: &mut Vec<Changed>, whole: bool, before: &[u32; SITES], clock: &Clock) -> u8
     requires room { vec_len entries.old + 32 ≤ vec_capacity entries.old }
     ensures items { entries.new.items ≡ entries.old.items ++ changes whole before.now clock.now 32 }
@@ -304,15 +312,14 @@ fn push_changes(entries: &mut Vec<Changed>, whole: bool, before: &[u32; SITES], 
     ensures capacity { vec_capacity entries.old ≤ vec_capacity entries.new }
 {
     let counts = clock.counts();
-    let mut told = 0;
-    for number in 0..SITES {
-        let count = counts[number];
-        if is_told(whole, before[number], count) {
-            entries.push_reserved(Changed::new(site_of(number as u8), count));
-            told += 1;
-        }
+    let from = entries.len();
+    let mut left = told_sites(whole, before, counts);
+    'told: while left != 0 {
+        let number = left.trailing_zeros() as usize;
+        entries.push_reserved(Changed::new(site_of(number as u8), counts[number]));
+        left &= !(1 << number);
     }
-    told
+    (entries.len() - from) as u8
 }
 
 /// Keeps the counts as the mark of an operation that has one, and tells where, or else the place that is given.
