@@ -1,13 +1,21 @@
-use Rattle.std.proofs.Common.{rules, arith}
-use Rattle.causal_clock.proofs.Sites.{covered, not_covered}
+use Rattle.std.proofs.Common.{rules, ◌≡◌, ◌∙◌, ◌%◌, ◌^◌, ℕ, List, length, take, ltb, ap, arith, w32}
+use mathlib.Core.Path.{ap₂}
+use lib.Lanes.{mask_l, zip2}
+use Rattle.std.proofs.lemmas.List.{take_all}
+use Rattle.std.proofs.lemmas.Simd.{tops_compared}
+use Rattle.opid.specs.Clocks.{covers_others}
+use Rattle.causal_clock.proofs.Sites.{covers_by_bits}
 use Rattle.causal_clock.proofs.clock.Clock.covers_others.Goals as goal
-
-pub returns-then-other-site : goal.returns-then-other-site
-returns-then-other-site c =
-    not_covered c.from-own.result c.args.own c.other.inside.counts c.self.inside.counts c.args.other.now c.args.self.now c.loop-site.site
-    (search rules) c.other.view_is c.self.view_is (omega arith) (search rules) (search rules)
 
 pub returns : goal.returns
 returns c =
-    covered c.from-own.result c.args.own c.other.inside.counts c.self.inside.counts c.args.other.now c.args.self.now
-    (search rules) c.other.view_is c.self.view_is (λ k l. c.loop-site.invariant k (omega arith))
+    let xs = c.other.inside.counts in
+    let ys = c.self.inside.counts in
+    let lx : length xs ≡ 32 = search rules in
+    let ly : length ys ≡ 32 = search rules in
+    covers_by_bits c.number.result xs ys _ (omega (arith, c.number.ensures.range, c.number.ensures.value)) lx ly
+    (ap (λ l. mask_l l % 2 ^ 64) (tops_compared w32 (λ (x y : ℕ). ltb x y) (take 32 ys) (take 32 xs)
+    ∙ ap₂ (λ (x y : List ℕ). zip2 (λ (p q : ℕ). ltb p q) x y)
+    (take_all 32 ys (omega (arith, ly))) (take_all 32 xs (omega (arith, lx)))))
+    ∙ ap₂ (λ (own : ℕ) (x : List ℕ). covers_others own x ys) c.number.ensures.value c.other.view_is
+    ∙ ap (covers_others c.args.own c.args.other.now) c.self.view_is
