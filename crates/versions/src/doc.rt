@@ -192,7 +192,7 @@ impl Doc {
             &mut self.clock,
             &mut self.sums,
             &mut self.list,
-            *op,
+            op,
         );
         self.room = self.room.saturating_sub(1);
         Ok(edit)
