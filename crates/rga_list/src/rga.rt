@@ -277,12 +277,29 @@ impl Rga {
     {
         match self.elem_of(target) {
             None => Err(Refusal::UnknownElement),
-            Some(elem) => {
-                let node = &mut self.nodes[elem as usize];
-                let shown = node.hide();
-                Ok(shown)
-            }
+            Some(elem) => Ok(self.hide(elem)),
         }
+    }
+
+    /// Hides an element, which stays in the linked order, and says whether it was shown: what `integrate_del` does once it has
+    /// found the element of its target, for who knows that. Constant time; takes no memory.
+    pub fn hide(&mut self, elem: Elem) -> bool
+        requires { elem < length self.old.entries }
+
+        // The element is told by the one stamp that it has.
+        ensures stamp { (target : Stamp) × (elem_of target self.old.entries ≡ Some elem) }
+        ensures list { (target : Stamp) → elem_of target self.old.entries ≡ Some elem
+            → self.new ≡ record self.old { entries = hidden target self.old.entries } }
+        ensures shown { (target : Stamp) → elem_of target self.old.entries ≡ Some elem → result ≡ is_shown target self.old.entries }
+
+        // Where the list shows operations, it then shows them with the deletion, which may follow them.
+        ensures shows { (target : Stamp) → elem_of target self.old.entries ≡ Some elem → (ops : List Operation) (x : Operation)
+            → IsSound ops → x.kind ≡ kinds.Del target → self.old.entries ≡ listed ops
+            → IsSound (ops ++ x ∷ []) × (self.new.entries ≡ listed (ops ++ x ∷ [])) }
+    {
+        let node = &mut self.nodes[elem as usize];
+        let shown = node.hide();
+        shown
     }
 
     /// The element of an insertion's parent (`None`: the head), if the insertion may follow it.

@@ -14,7 +14,7 @@ ghost use Rattle.versions.specs.Causes.{refusal_of};
 ghost use Rattle.versions.specs.Sums.{last_sum};
 
 use crate::characters::Characters;
-use crate::integrate::{MAX_OPERATIONS, integrate, refusal_of};
+use crate::integrate::{MAX_OPERATIONS, integrate, look_up};
 use crate::kept_edit::KeptEdit;
 use crate::read_op::read_op;
 use crate::reserved::{make_room, reserve_each};
@@ -175,9 +175,7 @@ impl Doc {
             ⊎ ((refusal_of self.old.log op.now ≡ None) × (e ≡ Memory) × (self.old.room ≡ 0))) }
         ensures err { OnErr result (self.new ≡ self.old) }
     {
-        if let Some(refusal) = refusal_of(&self.log, &self.list, op) {
-            return Err(refusal);
-        }
+        let found = look_up(&self.log, &self.list, op)?;
         make_room(
             &mut self.log,
             &mut self.edits,
@@ -193,6 +191,7 @@ impl Doc {
             &mut self.sums,
             &mut self.list,
             op,
+            found,
         );
         self.room = self.room.saturating_sub(1);
         Ok(edit)

@@ -6,8 +6,8 @@ use Rattle.opid.proofs.Logs.{IsSound-lawful}
 use Rattle.versions.specs.Document.{Document}
 use Rattle.versions.proofs.doc.Doc.integrate.Goals as goal
 
-pub refusal_of-requires-clause-sound : goal.refusal_of-requires-clause-sound
-refusal_of-requires-clause-sound c = IsSound-lawful c.self.inside.log.ops c.self.invariant.0.lawful
+pub look_up-requires-clause-sound : goal.look_up-requires-clause-sound
+look_up-requires-clause-sound c = IsSound-lawful c.self.inside.log.ops c.self.invariant.0.lawful
 
 pub returns-clause-leads : goal.returns-clause-leads
 returns-clause-leads c =
