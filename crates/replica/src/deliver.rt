@@ -23,7 +23,7 @@ fn claims_site(site: Site, log: &Log, op: &Op) -> bool
     ensures lawful { IsLawful log.now.log }
 {
     let (maker, sequence) = op.number();
-    let own = log.doc().clock().entry(site);
+    let own = log.doc().known().entry(site);
     maker == site && sequence > own
 }
 
@@ -98,7 +98,7 @@ pub(crate) fn deliver(
     if look(log, offered)? {
         return Ok(Delivery::Again);
     }
-    if !log.doc().clock().ready(offered) {
+    if !log.doc().known().ready(offered) {
         return match held.offer(op)? {
             Arrival::Kept => Ok(Delivery::Kept),
             Arrival::Again => Ok(Delivery::Again),

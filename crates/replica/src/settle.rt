@@ -34,7 +34,7 @@ fn round(log: &mut Log, held: &mut Held, tally: &mut Tally) -> bool
     if log.doc().version() as usize >= MAX_OPERATIONS {
         return false;
     }
-    match held.take_first_ready(&log.doc().clock()) {
+    match held.take_first_ready(log.doc().known()) {
         None => false,
         Some(op) => {
             match log.append(&op) {

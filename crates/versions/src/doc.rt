@@ -88,6 +88,13 @@ impl Doc {
         self.clock
     }
 
+    /// The same clock, where it is only looked at. Constant time.
+    pub fn known(&self) -> &Clock
+        ensures { result.now ≡ clock_of self.now.log }
+    {
+        &self.clock
+    }
+
     /// The operation that made version `i + 1` of version `i`. Takes the steps of `OpLog::get`: at most 7 back along its
     /// site's operations.
     pub fn op(&self, i: u32) -> Op

@@ -25,7 +25,8 @@ returns-in_err-offer-clause-cause c =
     let e = c.in_err-offer.field-0.0 in
     let own : claims_site c.args.site log c.args.op ≡ false = sym c.if-claims_site.ensures.value in
     let new : look_for c.args.op log ≡ Ok false = sym c.in_ok-look.ensures ∙ ap Ok c.if-branch.false in
-    let same_clock : c.clock.result ≡ clock_of log = c.clock.ensures ∙ ap (λ (r : document.Document). clock_of r.log) c.doc.ensures.value in
+    let same_clock : c.known.result.now ≡ clock_of log =
+    c.known.ensures ∙ ap (λ (r : document.Document). clock_of r.log) c.doc.ensures.value in
     let waits : is_ready log c.args.op ≡ false = sym (c.if-not-ready.ensures ∙ ap (is_next c.args.op.site c.args.op.clock) same_clock) in
     rw (p.1, p.2) (elim (c.in_err-offer.ensures.cause) [
       | inl q ↦ inl (ap (λ (d : Delivered). d.outcome) (deliver-not_kept c.args.site log held c.args.op e own new waits q))
@@ -51,7 +52,8 @@ returns-in_err-tally-clause-cause c =
     let own : claims_site c.args.site log c.args.op ≡ false = sym c.if-claims_site.ensures.value in
     let new : look_for c.args.op log ≡ Ok false = sym c.in_ok-look.ensures ∙ ap Ok c.if-branch.false in
     let not_held : look_for c.args.op held ≡ Ok false = sym c.in_ok-look-2.ensures ∙ ap Ok c.if-branch-2.false in
-    let same_clock : c.clock.result ≡ clock_of log = c.clock.ensures ∙ ap (λ (r : document.Document). clock_of r.log) c.doc.ensures.value in
+    let same_clock : c.known.result.now ≡ clock_of log =
+    c.known.ensures ∙ ap (λ (r : document.Document). clock_of r.log) c.doc.ensures.value in
     let ready : is_ready log c.args.op ≡ true = sym (c.if-not-ready.ensures ∙ ap (is_next c.args.op.site c.args.op.clock) same_clock) in
     rw (p.1, p.2) (elim (c.in_err-tally.ensures.cause) [
       | inl q ↦ inl (ap (λ (d : Delivered). d.outcome) (deliver-refused c.args.site log held c.args.op e own new not_held ready q))
