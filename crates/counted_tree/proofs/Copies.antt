@@ -1,4 +1,4 @@
--- A copy of a node, once one of its sides has grown and is still lower than the whole.
+-- A copy of a node with another side, which is about as high as the one that stays.
 use Rattle.std.proofs.Common.{◌≡◌, ℕ, ◌+◌, ◌<◌, [], ◌∷◌, ◌++◌, length, Option, Some, ap, ◌∙◌, arith}
 use Rattle.std.proofs.lemmas.List.{length_push}
 use Rattle.counted_tree.specs.declared.node.Node.{Node}
@@ -7,11 +7,9 @@ use Rattle.counted_tree.specs.Size.{IsSizeOf}
 use Rattle.counted_tree.specs.Store.{Store}
 use Rattle.counted_tree.specs.Tree.{entries, height}
 use Rattle.counted_tree.specs.Arena.{IsLinkBelow, IsSoundNode, AreSound, trees, tree_of}
-use Rattle.counted_tree.specs.Change.{tree_in, Adds}
-use Rattle.counted_tree.specs.Grown.{MayRise}
+use Rattle.counted_tree.specs.Change.{tree_in, Adds, DifferByAtMost}
 use Rattle.counted_tree.proofs.Adding.{adds_push, sound_node, tree_pushed}
 use Rattle.counted_tree.proofs.Growth.{length-trees, link_later, linked_balanced}
-use Rattle.counted_tree.proofs.Grows.{stays_left, stays_right}
 
 -- the node was appended as the one with this number
 pub record IsAppended (a b : Store) (n : Node) (k : ℕ) : Type 0 where
@@ -33,26 +31,22 @@ appended a b n k sound node nodes room keys_and_widths key_and_width_room number
     }
 
 pub copied_left : (a b : Store) (n : Node) (s : Option ℕ) (size : Size) (k : ℕ) → AreSound a.nodes → IsSoundNode (trees a.nodes) n
-    → IsLinkBelow (length a.nodes) s → MayRise (tree_in a n.left) (tree_in a s) → height (tree_in a s) < height
-    (tree_of (trees a.nodes) n)
+    → IsLinkBelow (length a.nodes) s → DifferByAtMost 1 (height (tree_in a s)) (height (tree_in a n.right))
     → IsSizeOf size (entries (tree_in a s)) → b.nodes ≡ a.nodes ++ record n { left = s; left_size = size } ∷ []
     → b.node_room + 1 ≡ a.node_room → b.keys_and_widths ≡ a.keys_and_widths → b.key_and_width_room ≡ a.key_and_width_room
     → k ≡ length a.nodes → IsAppended a b (record n { left = s; left_size = size }) k
-copied_left a b n s size k sound node below rises low shows =
-    let stays = stays_left (tree_in a n.left) (tree_in a n.right) (tree_in a s) n.entry node.balanced rises low in
+copied_left a b n s size k sound node below near shows =
     let right = link_later _ _ n.right (omega (arith, length-trees a.nodes)) node.right_earlier in
     appended a b (record n { left = s; left_size = size }) k sound
     (sound_node a (record n { left = s; left_size = size }) below right shows
-    node.small (linked_balanced a.nodes s sound below, node.balanced.1, stays.0.0, stays.0.1))
+    node.small (linked_balanced a.nodes s sound below, node.balanced.1, near.0, near.1))
 
 pub copied_right : (a b : Store) (n : Node) (s : Option ℕ) (k : ℕ) → AreSound a.nodes → IsSoundNode (trees a.nodes) n
-    → IsLinkBelow (length a.nodes) s → MayRise (tree_in a n.right) (tree_in a s) → height (tree_in a s) < height
-    (tree_of (trees a.nodes) n)
+    → IsLinkBelow (length a.nodes) s → DifferByAtMost 1 (height (tree_in a n.left)) (height (tree_in a s))
     → b.nodes ≡ a.nodes ++ record n { right = s } ∷ []
     → b.node_room + 1 ≡ a.node_room → b.keys_and_widths ≡ a.keys_and_widths → b.key_and_width_room ≡ a.key_and_width_room
     → k ≡ length a.nodes → IsAppended a b (record n { right = s }) k
-copied_right a b n s k sound node below rises low =
-    let stays = stays_right (tree_in a n.left) (tree_in a n.right) (tree_in a s) n.entry node.balanced rises low in
+copied_right a b n s k sound node below near =
     let left = link_later _ _ n.left (omega (arith, length-trees a.nodes)) node.left_earlier in
     appended a b (record n { right = s }) k sound (sound_node a (record n { right = s }) left below node.left_size node.small
-    (node.balanced.0, linked_balanced a.nodes s sound below, stays.0.0, stays.0.1))
+    (node.balanced.0, linked_balanced a.nodes s sound below, near.0, near.1))

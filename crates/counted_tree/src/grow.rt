@@ -1,42 +1,69 @@
-//! The tree of a node, once one of its sides has grown by an entry. Both calls stand in the body of who makes them, so that only what
+//! The tree of a node, once one of its sides has grown by an entry. All these calls stand in the body of who makes them, so that only what
 //! they use of the node is unpacked: a copy differs in one side, and the whole node is read once more only where it is built anew.
-ghost use Rattle.std.specs.Prelude.{◌≡◌, ℕ, ◌+◌, ◌-◌, ◌<◌, ◌≤◌, ◌∷◌, ◌++◌, length, slice_get, Some};
+ghost use Rattle.std.specs.Prelude.{◌≡◌, ℕ, ◌+◌, ◌-◌, ◌<◌, ◌≤◌, ◌∷◌, ◌++◌, length, slice_get, Option, Some};
+ghost use Rattle.counted_tree.specs.declared.above.Above.{Above};
+ghost use Rattle.counted_tree.specs.declared.grown.Grown.TheVariants.{Settled, Loose};
 ghost use Rattle.counted_tree.specs.declared.side.Side.TheVariants.{Left, Right};
+ghost use Rattle.counted_tree.specs.Size.{IsSizeOf};
 ghost use Rattle.counted_tree.specs.Tree.{entries, height};
 ghost use Rattle.counted_tree.specs.Arena.{IsSoundNode, AreSound, trees, tree_of};
 ghost use Rattle.counted_tree.specs.Branch.{IsBranch};
 ghost use Rattle.counted_tree.specs.Change.{tree_in, Adds};
 ghost use Rattle.counted_tree.specs.Grown.{Gains, MayRise, IsGrown};
+ghost use Rattle.counted_tree.specs.Settled.{grown_link, IsTold};
 ghost use Rattle.counted_tree.specs.Table.{HasRow, PointsTo, IsReady, Hangs};
 
 use crate::above::Above;
 use crate::branch::{Branch, branch_of};
-use crate::build::open;
+use crate::build::{copy_left, copy_right, open};
 use crate::entry::Entry;
+use crate::grown::Grown;
 use crate::hang::hang;
 use crate::node::Node;
 use crate::nodes::Nodes;
 use crate::packed_row::PackedRow;
 use crate::rotate::rebuild;
+use crate::row::Row;
 use crate::side::Side;
 use crate::size::Size;
 
-/// The tree of a node whose left side has grown by an entry. The other side is looked at only where the left one is now as high as
-/// the whole was: else the whole stays as high as it was, and only the left side has to be hung.
+/// A tree that is as high as this row says, which is that of its top before it had the entry: the row is right still, unless the new
+/// key is less than all others.
+fn settle(number: u32, elem: u32, row: Row, entry: &Entry) -> Grown
+    ensures link { grown_link result ≡ Some number }
+    ensures settled { row.least ≤ entry.now.key → result ≡ Settled number }
+    ensures loose { entry.now.key < row.least
+        → result ≡ Loose (record { link = Some number; elem = elem; least = entry.now.key; height = row.height }) }
+{
+    if row.least <= entry.key {
+        return Grown::Settled(number);
+    }
+    Grown::Loose(Branch {
+        link: Some(number),
+        elem,
+        least: entry.key,
+        height: row.height,
+    })
+}
+
+/// The tree of a node whose left side has grown by an entry and isn't settled. The other side is looked at only where the left
+/// one is now as high as the whole was: else the whole stays as high as it was, and only the left side has to be hung.
 #[inline(always)]
-pub fn grow_left(
+fn grow_left(
     nodes: &mut Nodes,
     table: &mut [PackedRow],
     at: u32,
     node: Node,
     left: Branch,
+    left_size: Size,
     entry: &Entry,
-) -> Branch
+) -> Grown
     requires sound { AreSound nodes.old.nodes }
     requires at { slice_get nodes.old.nodes at ≡ Some node }
     requires node { IsSoundNode (trees nodes.old.nodes) node }
     requires room { 3 ≤ nodes.old.node_room }
     requires left { IsBranch nodes.old left }
+    requires size { IsSizeOf left_size (entries (tree_in nodes.old left.link)) }
     requires gains { Gains entry.now (entries (tree_in nodes.old node.left)) (entries (tree_in nodes.old left.link)) }
     requires rises { MayRise (tree_in nodes.old node.left) (tree_in nodes.old left.link) }
     requires few { length (entries (tree_in nodes.old left.link)) + length (entries (tree_in nodes.old node.right)) < 131072 }
@@ -44,21 +71,21 @@ pub fn grow_left(
     requires other { PointsTo table.old (tree_in nodes.old node.right) (Some (record { elem = node.entry.elem; side = Right })) }
     requires ready { IsReady table.old (tree_in nodes.old left.link) node.entry (tree_in nodes.old node.right) }
     ensures adds { Adds nodes.old nodes.new 3 }
-    ensures branch { IsBranch nodes.new result }
-    ensures lists { entries (tree_in nodes.new result.link)
+    ensures told { (a : Option Above) → PointsTo table.old (tree_of (trees nodes.old.nodes) node) a
+        → IsTold nodes.new table.new a (tree_of (trees nodes.old.nodes) node) result }
+    ensures lists { entries (tree_in nodes.new (grown_link result))
         ≡ entries (tree_in nodes.old left.link) ++ node.entry ∷ entries (tree_in nodes.old node.right) }
     ensures grown { (made : ℕ) → IsGrown (tree_in nodes.old node.left) (tree_in nodes.old left.link) made
-        → IsGrown (tree_of (trees nodes.old.nodes) node) (tree_in nodes.new result.link)
+        → IsGrown (tree_of (trees nodes.old.nodes) node) (tree_in nodes.new (grown_link result))
         (made + (length nodes.new.nodes - length nodes.old.nodes)) }
-    ensures hangs { Hangs table.old table.new (tree_in nodes.new result.link) }
+    ensures hangs { Hangs table.old table.new (tree_in nodes.new (grown_link result)) }
 {
     let row = table[node.entry.elem as usize].get();
-    let left_size = node.left_size.plus(Size::of(entry));
     if left.height >= row.height {
         // Read again, which costs less than to keep all of it.
         let node = open(nodes, at);
         let right = branch_of(nodes, table, node.right);
-        return rebuild(nodes, table, left, left_size, node.entry, right);
+        return Grown::Loose(rebuild(nodes, table, left, left_size, node.entry, right));
     }
     let on_left = Above {
         elem: node.entry.elem,
@@ -66,27 +93,22 @@ pub fn grow_left(
     };
     // A side that has grown isn't empty, which spares the copy a case.
     let Some(_) = left.link else { unreachable!() };
-    let number = nodes.push_with_left(at, left.link, left_size);
+    let number = copy_left(nodes, at, node, left.link, left_size);
     hang(table, left, Some(on_left));
-    Branch {
-        link: Some(number),
-        elem: node.entry.elem,
-        least: row.least.min(entry.key),
-        height: row.height,
-    }
+    settle(number, node.entry.elem, row, entry)
 }
 
-/// The tree of a node whose right side has grown by an entry. The other side is looked at only where the right one is now as high as
-/// the whole was: else the whole stays as high as it was, and only the right side has to be hung.
+/// The tree of a node whose right side has grown by an entry and isn't settled. The other side is looked at only where the right
+/// one is now as high as the whole was: else the whole stays as high as it was, and only the right side has to be hung.
 #[inline(always)]
-pub fn grow_right(
+fn grow_right(
     nodes: &mut Nodes,
     table: &mut [PackedRow],
     at: u32,
     node: Node,
     right: Branch,
     entry: &Entry,
-) -> Branch
+) -> Grown
     requires sound { AreSound nodes.old.nodes }
     requires at { slice_get nodes.old.nodes at ≡ Some node }
     requires node { IsSoundNode (trees nodes.old.nodes) node }
@@ -99,20 +121,21 @@ pub fn grow_right(
     requires other { PointsTo table.old (tree_in nodes.old node.left) (Some (record { elem = node.entry.elem; side = Left })) }
     requires ready { IsReady table.old (tree_in nodes.old node.left) node.entry (tree_in nodes.old right.link) }
     ensures adds { Adds nodes.old nodes.new 3 }
-    ensures branch { IsBranch nodes.new result }
-    ensures lists { entries (tree_in nodes.new result.link)
+    ensures told { (a : Option Above) → PointsTo table.old (tree_of (trees nodes.old.nodes) node) a
+        → IsTold nodes.new table.new a (tree_of (trees nodes.old.nodes) node) result }
+    ensures lists { entries (tree_in nodes.new (grown_link result))
         ≡ entries (tree_in nodes.old node.left) ++ node.entry ∷ entries (tree_in nodes.old right.link) }
     ensures grown { (made : ℕ) → IsGrown (tree_in nodes.old node.right) (tree_in nodes.old right.link) made
-        → IsGrown (tree_of (trees nodes.old.nodes) node) (tree_in nodes.new result.link)
+        → IsGrown (tree_of (trees nodes.old.nodes) node) (tree_in nodes.new (grown_link result))
         (made + (length nodes.new.nodes - length nodes.old.nodes)) }
-    ensures hangs { Hangs table.old table.new (tree_in nodes.new result.link) }
+    ensures hangs { Hangs table.old table.new (tree_in nodes.new (grown_link result)) }
 {
     let row = table[node.entry.elem as usize].get();
     if right.height >= row.height {
         // Read again, which costs less than to keep all of it.
         let node = open(nodes, at);
         let left = branch_of(nodes, table, node.left);
-        return rebuild(nodes, table, left, node.left_size, node.entry, right);
+        return Grown::Loose(rebuild(nodes, table, left, node.left_size, node.entry, right));
     }
     let on_right = Above {
         elem: node.entry.elem,
@@ -120,12 +143,90 @@ pub fn grow_right(
     };
     // A side that has grown isn't empty, which spares the copy a case.
     let Some(_) = right.link else { unreachable!() };
-    let number = nodes.push_with_right(at, right.link);
+    let number = copy_right(nodes, at, node, right.link);
     hang(table, right, Some(on_right));
-    Branch {
-        link: Some(number),
-        elem: node.entry.elem,
-        least: row.least.min(entry.key),
-        height: row.height,
+    settle(number, node.entry.elem, row, entry)
+}
+
+/// The tree of a node whose left side has grown by an entry. Over a side that is settled only the copy is made.
+#[inline(always)]
+pub fn lift_left(
+    nodes: &mut Nodes,
+    table: &mut [PackedRow],
+    at: u32,
+    node: Node,
+    left: Grown,
+    entry: &Entry,
+) -> Grown
+    requires sound { AreSound nodes.old.nodes }
+    requires at { slice_get nodes.old.nodes at ≡ Some node }
+    requires node { IsSoundNode (trees nodes.old.nodes) node }
+    requires room { 3 ≤ nodes.old.node_room }
+    requires left { IsTold nodes.old table.old (Some (record { elem = node.entry.elem; side = Left }))
+        (tree_in nodes.old node.left) left }
+    requires gains { Gains entry.now (entries (tree_in nodes.old node.left)) (entries (tree_in nodes.old (grown_link left))) }
+    requires rises { MayRise (tree_in nodes.old node.left) (tree_in nodes.old (grown_link left)) }
+    requires few { length (entries (tree_in nodes.old (grown_link left))) + length (entries (tree_in nodes.old node.right)) < 131072 }
+    requires row { HasRow table.old (tree_of (trees nodes.old.nodes) node) }
+    requires other { PointsTo table.old (tree_in nodes.old node.right) (Some (record { elem = node.entry.elem; side = Right })) }
+    requires ready { IsReady table.old (tree_in nodes.old (grown_link left)) node.entry (tree_in nodes.old node.right) }
+    ensures adds { Adds nodes.old nodes.new 3 }
+    ensures told { (a : Option Above) → PointsTo table.old (tree_of (trees nodes.old.nodes) node) a
+        → IsTold nodes.new table.new a (tree_of (trees nodes.old.nodes) node) result }
+    ensures lists { entries (tree_in nodes.new (grown_link result))
+        ≡ entries (tree_in nodes.old (grown_link left)) ++ node.entry ∷ entries (tree_in nodes.old node.right) }
+    ensures grown { (made : ℕ) → IsGrown (tree_in nodes.old node.left) (tree_in nodes.old (grown_link left)) made
+        → IsGrown (tree_of (trees nodes.old.nodes) node) (tree_in nodes.new (grown_link result))
+        (made + (length nodes.new.nodes - length nodes.old.nodes)) }
+    ensures hangs { Hangs table.old table.new (tree_in nodes.new (grown_link result)) }
+{
+    let left_size = node.left_size.plus(Size::of(entry));
+    match left {
+        Grown::Settled(number) => {
+            let top = copy_left(nodes, at, node, Some(number), left_size);
+            Grown::Settled(top)
+        }
+        Grown::Loose(branch) => grow_left(nodes, table, at, node, branch, left_size, entry),
+    }
+}
+
+/// The tree of a node whose right side has grown by an entry. Over a side that is settled only the copy is made.
+#[inline(always)]
+pub fn lift_right(
+    nodes: &mut Nodes,
+    table: &mut [PackedRow],
+    at: u32,
+    node: Node,
+    right: Grown,
+    entry: &Entry,
+) -> Grown
+    requires sound { AreSound nodes.old.nodes }
+    requires at { slice_get nodes.old.nodes at ≡ Some node }
+    requires node { IsSoundNode (trees nodes.old.nodes) node }
+    requires room { 3 ≤ nodes.old.node_room }
+    requires right { IsTold nodes.old table.old (Some (record { elem = node.entry.elem; side = Right }))
+        (tree_in nodes.old node.right) right }
+    requires gains { Gains entry.now (entries (tree_in nodes.old node.right)) (entries (tree_in nodes.old (grown_link right))) }
+    requires rises { MayRise (tree_in nodes.old node.right) (tree_in nodes.old (grown_link right)) }
+    requires few { length (entries (tree_in nodes.old node.left)) + length (entries (tree_in nodes.old (grown_link right))) < 131072 }
+    requires row { HasRow table.old (tree_of (trees nodes.old.nodes) node) }
+    requires other { PointsTo table.old (tree_in nodes.old node.left) (Some (record { elem = node.entry.elem; side = Left })) }
+    requires ready { IsReady table.old (tree_in nodes.old node.left) node.entry (tree_in nodes.old (grown_link right)) }
+    ensures adds { Adds nodes.old nodes.new 3 }
+    ensures told { (a : Option Above) → PointsTo table.old (tree_of (trees nodes.old.nodes) node) a
+        → IsTold nodes.new table.new a (tree_of (trees nodes.old.nodes) node) result }
+    ensures lists { entries (tree_in nodes.new (grown_link result))
+        ≡ entries (tree_in nodes.old node.left) ++ node.entry ∷ entries (tree_in nodes.old (grown_link right)) }
+    ensures grown { (made : ℕ) → IsGrown (tree_in nodes.old node.right) (tree_in nodes.old (grown_link right)) made
+        → IsGrown (tree_of (trees nodes.old.nodes) node) (tree_in nodes.new (grown_link result))
+        (made + (length nodes.new.nodes - length nodes.old.nodes)) }
+    ensures hangs { Hangs table.old table.new (tree_in nodes.new (grown_link result)) }
+{
+    match right {
+        Grown::Settled(number) => {
+            let top = copy_right(nodes, at, node, Some(number));
+            Grown::Settled(top)
+        }
+        Grown::Loose(branch) => grow_right(nodes, table, at, node, branch, entry),
     }
 }

@@ -1,16 +1,18 @@
-use Rattle.std.proofs.Common.{◌≡◌, ◌∷◌, ◌-◌, ◌<◌, length, Some, ap, ◌∙◌, arith, refl, sym, subst}
-use Rattle.std.proofs.lemmas.Option.{slice_get_within}
+use Rattle.std.proofs.Common.{◌≡◌, ◌∷◌, ◌-◌, ◌<◌, length, Some, ap, ◌∙◌, arith, refl, sym, subst, inl, inr}
+use Rattle.std.proofs.lemmas.Bool.{cases_lt}
 use Rattle.counted_tree.specs.Tree.{entries, height}
 use Rattle.counted_tree.specs.Tree.Tree.{Fork}
+use Rattle.counted_tree.specs.Arena.{trees, tree_of}
 use Rattle.counted_tree.specs.Branch.{IsBranchOf}
 use Rattle.counted_tree.specs.Change.{tree_in, IsRebuilt}
+use Rattle.counted_tree.specs.Settled.{KeepsRow, IsTold}
 use Rattle.counted_tree.specs.Table.{Hangs}
-use Rattle.counted_tree.proofs.Copies.{copied_right}
 use Rattle.counted_tree.proofs.Branches.{branch_small, read_row, row_of_branch}
 use Rattle.counted_tree.proofs.Gains.{gains_right, gains_least}
 use Rattle.counted_tree.proofs.Growth.{linked_balanced}
 use Rattle.counted_tree.proofs.Grows.{grown_right, stays_right}
 use Rattle.counted_tree.proofs.Rotations.{plain_fork}
+use Rattle.counted_tree.proofs.Settling.{settles_right}
 use Rattle.counted_tree.proofs.Tables.{hangs_right_side, own_split, top_below}
 use Rattle.counted_tree.proofs.Listed.{adds_weaker}
 use Rattle.counted_tree.proofs.grow.grow_right.Goals as goal
@@ -46,11 +48,8 @@ hang-requires-clause-height c =
     let small = branch_small c.args.nodes.now c.args.right c.requires.sound c.requires.right (omega (arith, c.requires.few)) in
     omega (arith, small.1)
 
-pub push_with_right-number-requires-clause-number : goal.push_with_right-number-requires-clause-number
-push_with_right-number-requires-clause-number c = slice_get_within c.args.nodes.now.nodes c.args.at c.args.node c.requires.at
-
-pub returns-clause-adds : goal.returns-clause-adds
-returns-clause-adds c =
+pub copy_right-number-requires-clause-balanced : goal.copy_right-number-requires-clause-balanced
+copy_right-number-requires-clause-balanced c =
     let a = c.args.nodes.now in
     let n = c.args.node in
     let l = tree_in a n.left in
@@ -59,102 +58,46 @@ returns-clause-adds c =
     let row = read_row c.args.table.now (Fork l n.entry r) l r n.entry c.get-row.result c.index-table-node.result refl c.requires.row
     c.get-row.ensures in
     let below : height s < height (Fork l n.entry r) = omega (arith, row.1, c.requires.right.tells.height, c.if-right-row.false) in
-    let copied = copied_right a c.push_with_right-number.new.self n c.args.right.link c.push_with_right-number.result
-    c.requires.sound c.requires.node
-    c.requires.right.link c.requires.rises below (c.push_with_right-number.ensures.nodes n c.requires.at)
-    c.push_with_right-number.ensures.room
-    c.push_with_right-number.ensures.keys_and_widths c.push_with_right-number.ensures.key_and_width_room
-    c.push_with_right-number.ensures.number in
-    adds_weaker _ _ 1 3 (omega arith) copied.adds
+    (stays_right l r s n.entry c.requires.node.balanced c.requires.rises below).0
 
-pub returns-clause-branch : goal.returns-clause-branch
-returns-clause-branch c =
+pub returns : goal.returns
+returns c =
     let a = c.args.nodes.now in
+    let d = c.copy_right-number.new.nodes in
     let n = c.args.node in
     let l = tree_in a n.left in
     let r = tree_in a n.right in
     let s = tree_in a c.args.right.link in
-    let row = read_row c.args.table.now (Fork l n.entry r) l r n.entry c.get-row.result c.index-table-node.result refl c.requires.row
+    let old = c.args.table.now in
+    let new = c.hang.new.table in
+    let key = c.args.entry.now.key in
+    let row = read_row old (Fork l n.entry r) l r n.entry c.get-row.result c.index-table-node.result refl c.requires.row
     c.get-row.ensures in
     let below : height s < height (Fork l n.entry r) = omega (arith, row.1, c.requires.right.tells.height, c.if-right-row.false) in
-    let copied = copied_right a c.push_with_right-number.new.self n c.args.right.link c.push_with_right-number.result
-    c.requires.sound c.requires.node
-    c.requires.right.link c.requires.rises below (c.push_with_right-number.ensures.nodes n c.requires.at)
-    c.push_with_right-number.ensures.room
-    c.push_with_right-number.ensures.keys_and_widths c.push_with_right-number.ensures.key_and_width_room
-    c.push_with_right-number.ensures.number in
-    let stays = stays_right l r s n.entry c.requires.node.balanced c.requires.rises below in
-    let gains = gains_right c.args.entry.now n.entry (entries r) (entries s) (entries l) c.requires.gains in
-    let over : IsBranchOf _ (Fork l n.entry s) = record {
-      top = (refl, refl);
-      least = omega (
-        arith,
-        c.min.ensures,
-        row.0,
-        gains_least c.args.entry.now (entries (Fork l n.entry r)) (entries (Fork l n.entry s)) gains,
-      );
-      height = omega (arith, row.1, stays.1);
-    } in
-    record { link = copied.number; tells = subst (IsBranchOf _) (sym copied.tree) over }
-
-pub returns-clause-grown : goal.returns-clause-grown
-returns-clause-grown c =
-    let a = c.args.nodes.now in
-    let n = c.args.node in
-    let l = tree_in a n.left in
-    let r = tree_in a n.right in
-    let s = tree_in a c.args.right.link in
-    let row = read_row c.args.table.now (Fork l n.entry r) l r n.entry c.get-row.result c.index-table-node.result refl c.requires.row
-    c.get-row.ensures in
-    let below : height s < height (Fork l n.entry r) = omega (arith, row.1, c.requires.right.tells.height, c.if-right-row.false) in
-    let copied = copied_right a c.push_with_right-number.new.self n c.args.right.link c.push_with_right-number.result
-    c.requires.sound c.requires.node
-    c.requires.right.link c.requires.rises below (c.push_with_right-number.ensures.nodes n c.requires.at)
-    c.push_with_right-number.ensures.room
-    c.push_with_right-number.ensures.keys_and_widths c.push_with_right-number.ensures.key_and_width_room
-    c.push_with_right-number.ensures.number in
     let stays = stays_right l r s n.entry c.requires.node.balanced c.requires.rises below in
     let p = plain_fork l s n.entry c.requires.node.balanced.0
     (linked_balanced a.nodes c.args.right.link c.requires.sound c.requires.right.link) stays.0 in
-    let one : length c.push_with_right-number.new.self.nodes - length a.nodes ≡ 1 = omega (arith, copied.count) in
-    λ made g. grown_right l r s _ n.entry made (length c.push_with_right-number.new.self.nodes - length a.nodes)
-    c.requires.node.balanced g
-    (subst (IsRebuilt l n.entry s) (sym copied.tree) p) (omega (arith, one)) (λ _. one)
-
-pub returns-clause-lists : goal.returns-clause-lists
-returns-clause-lists c =
-    let a = c.args.nodes.now in
-    let n = c.args.node in
-    let l = tree_in a n.left in
-    let r = tree_in a n.right in
-    let s = tree_in a c.args.right.link in
-    let row = read_row c.args.table.now (Fork l n.entry r) l r n.entry c.get-row.result c.index-table-node.result refl c.requires.row
-    c.get-row.ensures in
-    let below : height s < height (Fork l n.entry r) = omega (arith, row.1, c.requires.right.tells.height, c.if-right-row.false) in
-    let copied = copied_right a c.push_with_right-number.new.self n c.args.right.link c.push_with_right-number.result
-    c.requires.sound c.requires.node
-    c.requires.right.link c.requires.rises below (c.push_with_right-number.ensures.nodes n c.requires.at)
-    c.push_with_right-number.ensures.room
-    c.push_with_right-number.ensures.keys_and_widths c.push_with_right-number.ensures.key_and_width_room
-    c.push_with_right-number.ensures.number in
-    ap entries copied.tree
-
-pub returns-clause-hangs : goal.returns-clause-hangs
-returns-clause-hangs c =
-    let a = c.args.nodes.now in
-    let n = c.args.node in
-    let l = tree_in a n.left in
-    let r = tree_in a n.right in
-    let s = tree_in a c.args.right.link in
-    let row = read_row c.args.table.now (Fork l n.entry r) l r n.entry c.get-row.result c.index-table-node.result refl c.requires.row
-    c.get-row.ensures in
-    let below : height s < height (Fork l n.entry r) = omega (arith, row.1, c.requires.right.tells.height, c.if-right-row.false) in
-    let copied = copied_right a c.push_with_right-number.new.self n c.args.right.link c.push_with_right-number.result
-    c.requires.sound c.requires.node
-    c.requires.right.link c.requires.rises below (c.push_with_right-number.ensures.nodes n c.requires.at)
-    c.push_with_right-number.ensures.room
-    c.push_with_right-number.ensures.keys_and_widths c.push_with_right-number.ensures.key_and_width_room
-    c.push_with_right-number.ensures.number in
-    subst (Hangs c.args.table.now c.hang.new.table) (sym copied.tree)
-    (hangs_right_side (tree_in a n.left) s n.entry c.args.table.now c.hang.new.table c.requires.ready c.requires.other
-    (c.hang.ensures s c.requires.right.tells))
+    let one : length d.nodes - length a.nodes ≡ 1 = omega (arith, c.copy_right-number.ensures.count) in
+    let least = gains_least c.args.entry.now (entries (Fork l n.entry r)) (entries (Fork l n.entry s))
+    (gains_right c.args.entry.now n.entry (entries r) (entries s) (entries l) c.requires.gains) in
+    let is = c.copy_right-number.ensures.tree in
+    let tree = ap (tree_in d) c.settle.ensures.link ∙ is in
+    let hung = c.hang.ensures s c.requires.right.tells in
+    record {
+      adds = adds_weaker _ _ 1 3 (omega arith) c.copy_right-number.ensures.adds;
+      told = λ o there. elim (cases_lt key c.get-row.result.least) [
+        | inl lt ↦
+            let over : IsBranchOf _ (Fork l n.entry s) =
+            record { top = (refl, refl); least = omega (arith, lt, row.0, least); height = omega (arith, row.1, stays.1) } in
+            subst (IsTold d new o (tree_of (trees a.nodes) n)) (sym (c.settle.ensures.loose lt))
+            (record { link = c.copy_right-number.ensures.number; tells = subst (IsBranchOf _) (sym is) over })
+        | inr le ↦
+            let over = settles_right old new o _ l r s n.entry c.requires.ready hung stays.1 (omega (arith, le, row.0, least)) there in
+            subst (IsTold d new o (tree_of (trees a.nodes) n)) (sym (c.settle.ensures.settled le))
+            (c.copy_right-number.ensures.number, subst (KeepsRow new o (tree_of (trees a.nodes) n)) (sym is) over)
+      ];
+      lists = ap entries tree;
+      grown = λ made g. grown_right l r s _ n.entry made (length d.nodes - length a.nodes) c.requires.node.balanced g
+          (subst (IsRebuilt l n.entry s) (sym tree) p) (omega (arith, one)) (λ _. one);
+      hangs = subst (Hangs old new) (sym tree) (hangs_right_side l s n.entry old new c.requires.ready c.requires.other hung);
+    }
