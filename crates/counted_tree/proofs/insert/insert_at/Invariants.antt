@@ -1,0 +1,15 @@
+use Rattle.std.proofs.Common.{◌≤◌, length, drop, take}
+use Rattle.counted_tree.specs.Along.{under}
+use Rattle.counted_tree.specs.Change.{tree_in}
+use Rattle.counted_tree.specs.Inserted.{IsInserted}
+use Rattle.counted_tree.proofs.insert.insert_at.Given as goal
+
+abbrev pub invariant-loop-level : goal.invariant-loop-level
+invariant-loop-level l = record {
+  within : l.level ≤ length l.path;
+  made : IsInserted l.fn.nodes l.nodes l.fn.table l.table (under (tree_in l.fn.nodes l.fn.link) (take l.level l.path))
+      (drop l.level l.path) l.entry l.made;
+}
+
+abbrev pub decreases-loop-level : goal.decreases-loop-level
+decreases-loop-level l = l.level

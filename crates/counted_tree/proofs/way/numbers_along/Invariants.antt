@@ -1,0 +1,13 @@
+use Rattle.std.proofs.Common.{◌≡◌, ◌<◌, length, take, Some}
+use Rattle.counted_tree.specs.Change.{tree_in}
+use Rattle.counted_tree.specs.Along.{under}
+use Rattle.counted_tree.specs.Inserted.{AreAlong}
+use Rattle.counted_tree.proofs.way.numbers_along.Given as goal
+
+abbrev pub invariant-loop-side : goal.invariant-loop-side
+invariant-loop-side l = record {
+  below : l.at < length l.nodes.nodes;
+  here : tree_in l.nodes (Some l.at) ≡ under (tree_in l.nodes (Some l.top)) (take l.side-index l.path);
+  numbers : AreAlong l.nodes (tree_in l.nodes (Some l.top)) l.path l.numbers.items;
+  count : length l.numbers.items ≡ l.side-index;
+}
