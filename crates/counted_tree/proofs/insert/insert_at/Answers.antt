@@ -53,8 +53,8 @@ loop-level-init c =
           c.insert_behind-made.result (length path) (get_or ns (length path) 0) along number refl c.insert_behind-made.ensures;
     }
 
-pub lift-made-requires : goal.lift-made-requires
-lift-made-requires c =
+pub step_up-made-requires : goal.step_up-made-requires
+step_up-made-requires c =
     let a = c.args.nodes.now in
     let tb = c.args.table.now in
     let t = tree_in a c.args.link in
@@ -99,8 +99,8 @@ loop-level-preserved c =
     c.requires.sound along c.requires.there c.requires.fit number side one inv.made in
     record {
       within = omega (arith, inv.within);
-      made = lifted_there a c.lift-made.new.nodes tb c.lift-made.new.table t path ns c.args.entry.now c.lift-made.result level i k s along
-          number side one (c.lift-made.ensures a tb (drop level path) lifts);
+      made = lifted_there a c.step_up-made.new.nodes tb c.step_up-made.new.table t path ns c.args.entry.now c.step_up-made.result
+          level i k s along number side one (c.step_up-made.ensures a tb (drop level path) lifts);
     }
 
 pub returns : goal.returns
@@ -108,5 +108,5 @@ returns c =
     let a = c.args.nodes.now in
     let path = c.args.path.now in
     let e : c.loop-level.level ≡ 0 = omega (arith, c.loop-level-test.false) in
-    subst (λ j. IsInserted a c.loop-level.nodes c.args.table.now c.loop-level.table (under (tree_in a c.args.link) (take j path)) (drop j path)
-    c.args.entry.now c.loop-level.made) e c.loop-level.invariant.made
+    subst (λ j. IsInserted a c.loop-level.nodes c.args.table.now c.loop-level.table (under (tree_in a c.args.link) (take j path))
+    (drop j path) c.args.entry.now c.loop-level.made) e c.loop-level.invariant.made

@@ -48,9 +48,11 @@ lift_right-top-requires c =
     let own = own_along (length tb) (tree_in a (Some c.args.at)) l r n.entry c.args.entry.now [] [] whole refl c.requires.fit.own in
     let node = sound_node a n o.left o.right o.size o.known.0 o.balanced in
     let b = c.insert_first-right.new.nodes in
-    let up = up_right a b _ tb c.insert_first-right.new.table (tree_in a (Some c.args.at)) (tree_in b (grown_link c.insert_first-right.result)) n
+    let up = up_right a b _ tb c.insert_first-right.new.table (tree_in a (Some c.args.at))
+    (tree_in b (grown_link c.insert_first-right.result)) n
     c.args.entry.now c.insert_first-right.result
-    (length b.nodes - length a.nodes) _ c.insert_first-right.ensures.adds node whole c.requires.fit.few own c.requires.fit.kept c.requires.fit.row
+    (length b.nodes - length a.nodes) _ c.insert_first-right.ensures.adds node whole c.requires.fit.few own
+    c.requires.fit.kept c.requires.fit.row
     (gains_first c.args.entry.now (entries r)) c.insert_first-right.ensures.lists c.insert_first-right.ensures.grown
     c.insert_first-right.ensures.hangs c.insert_first-right.ensures.told in
     let again = read_again a c.insert_first-right.new.nodes _ c.args.at c.open-below.result c.open-node.result
@@ -100,9 +102,11 @@ returns c =
     let again = read_again a c.insert_first-right.new.nodes _ c.args.at c.open-below.result c.open-node.result
     c.insert_first-right.ensures.adds
     c.open-below.ensures.node c.open-node.ensures.node in
-    let up = up_right a b _ tb c.insert_first-right.new.table (tree_in a (Some c.args.at)) (tree_in b (grown_link c.insert_first-right.result)) n
+    let up = up_right a b _ tb c.insert_first-right.new.table (tree_in a (Some c.args.at))
+    (tree_in b (grown_link c.insert_first-right.result)) n
     c.args.entry.now c.insert_first-right.result
-    (length b.nodes - length a.nodes) _ c.insert_first-right.ensures.adds node whole c.requires.fit.few own c.requires.fit.kept c.requires.fit.row
+    (length b.nodes - length a.nodes) _ c.insert_first-right.ensures.adds node whole c.requires.fit.few own
+    c.requires.fit.kept c.requires.fit.row
     (gains_first c.args.entry.now (entries r)) c.insert_first-right.ensures.lists c.insert_first-right.ensures.grown
     c.insert_first-right.ensures.hangs c.insert_first-right.ensures.told in
     let grown = whole_right a b c.lift_right-top.new.nodes _ 3 n (tree_in a (Some c.args.at)) _ _ c.insert_first-right.ensures.adds
