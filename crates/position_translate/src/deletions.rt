@@ -150,7 +150,7 @@ fn run(
                 unreachable!();
             };
             let op = next_op(&clock, site, OpKind::Del { target });
-            clock = op.clock();
+            clock.raise(site);
             ops.push(op)?;
         }
     }

@@ -138,7 +138,7 @@ fn run(
     let mut parent = parent;
     for ch in text.chars() {
         let op = next_op(&clock, site, OpKind::Ins { parent, ch });
-        clock = op.clock();
+        clock.raise(site);
         parent = Some(op.stamp());
         ops.push(op)?;
     }

@@ -133,7 +133,7 @@ pub(crate) fn append(doc: &mut Doc, op: &Op) -> Result<(), Refusal>
     ensures cause { IfErr result (λ e. (e ≡ Memory) ⊎ (MayFollow doc.old.log op.now → length doc.old.log < 131072 → ⊥)) }
 {
     let site = op.site();
-    if !doc.clock().ready(op) || op.stamp().sum <= doc.last_sum(site) {
+    if !doc.known().ready(op) || op.stamp().sum <= doc.last_sum(site) {
         return Err(Refusal::BadSnapshot);
     }
     doc.integrate(op)?;
@@ -146,5 +146,5 @@ fn lacks_site(doc: &Doc, site: Site) -> bool
     ensures no { result ≡ false → LacksSite site doc.now.log → ⊥ }
 {
     prove!(site.number() < 32);
-    doc.clock().entry(site) == 0
+    doc.known().entry(site) == 0
 }

@@ -1,6 +1,7 @@
 use Rattle.std.proofs.Common.{◌≡◌, ◌<◌, ◌∙◌, ◌+◌, ap, sym, sum, length, arith, ◌++◌}
 use Rattle.opid.specs.Reading.{visible_in_at}
 use Rattle.opid.specs.Asked.{deletion_run}
+use Rattle.opid.specs.Operations.{Operation}
 use Rattle.position_translate.proofs.Insides.{is_second, inside_second}
 use Rattle.position_translate.proofs.Asking.{stamps, deletion_more, deletion_same, deletion_all, fewer, as_many}
 use Rattle.position_translate.proofs.deletions.run.Goals as goal
@@ -37,12 +38,13 @@ loop-place-preserved c =
             (deletion_run c.args.site c.args.clock (stamps c.args.units
             (visible_in_at c.args.units c.args.doc.now.log c.args.version) c.args.first c.args.end))
             c.loop-place-test.true w.in-Some.ensures (told ∙ w.if-not-is_inside.true) w.next_op-op.ensures.value
-            (w.clock-is ∙ w.clock-clock.ensures.value) c.loop-place.invariant.whole;
+            (w.clock-is ∙ w.raise.ensures.value ∙ sym (ap (λ (o : Operation). o.clock) w.next_op-op.ensures.value))
+            c.loop-place.invariant.whole;
         few = omega (
           arith,
           c.loop-place.invariant.few,
           w.next_op-op.ensures.total,
-          ap sum (w.clock-is ∙ w.clock-clock.ensures.value),
+          ap sum (w.clock-is ∙ w.raise.ensures.value ∙ sym (ap (λ (o : Operation). o.clock) w.next_op-op.ensures.value)),
           fewer c.args.units (visible_in_at c.args.units c.args.doc.now.log c.args.version) c.loop-place.place c.args.end
               c.loop-place-test.true low (told ∙ w.if-not-is_inside.true),
         );

@@ -1,9 +1,10 @@
-use Rattle.std.proofs.Common.{◌∙◌, ◌++◌, [], ◌∷◌, Some, length, drop, sum, ap, arith}
+use Rattle.std.proofs.Common.{◌∙◌, ◌++◌, [], ◌∷◌, Some, length, drop, sum, sym, ap, arith}
 use Rattle.std.specs.Str.{chars}
 use Rattle.std.proofs.lemmas.Iterator.{YieldsList-from_chars}
 use Rattle.std.proofs.lemmas.Iterator.Consumers.{YieldsList-turn, YieldsList-end}
 use Rattle.std.proofs.lemmas.List.{length_push}
 use Rattle.opid.specs.Asked.{insertion_run}
+use Rattle.opid.specs.Operations.{Operation}
 use Rattle.position_translate.proofs.Asking.{insertion_more, insertion_all}
 use Rattle.position_translate.proofs.insertions.run.Goals as goal
 
@@ -25,20 +26,22 @@ loop-ch-preserved c =
     c.in-Some.is c.next.ensures.steps in
     record {
       whole =
-          ap (λ ops. ops ++ insertion_run c.args.site c.clock-clock.result (Some c.stamp.result)
+          ap (λ ops. ops ++ insertion_run c.args.site c.raise.new.self (Some c.stamp.result)
           (drop (length (c.loop-ch.yielded ++ c.in-Some.ch ∷ [])) (chars c.args.text.now))) c.in_ok-push.ensures.items
           ∙ ap (λ n. (c.loop-ch.ops.items ++ c.next_op-op.result ∷ [])
-          ++ insertion_run c.args.site c.clock-clock.result (Some c.stamp.result) (drop n (chars c.args.text.now)))
+          ++ insertion_run c.args.site c.raise.new.self (Some c.stamp.result) (drop n (chars c.args.text.now)))
           (length_push c.loop-ch.yielded c.in-Some.ch)
-          ∙ insertion_more c.args.site c.loop-ch.ops.items c.loop-ch.clock c.clock-clock.result c.loop-ch.parent (Some c.stamp.result)
+          ∙ insertion_more c.args.site c.loop-ch.ops.items c.loop-ch.clock c.raise.new.self c.loop-ch.parent (Some c.stamp.result)
           (chars c.args.text.now) (length c.loop-ch.yielded) c.in-Some.ch c.next_op-op.result
           (insertion_run c.args.site c.args.clock c.args.parent (chars c.args.text.now))
-          t.0 t.1 c.next_op-op.ensures.value c.clock-clock.ensures.value (ap Some c.stamp.ensures) c.loop-ch.invariant.whole;
+          t.0 t.1 c.next_op-op.ensures.value
+          (c.raise.ensures.value ∙ sym (ap (λ (o : Operation). o.clock) c.next_op-op.ensures.value))
+          (ap Some c.stamp.ensures) c.loop-ch.invariant.whole;
       few = omega (
         arith,
         c.loop-ch.invariant.few,
         c.next_op-op.ensures.total,
-        ap sum c.clock-clock.ensures.value,
+        ap sum (c.raise.ensures.value ∙ sym (ap (λ (o : Operation). o.clock) c.next_op-op.ensures.value)),
         length_push c.loop-ch.yielded c.in-Some.ch,
       );
     }
