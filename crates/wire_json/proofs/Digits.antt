@@ -2,7 +2,13 @@
 use Rattle.std.proofs.Common.{◌≡◌, ℕ, ◌+◌, ◌-◌, ◌<◌, ◌^◌, List, [], ◌∷◌, ◌++◌, Some, Bool, true, false, ◌&&◌, ◌==◌, length, take}
 use Rattle.std.proofs.Common.{refl, sym, ap, ◌∙◌, subst, arith, slice_index, get_or, append-nil, eqb-true}
 use Rattle.std.proofs.lemmas.Grind.{common_steps}
-use Rattle.std.proofs.lemmas.List.{take_all}
+use Rattle.std.proofs.Common.{◌*◌, ◌≤◌, lit<}
+use Rattle.std.proofs.Math.Nat.{pow-le-pow_right}
+use Rattle.std.proofs.lemmas.Int.Digits.{digits_more, digits_value_more, digits_value-lt}
+use Rattle.std.proofs.lemmas.Str.{digit_value_digit}
+use Rattle.std.specs.Char.{digit_value}
+use Rattle.std.specs.Str.Parse.{AllDigits}
+use Rattle.std.proofs.lemmas.List.{length-take, take_all}
 use Rattle.std.specs.List.{prefix_len}
 use Rattle.std.specs.Char.{is_ascii_digit}
 use Rattle.std.specs.Str.{all_ascii_digits}
@@ -55,3 +61,20 @@ digits_number s n h some few is =
     whole_number s (Some n) (not_minus s h some)
     (subst (λ (p : Parts). (IsInteger p × (digits_of p < 2 ^ 64)) × (n ≡ digits_of p)) (sym e)
     (((some, refl, refl), subst (λ m. m < 2 ^ 64) value few), value))
+
+-- ---- digits one after another
+
+pub digit_more : (s : List ℕ) (count n digit : ℕ) → count < length s → 48 ≤ get_or s count 0 → get_or s count 0 ≤ 57
+    → digit ≡ get_or s count 0 - 48 → AllDigits 10 (take count s) → n ≡ digits_value 10 (take count s)
+    → AllDigits 10 (take (count + 1) s) × (n * 10 + digit ≡ digits_value 10 (take (count + 1) s))
+digit_more s count n digit within low high read all is =
+    let value : digit_value (get_or s count 0) ≡ digit = omega (arith, digit_value_digit (get_or s count 0) (low, high), read) in (
+      digits_more 10 s count within all (omega (arith, value, read, high)),
+      omega (arith, digits_value_more 10 s count within, is, value),
+    )
+
+pub few : (s : List ℕ) (count most n : ℕ) → count ≤ most → AllDigits 10 (take count s) → n ≡ digits_value 10 (take count s) → n < 10 ^ most
+few s count most n order all is =
+    let size : length (take count s) ≤ most = omega (arith, length-take count s, order) in
+    let grows : 10 ^ length (take count s) ≤ 10 ^ most = pow-le-pow_right (lit< tt) size in
+    omega (arith, is, digits_value-lt 10 (take count s) all, grows)

@@ -8,6 +8,11 @@ use Rattle.json.specs.Token.{begin_object, end_object, begin_array, end_array, k
 use Rattle.json.specs.Word.{ends_word, after_number, after_whole, after_fraction, after_exponent}
 use Rattle.std.specs.Char.{is_ascii_digit}
 use Rattle.std.specs.Str.{all_ascii_digits}
+use Rattle.std.specs.Str.Parse.{AllDigits, digits_value}
+use Rattle.std.proofs.Common.{◌^◌}
+use Rattle.std.proofs.lemmas.Str.Parse.{numerals_by_value, tells_all_ascii_digits}
+use Rattle.std.proofs.lemmas.List.{get_or-take, length-take-le}
+use Rattle.wire_json.proofs.Digits.{digits_number, few}
 use Rattle.std.specs.List.{prefix_len}
 use Rattle.json.specs.Print.{IsNumber}
 use Rattle.json.specs.Lex.{Place, fresh, after_value, after_comma, after_key, Lexeme, token, colon}
@@ -273,19 +278,35 @@ digits_alone (c ∷ s) h some first =
     (ap (λ o. option_and_then after_exponent (option_and_then after_fraction o))
     (whole_passed c s (c == 48) refl h (only_zero c s first)))
 
-pub number_passed : (bytes : List ℕ) (at end : ℕ) → at ≤ end → IsNumber (take (end - at) (drop at bytes))
-    → ends_word (drop end bytes) ≡ true → (p : Place) → may_begin p ≡ true
-    → tokens_behind p (drop at bytes) ≡ number (take (end - at) (drop at bytes)) ∷ tokens_behind after_value (drop end bytes)
-number_passed bytes at end order is ended p h = ap (tokens_behind p) split ∙ number_first p s (drop end bytes) h is ended
-  where
-    s : List ℕ
-    s = take (end - at) (drop at bytes)
+pub number_passed : (bytes : List ℕ) (at count : ℕ) → IsNumber (take count (drop at bytes)) → ends_word (drop (at + count) bytes) ≡ true
+    → (p : Place) → may_begin p ≡ true
+    → tokens_behind p (drop at bytes) ≡ number (take count (drop at bytes)) ∷ tokens_behind after_value (drop (at + count) bytes)
+number_passed bytes at count is ended p h =
+    let s : List ℕ = take count (drop at bytes) in
+    let behind : drop count (drop at bytes) ≡ drop (at + count) bytes = drop-drop count at bytes ∙ ap (λ n. drop n bytes) (omega arith) in
+    let split : drop at bytes ≡ s ++ drop (at + count) bytes = sym (take-append-drop count (drop at bytes)) ∙ ap (λ r. s ++ r) behind in
+    ap (tokens_behind p) split ∙ number_first p s (drop (at + count) bytes) h is ended
 
-    behind : drop (end - at) (drop at bytes) ≡ drop end bytes
-    behind = drop-drop (end - at) at bytes ∙ ap (λ n. drop n bytes) (omega (arith, order))
-
-    split : drop at bytes ≡ s ++ drop end bytes
-    split = sym (take-append-drop (end - at) (drop at bytes)) ∙ ap (λ r. s ++ r) behind
+pub number_written : (bytes : List ℕ) (at count n : ℕ) → at + count ≤ length bytes → 0 < count → count ≤ 9
+    → AllDigits 10 (take count (drop at bytes)) → n ≡ digits_value 10 (take count (drop at bytes))
+    → (1 < count → (slice_index bytes at == 48) ≡ false) → ends_word (drop (at + count) bytes) ≡ true
+    → WritesNumber bytes at n (at + count)
+number_written bytes at count n within some most all is first ended =
+    let s : List ℕ = take count (drop at bytes) in
+    let size : length s ≡ count = length-take-le count (drop at bytes) (omega (arith, length-drop at bytes, within)) in
+    let ascii = (numerals_by_value (λ ds. all_ascii_digits ds ≡ true) tells_all_ascii_digits).from s all in
+    let small : n < 10 ^ 9 = few (drop at bytes) count 9 n most all is in
+    let here : slice_index s 0 ≡ slice_index bytes at =
+    get_or-take count (drop at bytes) 0 0 some ∙ get_or-drop at bytes 0 0 ∙ ap (λ k. get_or bytes k 0) (omega arith) in
+    record {
+      text = s;
+      first =
+          number_passed bytes at count (digits_alone s ascii (omega (arith, size, some))
+          (λ long. ap (λ x. x == 48) here ∙ first (omega (arith, size, long)))) ended;
+      value = digits_number s n ascii (omega (arith, size, some)) (omega (arith, small)) is;
+      small = omega (arith, small);
+      within = within;
+    }
 
 -- ---- texts at a place
 

@@ -12,8 +12,8 @@ use arrayvec::ArrayVec;
 use fast_float::Numeral;
 use json::{Reader, Scratch, Token};
 
-// So many digits write a number that fits 32 bits.
-const MOST_DIGITS: usize = 9;
+/// So many digits write a number that fits 32 bits.
+pub(crate) const MOST_DIGITS: usize = 9;
 
 // The most members of such an object.
 const MAX_MEMBERS: usize = 8;
@@ -152,7 +152,7 @@ fn whole_number(text: &str) -> Option<u64>
 
 // The number that one to nine digits write, and nothing else, as nearly all numbers are written.
 #[inline(always)]
-pub(crate) fn few_digits(bytes: &[u8]) -> Option<u64>
+fn few_digits(bytes: &[u8]) -> Option<u64>
     ensures value { IfSome result (λ n. number_of bytes.now ≡ Some (unsigned n)) }
     ensures digits { IfSome result (λ n. all_ascii_digits bytes.now ≡ true) }
     ensures some { IfSome result (λ n. 0 < length bytes.now) }

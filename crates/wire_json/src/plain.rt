@@ -13,7 +13,7 @@ ghost use Rattle.serde_json.specs.Data.{unsigned};
 ghost use Rattle.wire_json.specs.Coming.{Comes};
 ghost use Rattle.wire_json.specs.Plain.{tokens_behind, spot_of, is_plain, WritesNumber, WritesText};
 
-use crate::flat::few_digits;
+use crate::flat::MOST_DIGITS;
 use arrayvec::ArrayString;
 use std::marker::Model;
 
@@ -80,9 +80,22 @@ fn is_space(byte: u8) -> bool
     byte == b' ' || byte == b'\t' || byte == b'\n' || byte == b'\r'
 }
 
-// Behind the spaces from a place on.
+// Behind the spaces from a place on. Mostly there are none: then just one byte is compared.
 #[inline(always)]
 fn behind_spaces(bytes: &[u8], at: usize) -> usize
+    requires { at ≤ length bytes.now }
+    ensures same { lex between (drop result bytes.now) ≡ lex between (drop at bytes.now) }
+    ensures within { result ≤ length bytes.now }
+{
+    if peek(bytes, at) > b' ' {
+        return at;
+    }
+    behind_each_space(bytes, at)
+}
+
+// Behind the spaces from a place on, passed one by one.
+#[inline(never)]
+fn behind_each_space(bytes: &[u8], at: usize) -> usize
     requires { at ≤ length bytes.now }
     ensures same { lex between (drop result bytes.now) ≡ lex between (drop at bytes.now) }
     ensures within { result ≤ length bytes.now }
@@ -94,9 +107,27 @@ fn behind_spaces(bytes: &[u8], at: usize) -> usize
     at
 }
 
-// Behind what stands between a value and what comes next, spaces and a comma if there is one, and where one stands then.
+// Behind what stands between a value and what comes next, spaces and a comma if there is one, and where one stands then. Mostly there
+// is just the comma, or just a bracket comes: then at most two bytes are compared.
 #[inline(always)]
 fn behind_value(bytes: &[u8], at: usize) -> (usize, Place)
+    requires { at ≤ length bytes.now }
+    ensures same { tokens_behind (spot_of result.1) (drop result.0 bytes.now) ≡ tokens_behind after_value (drop at bytes.now) }
+    ensures within { result.0 ≤ length bytes.now }
+{
+    let next = peek(bytes, at);
+    if next > b',' {
+        return (at, Place::AfterValue);
+    }
+    if next == b',' {
+        return (behind_spaces(bytes, at + 1), Place::AfterComma);
+    }
+    behind_spaced_value(bytes, at)
+}
+
+// The same, where spaces may stand before the comma.
+#[inline(never)]
+fn behind_spaced_value(bytes: &[u8], at: usize) -> (usize, Place)
     requires { at ≤ length bytes.now }
     ensures same { tokens_behind (spot_of result.1) (drop result.0 bytes.now) ≡ tokens_behind after_value (drop at bytes.now) }
     ensures within { result.0 ≤ length bytes.now }
@@ -118,38 +149,28 @@ fn is_word_end(bytes: &[u8], at: usize) -> bool
     at == bytes.len() || matches!(bytes[at], b',' | b']' | b'}' | b' ' | b'\n' | b'\r' | b'\t')
 }
 
-// Behind the digits from a place on.
-#[inline(always)]
-fn behind_digits(bytes: &[u8], at: usize) -> usize
-    requires { at ≤ length bytes.now }
-    ensures order { at ≤ result }
-    ensures within { result ≤ length bytes.now }
-{
-    let mut end = at;
-    while end < bytes.len() && bytes[end] >= b'0' && bytes[end] <= b'9' {
-        end += 1;
-    }
-    end
-}
-
 // The number of at most nine digits that is written from a place on, and the place behind it.
 #[inline(always)]
 fn number_at(bytes: &[u8], at: usize) -> Option<(u32, usize)>
     requires { at ≤ length bytes.now }
     ensures { IfSome result (λ p. WritesNumber bytes.now at p.0 p.1) }
 {
-    let end = behind_digits(bytes, at);
-    if !is_word_end(bytes, end) {
+    let rest = &bytes[at..];
+    let most = rest.len().min(MOST_DIGITS);
+    let mut n: u32 = 0;
+    let mut count = 0;
+    while count < most && rest[count] >= b'0' && rest[count] <= b'9' {
+        n = n * 10 + u32::from(rest[count] - b'0');
+        count += 1;
+    }
+    let end = at + count;
+    if count == 0 || !is_word_end(bytes, end) {
         return None;
     }
-    let digits = &bytes[at..end];
-    if digits.len() > 1 && digits[0] == b'0' {
+    if count > 1 && bytes[at] == b'0' {
         return None;
     }
-    match few_digits(digits) {
-        Some(n) => Some((n as u32, end)),
-        None => None,
-    }
+    Some((n, end))
 }
 
 #[inline(always)]

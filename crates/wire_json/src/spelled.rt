@@ -32,6 +32,7 @@ pub(crate) fn is_closed(reader: &mut PlainReader<'_>) -> bool
 }
 
 // The two numbers of a list whose opening bracket was taken.
+#[inline(always)]
 fn rest_of_pair(reader: &mut PlainReader<'_>) -> Option<(u32, u32)>
     ensures { IfSome result (λ p. ReadsTwo reader.old p reader.new) }
 {

@@ -1,26 +1,53 @@
-use Rattle.std.proofs.Common.{◌≡◌, ◌<◌, ◌==◌, false, ◌-◌, take, drop, length, slice_index, arith}
+use Rattle.std.proofs.Common.{◌≡◌, ◌<◌, ◌-◌, ◌^◌, ◌==◌, false, List, ℕ, ap, ◌∙◌, subst, take, drop, length, slice_index, arith, rules}
+use Rattle.std.proofs.Common.{length-drop}
 use Rattle.std.proofs.lemmas.Bool.{ne_eqb}
-use Rattle.wire_json.proofs.Plainly.{digits_alone, number_passed}
+use Rattle.std.proofs.lemmas.List.{take_all}
+use Rattle.std.specs.Str.Parse.{AllDigits, digits_value}
+use Rattle.wire_json.proofs.Digits.{digit_more, few}
+use Rattle.wire_json.proofs.Plainly.{number_written}
 use Rattle.wire_json.proofs.plain.number_at.Goals as goal
-use Rattle.wire_json.proofs.plain.number_at.Goals.{else-digits-gt1-via-then-digits-gt1+else-digits-eq48}
-use Rattle.wire_json.proofs.plain.number_at.Goals.{else-digits-gt1-via-else-digits-gt1}
+use Rattle.wire_json.proofs.plain.number_at.Goals.{else-count-gt1-via-then-count-gt1+else-bytes-at-eq48}
+use Rattle.wire_json.proofs.plain.number_at.Goals.{else-count-gt1-via-else-count-gt1}
 
-pub returns-in-Some : goal.returns-in-Some
-returns-in-Some c =
+pub overflow_mul-n : goal.overflow_mul-n
+overflow_mul-n c =
+    let rest : List ℕ = take (length c.args.bytes.now - c.args.at) (drop c.args.at c.args.bytes.now) in
+    let small : c.loop-count.n < 10 ^ 8 =
+    few rest c.loop-count.count 8 c.loop-count.n (omega (arith, c.loop-count-test.true, c.min-most.ensures)) c.loop-count.invariant.digits
+    c.loop-count.invariant.value in
+    search (rules, arith)
+
+pub overflow_add-n : goal.overflow_add-n
+overflow_add-n c =
+    let rest : List ℕ = take (length c.args.bytes.now - c.args.at) (drop c.args.at c.args.bytes.now) in
+    let small : c.loop-count.n < 10 ^ 8 =
+    few rest c.loop-count.count 8 c.loop-count.n (omega (arith, c.loop-count-test.true, c.min-most.ensures)) c.loop-count.invariant.digits
+    c.loop-count.invariant.value in
+    search (rules, arith)
+
+pub loop-count-preserved : goal.loop-count-preserved
+loop-count-preserved c =
+    let rest : List ℕ = take (length c.args.bytes.now - c.args.at) (drop c.args.at c.args.bytes.now) in
+    let next =
+    digit_more rest c.loop-count.count c.loop-count.n c.from.result (omega (arith, c.loop-count-test.true, c.min-most.ensures))
+    c.if-rest-count-ge48.true c.if-rest-count-le57.true c.from.ensures c.loop-count.invariant.digits c.loop-count.invariant.value in
+    record { within = omega (arith, c.loop-count-test.true); digits = next.0; value = next.1 }
+
+pub returns : goal.returns
+returns c =
     let bytes = c.args.bytes.now in
-    let end = c.behind_digits-end.result in
-    let s = take (end - c.args.at) (drop c.args.at bytes) in
-    let first : 1 < length s → (slice_index s 0 == 48) ≡ false =
-    elim c.else-digits-gt1.branch [
-      | else-digits-gt1-via-then-digits-gt1+else-digits-eq48 w ↦ λ long. ne_eqb (slice_index s 0) 48 w.if-digits-eq48.false
-      | else-digits-gt1-via-else-digits-gt1 w ↦ λ long. absurd (omega (arith, long, w.if-digits-gt1.false))
+    let at = c.args.at in
+    let count = c.loop-count.count in
+    let rest : List ℕ = take (length bytes - at) (drop at bytes) in
+    let whole : rest ≡ drop at bytes = take_all (length bytes - at) (drop at bytes) (omega (arith, length-drop at bytes)) in
+    let first : 1 < count → (slice_index bytes at == 48) ≡ false =
+    elim c.else-count-gt1.branch [
+      | else-count-gt1-via-then-count-gt1+else-bytes-at-eq48 w ↦ λ long. ne_eqb (slice_index bytes at) 48 w.if-bytes-at-eq48.false
+      | else-count-gt1-via-else-count-gt1 w ↦ λ long. absurd (omega (arith, long, w.if-count-gt1.false))
     ] in
-    record {
-      text = s;
-      first =
-          number_passed bytes c.args.at end c.behind_digits-end.ensures.order
-          (digits_alone s c.in-Some.ensures.digits c.in-Some.ensures.some first) (c.is_word_end.ensures c.if-not-is_word_end.false);
-      value = c.in-Some.ensures.value;
-      small = c.in-Some.ensures.small;
-      within = c.behind_digits-end.ensures.within;
-    }
+    number_written bytes at count c.loop-count.n
+    (omega (arith, c.loop-count.invariant.within, c.min-most.ensures, ap length whole, length-drop at bytes, c.requires))
+    (omega (arith, c.if-count-eq0.false)) (omega (arith, c.loop-count.invariant.within, c.min-most.ensures))
+    (subst (λ r. AllDigits 10 (take count r)) whole c.loop-count.invariant.digits)
+    (c.loop-count.invariant.value ∙ ap (λ r. digits_value 10 (take count r)) whole) first
+    (c.is_word_end.ensures c.if-not-is_word_end.false)

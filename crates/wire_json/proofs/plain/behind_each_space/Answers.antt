@@ -1,6 +1,6 @@
 use Rattle.std.proofs.Common.{◌∙◌, sym, arith}
 use Rattle.wire_json.proofs.Plainly.{spaces_on}
-use Rattle.wire_json.proofs.plain.behind_spaces.Goals as goal
+use Rattle.wire_json.proofs.plain.behind_each_space.Goals as goal
 
 pub loop-at-preserved : goal.loop-at-preserved
 loop-at-preserved c =

@@ -1,6 +1,6 @@
 use Rattle.std.proofs.Common.{◌≡◌, length, ◌-◌, ◌≤◌, drop}
 use Rattle.json.specs.Lex.{between, lex}
-use Rattle.wire_json.proofs.plain.behind_spaces.Given as goal
+use Rattle.wire_json.proofs.plain.behind_each_space.Given as goal
 
 abbrev pub decreases-loop-at : goal.decreases-loop-at
 decreases-loop-at l = length l.bytes - l.at
