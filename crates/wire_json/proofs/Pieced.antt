@@ -8,7 +8,7 @@ use Rattle.std.specs.Char.{digit_char}
 use Rattle.std.proofs.lemmas.Str.{inside_one, encodes-IsAscii}
 use Rattle.json.specs.Print.{escape, escape_byte, escape_letter}
 use Rattle.json.proofs.Printed.Strings.{escape_byte_plain}
-use Rattle.wire_json.specs.Text.{quote, more, in_brackets, edit_text, text, IsEditInRange}
+use Rattle.wire_json.specs.Text.{quote, more, in_brackets, edit_text, outcome_text, text, IsEditInRange, IsOutcomeInRange}
 use Rattle.std.proofs.Common.{map, codes, decimal, IsUtf8}
 use Rattle.std.proofs.Common.{◌^◌}
 use Rattle.std.specs.List.{AllByRecursion}
@@ -17,7 +17,11 @@ use Rattle.std.proofs.lemmas.Str.{IsUtf8-append, IsUtf8-nil, IsUtf8-from_ascii}
 use Rattle.json.proofs.Printed.Utf8.{IsUtf8-are_ascii, IsUtf8-quoted}
 use Rattle.opid.specs.declared.edit.Edit as edit
 use Rattle.opid.specs.declared.edit.Edit.TheVariants.{Ins, Del, DelUnits, Nop}
-use Rattle.room.specs.declared.reply.Reply.TheVariants.{Edits}
+use Rattle.opid.specs.Refusals.{number_of}
+use Rattle.room.specs.declared.outcome.Outcome as outcome
+use Rattle.room.specs.declared.outcome.Outcome.TheVariants as outcomes
+use Rattle.room.specs.declared.reply.Reply.TheVariants.{Edits, Put, Ok}
+use Rattle.wire_json.proofs.Texts.{number_small}
 
 -- bytes above ASCII stand for themselves
 stay : (bs : List ℕ) → ((k : ℕ) → k < length bs → 128 ≤ get_or bs k 0) → escape bs ≡ bs
@@ -127,3 +131,29 @@ edits_utf8 n es h k =
       listed_texts (map edit_text es) (each_text es k),
       (IsUtf8-are_ascii _ refl, (number_text n (omega (arith, h)), (IsUtf8-are_ascii _ refl, tt))),
     )
+
+one_outcome : (o : outcome.Outcome) → IsOutcomeInRange o → IsUtf8 (outcome_text o)
+one_outcome (outcomes.Took taken dropped) h =
+    all_texts (codes "[\"took\",") (decimal taken ∷ codes "," ∷ decimal dropped ∷ codes "]" ∷ []) (IsUtf8-are_ascii _ refl) (
+      number_text taken (omega (arith, h.0)),
+      (IsUtf8-are_ascii _ refl, (number_text dropped (omega (arith, h.1)), (IsUtf8-are_ascii _ refl, tt))),
+    )
+one_outcome outcomes.Kept h = IsUtf8-are_ascii (codes "[\"kept\"]") refl
+one_outcome outcomes.Again h = IsUtf8-are_ascii (codes "[\"again\"]") refl
+one_outcome (outcomes.No why) h =
+    all_texts (codes "[\"no\",") (decimal (number_of why) ∷ codes "]" ∷ []) (IsUtf8-are_ascii _ refl)
+    (number_text (number_of why) (number_small why), (IsUtf8-are_ascii _ refl, tt))
+
+each_outcome : (os : List outcome.Outcome) → AllByRecursion IsOutcomeInRange os → AllByRecursion IsUtf8 (map outcome_text os)
+each_outcome [] h = tt
+each_outcome (o ∷ os) h = (one_outcome o h.0, each_outcome os h.1)
+
+pub outcomes_utf8 : (os : List outcome.Outcome) → AllByRecursion IsOutcomeInRange os → IsUtf8 (text (Put os))
+outcomes_utf8 os h =
+    all_texts (codes "{\"os\":") (in_brackets (map outcome_text os) ∷ codes ",\"r\":\"put\"}" ∷ []) (IsUtf8-are_ascii _ refl)
+    (listed_texts (map outcome_text os) (each_outcome os h), (IsUtf8-are_ascii _ refl, tt))
+
+pub ok_utf8 : (n k : ℕ) → n < 2 ^ 32 → k < 2 ^ 32 → IsUtf8 (text (Ok n k))
+ok_utf8 n k h l =
+    all_texts (codes "{\"from\":") (decimal n ∷ codes ",\"r\":\"ok\",\"to\":" ∷ decimal k ∷ codes "}" ∷ []) (IsUtf8-are_ascii _ refl)
+    (number_text n (omega (arith, h)), (IsUtf8-are_ascii _ refl, (number_text k (omega (arith, l)), (IsUtf8-are_ascii _ refl, tt))))

@@ -72,7 +72,7 @@ compact (Put os) =
 compact (Text v x) = regroup_5 (codes "{\"r\":\"text\",\"v\":") (decimal v) (codes ",\"x\":") (quote x) (codes "}")
 compact (No why) = regroup_3 (codes "{\"n\":") (decimal (number_of why)) (codes ",\"r\":\"no\"}")
 
-number_small : (why : Refusal) → number_of why < 2 ^ 64
+pub number_small : (why : Refusal) → number_of why < 2 ^ 64
 number_small BadJson = lit< tt
 number_small BadField = lit< tt
 number_small UnknownKind = lit< tt

@@ -1,11 +1,11 @@
 //! The text of an edit, put together from its end in a few bytes, so that it is copied once.
-ghost use Rattle.std.specs.Prelude.{◌≡◌, ◌+◌, ◌<◌, ◌≤◌, ◌≢◌, ◌∷◌, [], ◌++◌, length, drop, decimal, OnOk};
+ghost use Rattle.std.specs.Prelude.{◌≡◌, ◌+◌, ◌<◌, ◌≤◌, ◌≢◌, ◌∷◌, [], ◌++◌, drop, OnOk};
 ghost use Rattle.std.specs.Char.{digit_char};
 ghost use Rattle.json.specs.Print.{escape_letter};
 ghost use Rattle.opid.specs.declared.edit.Edit.TheVariants as edits;
 ghost use Rattle.wire_json.specs.Text.{IsEditInRange, edit_text, quote};
 
-use itoa::write_digits;
+use crate::byte_writing::{put, put_number};
 use opid::Edit;
 use std::alloc::AllocError;
 
@@ -149,30 +149,6 @@ fn hex(digit: u32) -> u8
         Some(ch) => ch as u8,
         None => unreachable!(),
     }
-}
-
-/// Puts a byte before a place, and gives its own.
-#[inline(always)]
-fn put(bytes: &mut [u8; MOST], at: usize, byte: u8) -> usize
-    requires first { 0 < at }
-    requires within { at ≤ MOST }
-    ensures told { drop result bytes.new ≡ byte ∷ drop at bytes.old }
-    ensures place { result + 1 ≡ at }
-{
-    bytes[at - 1] = byte;
-    at - 1
-}
-
-/// Puts a number before a place, and gives its own.
-#[inline(always)]
-fn put_number(bytes: &mut [u8; MOST], at: usize, n: u64) -> usize
-    requires room { 20 ≤ at }
-    requires within { at ≤ MOST }
-    ensures told { drop result bytes.new ≡ decimal n ++ drop at bytes.old }
-    ensures place { at ≤ result + 20 }
-    ensures before { result ≤ at }
-{
-    write_digits(n, bytes, at)
 }
 
 /// Puts the beginning of an edit before a place: a bracket, the letter in quotes, and a comma.

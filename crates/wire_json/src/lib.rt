@@ -2,6 +2,7 @@
 #![tactic(auto)]
 
 mod asked;
+mod byte_writing;
 mod edit_bytes;
 mod fields;
 mod flat;
@@ -12,6 +13,7 @@ mod offer;
 mod opening;
 mod operation_writing;
 mod operations;
+mod outcome_bytes;
 mod packing;
 mod pieces;
 mod plain;

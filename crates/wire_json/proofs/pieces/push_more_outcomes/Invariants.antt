@@ -1,12 +1,12 @@
 -- What is written so far goes on to all outcomes, and those so far are within their ranges.
-use Rattle.std.proofs.Common.{◌≡◌, ◌++◌, drop, take, map, string_bytes}
+use Rattle.std.proofs.Common.{◌≡◌, ◌++◌, drop, take, map}
 use Rattle.std.specs.List.{AllByRecursion}
 use Rattle.wire_json.specs.Text.{IsOutcomeInRange, outcome_text, more}
 use Rattle.wire_json.proofs.pieces.push_more_outcomes.Given as goal
 
 abbrev pub invariant-loop-outcome : goal.invariant-loop-outcome
 invariant-loop-outcome l = record {
-  text : string_bytes l.out ++ more (map outcome_text (drop l.outcome-index l.outcomes)) ≡ string_bytes l.fn.out ++ more
+  text : l.out.items ++ more (map outcome_text (drop l.outcome-index l.outcomes)) ≡ l.fn.out.items ++ more
       (map outcome_text l.outcomes);
   in_range : AllByRecursion IsOutcomeInRange (take l.outcome-index l.outcomes);
 }

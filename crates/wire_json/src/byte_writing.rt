@@ -1,0 +1,42 @@
+//! Texts put together from their end in a few bytes on the stack, so that each is copied once.
+ghost use Rattle.std.specs.Prelude.{◌≡◌, ◌+◌, ◌<◌, ◌≤◌, ◌∷◌, ◌++◌, length, drop, decimal};
+
+use itoa::write_digits;
+
+/// Puts a byte before a place, and gives its own.
+#[inline(always)]
+pub(crate) fn put<const N: usize>(bytes: &mut [u8; N], at: usize, byte: u8) -> usize
+    requires first { 0 < at }
+    requires within { at ≤ N }
+    ensures told { drop result bytes.new ≡ byte ∷ drop at bytes.old }
+    ensures place { result + 1 ≡ at }
+{
+    bytes[at - 1] = byte;
+    at - 1
+}
+
+/// Puts bytes before a place, and gives their own.
+#[inline(always)]
+pub(crate) fn put_all<const N: usize>(bytes: &mut [u8; N], at: usize, piece: &[u8]) -> usize
+    requires room { length piece.now ≤ at }
+    requires within { at ≤ N }
+    ensures told { drop result bytes.new ≡ piece.now ++ drop at bytes.old }
+    ensures place { result + length piece.now ≡ at }
+{
+    let start = at - piece.len();
+    let all = &mut bytes[..];
+    all[start..at].copy_from_slice(piece);
+    start
+}
+
+/// Puts a number before a place, and gives its own.
+#[inline(always)]
+pub(crate) fn put_number<const N: usize>(bytes: &mut [u8; N], at: usize, n: u64) -> usize
+    requires room { 20 ≤ at }
+    requires within { at ≤ N }
+    ensures told { drop result bytes.new ≡ decimal n ++ drop at bytes.old }
+    ensures place { at ≤ result + 20 }
+    ensures before { result ≤ at }
+{
+    write_digits(n, bytes, at)
+}
