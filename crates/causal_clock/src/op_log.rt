@@ -1,5 +1,5 @@
 //! A log of operations that keeps of each clock the entries that changed.
-ghost use Rattle.std.specs.Prelude.{◌≡◌, ◌==◌, ◌||◌, not, ◌+◌, ◌-◌, ◌*◌, ◌<◌, ◌≤◌, ◌++◌, [], ◌∷◌, ℕ, Bool, Some, max, length, drop};
+ghost use Rattle.std.specs.Prelude.{◌≡◌, ◌==◌, ◌+◌, ◌-◌, ◌*◌, ◌<◌, ◌≤◌, ◌++◌, [], ◌∷◌, ℕ, Bool, Some, max, length, drop};
 ghost use Rattle.std.specs.Prelude.{slice_get, OnOk, OnErr, IfErr, vec_len, vec_capacity, true, false, if◌then◌else◌};
 ghost use Rattle.opid.specs.declared.refusal.Refusal.TheVariants.{Memory};
 ghost use Rattle.causal_clock.specs.Kinds.{IsOperation};
@@ -134,8 +134,8 @@ impl OpLog {
         Ok(())
     }
 
-    /// Adds an operation. Takes a step for each site. Refused with `Memory`, only where nothing is reserved, also above
-    /// 67,108,864 operations.
+    /// Adds an operation. Compares the counts of all sites at once, and takes a step for each entry that is stored. Refused with
+    /// `Memory`, only where nothing is reserved, also above 67,108,864 operations.
     pub fn push(&mut self, op: Op) -> Result<(), Refusal>
         ensures ok { OnOk result (self.new ≡ record { ops = self.old.ops ++ op ∷ []; room = self.old.room - 1 }) }
 

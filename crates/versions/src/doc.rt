@@ -162,8 +162,9 @@ impl Doc {
         Ok(())
     }
 
-    /// Adds an operation to the log, and gives its edit: what it does to the text. Takes a step for each of the 32 sites, and steps
-    /// logarithmic in the number of elements, however many with a greater stamp an insertion has to pass.
+    /// Adds an operation to the log, and gives its edit: what it does to the text. Takes the steps of `OpLog::push`, at most one for
+    /// each of the 32 sites, and steps logarithmic in the number of elements, however many with a greater stamp an insertion has to
+    /// pass.
     ///
     /// Refused, in this order: `Full` with 131,072 operations, `UnknownElement` where the parent or target is no
     /// element, `NotOlder` where the parent's stamp isn't smaller, `Memory` only where nothing is reserved.

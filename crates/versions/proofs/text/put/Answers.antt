@@ -6,7 +6,7 @@ use Rattle.versions.proofs.text.put.Goals.{then-waiting-le-BLOCK, else-waiting-l
 
 pub returns-then-ch-lt128-clause-utf8 : goal.returns-then-ch-lt128-clause-utf8
 returns-then-ch-lt128-clause-utf8 c =
-    let at : c.if-waiting-le-BLOCK.at + 4 ≤ 256 = elim c.if-waiting-le-BLOCK.branch [
+    let at : c.if-waiting-le-BLOCK.at + 4 ≤ 259 = elim c.if-waiting-le-BLOCK.branch [
       | then-waiting-le-BLOCK w ↦ omega (arith, w.at-is, w.if-waiting-le-BLOCK.true)
       | else-waiting-le-BLOCK+in_ok-flush w ↦ omega (arith, w.at-is)
     ] in
