@@ -1,5 +1,5 @@
 -- What an insertion along a path comes to, and what the table has for it before. No public clause cites this: it is the code's alone.
-use Rattle.std.specs.Prelude.{◌≡◌, ℕ, ◌+◌, ◌-◌, ◌<◌, ◌≤◌, ◌∷◌, List, length, take, slice_get, Option, Some}
+use Rattle.std.specs.Prelude.{◌≡◌, ℕ, ◌+◌, ◌-◌, ◌<◌, ◌≤◌, ◌∷◌, List, length, take, drop, slice_get, Option, Some, IsSome}
 use Rattle.counted_tree.specs.declared.above.Above.{Above}
 use Rattle.counted_tree.specs.declared.entry.Entry.{Entry}
 use Rattle.counted_tree.specs.declared.insert.Inserted.{Inserted}
@@ -13,7 +13,7 @@ use Rattle.counted_tree.specs.Change.{tree_in, Adds}
 use Rattle.counted_tree.specs.Changed.{before}
 use Rattle.counted_tree.specs.Grown.{IsGrown}
 use Rattle.counted_tree.specs.Settled.{grown_link, IsTold}
-use Rattle.counted_tree.specs.Along.{inserted_at, turned, under}
+use Rattle.counted_tree.specs.Along.{entry_at, inserted_at, turned, under}
 use Rattle.counted_tree.specs.Table.{AreOwn, IsKept, HasRow, PointsTo, Hangs}
 
 -- the tree can have the entry: the table has what is in the tree, and there is room for so many nodes
@@ -45,3 +45,12 @@ pub record IsLift (a b : Store) (old new : List Row) (top : ℕ) (side : Side) (
 abbrev pub AreAlong : Store → Tree → List Side → List ℕ → Type 0
 AreAlong a t path numbers =
     (i k : ℕ) → slice_get numbers i ≡ Some k → (k < length a.nodes) × (tree_in a (Some k) ≡ under t (take i path))
+
+-- the part of a tree that the first steps of a path lead to was given the entry, and the nodes above it are known
+pub record IsRisen (a b : Store) (old new : List Row) (t : Tree) (path : List Side) (numbers : List ℕ) (x : Entry) (steps : ℕ)
+    (made : Inserted) : Type 0 where
+  pub sound : AreSound a.nodes
+  pub along : AreAlong a t path numbers
+  pub there : IsSome (entry_at t path)
+  pub fit : IsFit a.node_room old t path x
+  pub part_made : IsInserted a b old new (under t (take steps path)) (drop steps path) x made

@@ -4,6 +4,7 @@ use Rattle.counted_tree.specs.declared.side.Side.TheVariants.{Left}
 use Rattle.counted_tree.specs.Along.{under}
 use Rattle.counted_tree.specs.Change.{tree_in}
 use Rattle.counted_tree.specs.Inserted.{IsInserted, AreAlong}
+use Rattle.counted_tree.proofs.Risen.{risen}
 use Rattle.counted_tree.proofs.Unders.{fit_there, lift_there, lifted_there, made_there}
 use Rattle.counted_tree.proofs.insert.insert_at.Goals as goal
 
@@ -53,8 +54,8 @@ loop-level-init c =
           c.insert_behind-made.result (length path) (get_or ns (length path) 0) along number refl c.insert_behind-made.ensures;
     }
 
-pub step_up-made-requires : goal.step_up-made-requires
-step_up-made-requires c =
+pub lift-made-requires : goal.lift-made-requires
+lift-made-requires c =
     let a = c.args.nodes.now in
     let tb = c.args.table.now in
     let t = tree_in a c.args.link in
@@ -75,6 +76,38 @@ step_up-made-requires c =
     let lifts = lift_there a c.loop-level.nodes tb c.loop-level.table t path ns c.args.entry.now c.loop-level.made level i k s
     c.requires.sound along c.requires.there c.requires.fit number side one inv.made in
     (a, tb, drop level path, lifts)
+
+pub lift_settled-requires-clause-risen : goal.lift_settled-requires-clause-risen
+lift_settled-requires-clause-risen c =
+    let a = c.args.nodes.now in
+    let tb = c.args.table.now in
+    let t = tree_in a c.args.link in
+    let path = c.args.path.now in
+    let ns = c.as_slice-numbers.result.now in
+    let along = subst (AreAlong a t path) (sym c.as_slice-numbers.ensures.value)
+    (subst (λ o. AreAlong a (tree_in a o) path c.numbers_along-numbers.result.items) (sym c.in-Some.is)
+    c.numbers_along-numbers.ensures.numbers) in (
+      a,
+      tb,
+      c.loop-level.table,
+      t,
+      risen a c.loop-level.nodes tb c.loop-level.table t path ns c.args.entry.now c.loop-level.made c.loop-level.level c.in-Settled.part
+          c.requires.sound along c.requires.there c.requires.fit c.in-Settled.is c.loop-level.invariant.made,
+    )
+
+pub returns-in-Settled : goal.returns-in-Settled
+returns-in-Settled c =
+    let a = c.args.nodes.now in
+    let tb = c.args.table.now in
+    let t = tree_in a c.args.link in
+    let path = c.args.path.now in
+    let ns = c.as_slice-numbers.result.now in
+    let along = subst (AreAlong a t path) (sym c.as_slice-numbers.ensures.value)
+    (subst (λ o. AreAlong a (tree_in a o) path c.numbers_along-numbers.result.items) (sym c.in-Some.is)
+    c.numbers_along-numbers.ensures.numbers) in
+    c.lift_settled.ensures a tb c.loop-level.table t
+    (risen a c.loop-level.nodes tb c.loop-level.table t path ns c.args.entry.now c.loop-level.made c.loop-level.level c.in-Settled.part
+    c.requires.sound along c.requires.there c.requires.fit c.in-Settled.is c.loop-level.invariant.made)
 
 pub loop-level-preserved : goal.loop-level-preserved
 loop-level-preserved c =
@@ -99,8 +132,8 @@ loop-level-preserved c =
     c.requires.sound along c.requires.there c.requires.fit number side one inv.made in
     record {
       within = omega (arith, inv.within);
-      made = lifted_there a c.step_up-made.new.nodes tb c.step_up-made.new.table t path ns c.args.entry.now c.step_up-made.result
-          level i k s along number side one (c.step_up-made.ensures a tb (drop level path) lifts);
+      made = lifted_there a c.lift-made.new.nodes tb c.lift-made.new.table t path ns c.args.entry.now c.lift-made.result
+          level i k s along number side one (c.lift-made.ensures a tb (drop level path) lifts);
     }
 
 pub returns : goal.returns

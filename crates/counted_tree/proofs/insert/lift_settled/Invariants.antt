@@ -1,0 +1,18 @@
+use Rattle.std.proofs.Common.{◌≤◌, length, List}
+use Rattle.counted_tree.specs.declared.grown.Grown.TheVariants.{Settled}
+use Rattle.counted_tree.specs.declared.row.Row.{Row}
+use Rattle.counted_tree.specs.Tree.{Tree}
+use Rattle.counted_tree.specs.Store.{Store}
+use Rattle.counted_tree.specs.Inserted.{IsRisen}
+use Rattle.counted_tree.proofs.insert.lift_settled.Given as goal
+
+abbrev pub invariant-loop-level : goal.invariant-loop-level
+invariant-loop-level l = record {
+  within : l.level ≤ length l.path;
+  risen : (a : Store) → (tb : List Row) → (mid : List Row) → (t : Tree)
+      → IsRisen a l.fn.nodes tb mid t l.path l.numbers l.entry l.fn.levels (record { top = Settled l.fn.part; rank = l.fn.rank })
+      → IsRisen a l.nodes tb mid t l.path l.numbers l.entry l.level (record { top = Settled l.top; rank = l.before });
+}
+
+abbrev pub decreases-loop-level : goal.decreases-loop-level
+decreases-loop-level l = l.level
