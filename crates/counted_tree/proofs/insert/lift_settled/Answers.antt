@@ -1,6 +1,7 @@
 use Rattle.std.proofs.Common.{◌≡◌, ◌+◌, ◌-◌, drop, take, get_or, subst, arith}
 use Rattle.std.proofs.lemmas.Option.{slice_get-get_or}
 use Rattle.counted_tree.specs.declared.grown.Grown.TheVariants.{Settled}
+use Rattle.counted_tree.specs.declared.insert.Inserted.{Inserted}
 use Rattle.counted_tree.specs.declared.side.Side.TheVariants.{Left}
 use Rattle.counted_tree.specs.Along.{under}
 use Rattle.counted_tree.specs.Inserted.{IsInserted}
@@ -9,6 +10,10 @@ use Rattle.counted_tree.proofs.insert.lift_settled.Goals as goal
 
 pub step_settled-made-requires : goal.step_settled-made-requires
 step_settled-made-requires c =
+    let part : Inserted = record {
+      top = Settled c.loop-level.top;
+      rank = record { shown = c.loop-level.shown; units = c.loop-level.units };
+    } in
     let w = c.requires.risen in
     let path = c.args.path.now in
     let ns = c.args.numbers.now in
@@ -20,12 +25,20 @@ step_settled-made-requires c =
     let side = slice_get-get_or path i Left (omega (arith, inv.within, c.loop-level-test.true)) in
     let one : level ≡ i + 1 = omega (arith, c.loop-level-test.true) in
     let lifts = lift_there w.0 c.loop-level.nodes w.1 w.2 w.3 path ns c.args.entry.now
-    (record { top = Settled c.loop-level.top; rank = c.loop-level.before }) level i (get_or ns i 0) (get_or path i Left)
+    part level i (get_or ns i 0) (get_or path i Left)
     r.sound r.along r.there r.fit number side one r.part_made in
     (w.0, w.1, w.2, drop level path, c.args.entry.now, c.of-more.ensures, lifts)
 
 pub loop-level-preserved : goal.loop-level-preserved
 loop-level-preserved c =
+    let part : Inserted = record {
+      top = Settled c.loop-level.top;
+      rank = record { shown = c.loop-level.shown; units = c.loop-level.units };
+    } in
+    let made : Inserted = record {
+      top = Settled c.step_settled-made.result.0;
+      rank = record { shown = c.step_settled-made.result.1; units = c.step_settled-made.result.2 };
+    } in
     let path = c.args.path.now in
     let ns = c.args.numbers.now in
     let level = c.loop-level.level in
@@ -41,7 +54,7 @@ loop-level-preserved c =
       risen = λ a tb mid t given.
           let r = inv.risen a tb mid t given in
           let lifts = lift_there a c.loop-level.nodes tb mid t path ns c.args.entry.now
-          (record { top = Settled c.loop-level.top; rank = c.loop-level.before }) level i k s r.sound r.along r.there r.fit number side
+          part level i k s r.sound r.along r.there r.fit number side
           one r.part_made in
           record {
             sound = r.sound;
@@ -49,15 +62,19 @@ loop-level-preserved c =
             there = r.there;
             fit = r.fit;
             part_made = lifted_there a c.step_settled-made.new.nodes tb mid t path ns c.args.entry.now
-                (record { top = Settled c.step_settled-made.result.0; rank = c.step_settled-made.result.1 }) level i k s r.along number
+                made level i k s r.along number
                 side one (c.step_settled-made.ensures a tb mid (drop level path) c.args.entry.now c.of-more.ensures lifts);
           };
     }
 
 pub returns : goal.returns
 returns c =
+    let part : Inserted = record {
+      top = Settled c.loop-level.top;
+      rank = record { shown = c.loop-level.shown; units = c.loop-level.units };
+    } in
     let path = c.args.path.now in
     let e : c.loop-level.level ≡ 0 = omega (arith, c.loop-level-test.false) in
     λ a tb mid t given.
     subst (λ j. IsInserted a c.loop-level.nodes tb mid (under t (take j path)) (drop j path) c.args.entry.now
-    (record { top = Settled c.loop-level.top; rank = c.loop-level.before })) e (c.loop-level.invariant.risen a tb mid t given).part_made
+    part) e (c.loop-level.invariant.risen a tb mid t given).part_made

@@ -11,7 +11,10 @@ invariant-loop-level l = record {
   within : l.level ≤ length l.path;
   risen : (a : Store) → (tb : List Row) → (mid : List Row) → (t : Tree)
       → IsRisen a l.fn.nodes tb mid t l.path l.numbers l.entry l.fn.levels (record { top = Settled l.fn.part; rank = l.fn.rank })
-      → IsRisen a l.nodes tb mid t l.path l.numbers l.entry l.level (record { top = Settled l.top; rank = l.before });
+      → IsRisen a l.nodes tb mid t l.path l.numbers l.entry l.level (record {
+        top = Settled l.top;
+        rank = record { shown = l.shown; units = l.units };
+      });
 }
 
 abbrev pub decreases-loop-level : goal.decreases-loop-level

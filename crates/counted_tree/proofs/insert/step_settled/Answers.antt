@@ -24,8 +24,8 @@ plus-size-requires c =
     let units = ap (λ (s : Size). s.units) w.5 in
     record { shown = omega (arith, shown, p.shown); units = omega (arith, units, (one_at_most w.4).2, shown, p.shown, p.wide) }
 
-pub push_with_left-requires : goal.push_with_left-requires
-push_with_left-requires c =
+pub push_with_left-top-requires : goal.push_with_left-top-requires
+push_with_left-top-requires c =
     let w = c.requires in
     let n = c.open-node.result in
     let p = step_there w.0 c.args.nodes.now w.1 w.2 c.args.at c.args.side w.3 w.4 c.args.below c.args.rank n w.6
@@ -43,8 +43,8 @@ push_with_left-requires c =
       wide = omega (arith, shown, units, sum_shown, sum_units, p.wide);
     }
 
-pub push_with_right-requires-clause-right : goal.push_with_right-requires-clause-right
-push_with_right-requires-clause-right c =
+pub push_with_right-top-requires-clause-right : goal.push_with_right-top-requires-clause-right
+push_with_right-top-requires-clause-right c =
     let w = c.requires in
     (step_there w.0 c.args.nodes.now w.1 w.2 c.args.at c.args.side w.3 w.4 c.args.below c.args.rank c.open-node.result w.6
     c.open-node.ensures.node).there
@@ -53,9 +53,9 @@ pub returns-in-Left : goal.returns-in-Left
 returns-in-Left c = λ a tb mid path x more given.
     let b = c.args.nodes.now in
     let n = c.open-node.result in
-    let p = c.push_with_left.ensures in
-    let d = c.push_with_left.new.self in
-    let k = c.push_with_left.result in
+    let p = c.push_with_left-top.ensures in
+    let d = c.push_with_left-top.new.self in
+    let k = c.push_with_left-top.result in
     let h = subst (λ s. IsLift a b tb mid c.args.at s path x (record { top = Settled c.args.below; rank = c.args.rank })) c.in-Left.is
     given in
     let size = c.plus-size.ensures ∙ ap (λ (m : Size). record {
@@ -73,9 +73,9 @@ pub returns-in-Right : goal.returns-in-Right
 returns-in-Right c = λ a tb mid path x more given.
     let b = c.args.nodes.now in
     let n = c.open-node.result in
-    let p = c.push_with_right.ensures in
-    let d = c.push_with_right.new.self in
-    let k = c.push_with_right.result in
+    let p = c.push_with_right-top.ensures in
+    let d = c.push_with_right-top.new.self in
+    let k = c.push_with_right-top.result in
     let h = subst (λ s. IsLift a b tb mid c.args.at s path x (record { top = Settled c.args.below; rank = c.args.rank })) c.in-Right.is
     given in
     let whole = stepped_right a b d tb mid c.args.at path x c.args.below k c.args.rank n h c.open-node.ensures.node
