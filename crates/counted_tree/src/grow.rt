@@ -1,4 +1,4 @@
-//! The tree of a node, once one of its sides has grown by an entry. All these calls stand in the body of who makes them, so that only what
+//! The tree of a node, once one of its sides has grown by an entry. What makes it stands in the body of who asks for it, so that only what
 //! they use of the node is unpacked: a copy differs in one side, and the whole node is read once more only where it is built anew.
 ghost use Rattle.std.specs.Prelude.{◌≡◌, ℕ, ◌+◌, ◌-◌, ◌<◌, ◌≤◌, ◌∷◌, ◌++◌, length, slice_get, Option, Some};
 ghost use Rattle.counted_tree.specs.declared.above.Above.{Above};

@@ -1,4 +1,4 @@
-//! The texts of what most requests get, an `ok`, edits or outcomes, put together piece by piece.
+//! The texts of what most requests get: an `ok`, edits or outcomes. Each is put from its end into a few bytes, and copied once.
 ghost use Rattle.std.specs.Prelude.{◌≡◌, ◌++◌, map, IfOk, OnOk, string_bytes};
 ghost use Rattle.std.specs.List.{AllByRecursion};
 ghost use Rattle.room.specs.declared.reply.Reply.TheVariants as replies;
