@@ -1,17 +1,13 @@
--- Packing operations one after another, as a loop does.
-use Rattle.std.proofs.Common.{◌≡◌, ◌+◌, ◌<◌, ◌≤◌, ℕ, true, false, List, [], ◌∷◌, ◌++◌, length, take, drop, get_or, sum}
+-- Which operation joins an item, and the characters of a run as one text.
+use Rattle.std.proofs.Common.{◌≡◌, ◌+◌, ◌<◌, ◌≤◌, ℕ, true, false, List, [], ◌∷◌, ◌++◌, length, take, get_or, sum}
 use Rattle.std.proofs.Common.{refl, sym, ap, ◌∙◌, append_assoc, arith}
 use Rattle.std.specs.Prelude.{nat_lt, encode_utf8, encode_utf8_all}
 use Rattle.std.proofs.lemmas.Bool.{false_from_ne_true, and_parts}
-use Rattle.std.proofs.lemmas.List.{append-nil, drop_all, take_more}
-use Rattle.json.specs.Token.{Token, begin_array, end_array}
-use Rattle.serde_json.specs.Data.{array}
+use Rattle.std.proofs.lemmas.List.{append-nil, take_more}
 use Rattle.opid.specs.Operations.{Operation}
 use Rattle.opid.proofs.Counts.{sum-raised}
 use Rattle.causal_clock.specs.Kinds.{IsOperation}
-use Rattle.wire_json.specs.Packing.{Item, typed_next, last_typed, is_typed_next, joins, inserted_character, packed_behind}
-use Rattle.wire_json.specs.Written.{tokens_of, each_data, item_data}
-use Rattle.wire_json.proofs.Lists.{each_tokens, bracketed}
+use Rattle.wire_json.specs.Packing.{Item, typed_next, last_typed, is_typed_next, joins, inserted_character}
 use Rattle.wire_json.proofs.Packed.{is_typed_next-typed_next}
 
 -- no operation follows one whose clock is at the limit
@@ -34,21 +30,6 @@ pushed i y ch more e same is =
     let both = and_parts (nat_lt (length i.more + 1) 64) (is_typed_next (last_typed i.first i.more) y) e in
     is_typed_next-typed_next (last_typed i.first i.more) y both.1
     ∙ ap (typed_next (last_typed i.first i.more)) same ∙ sym (last_typed-push i.first i.more ch) ∙ ap (last_typed i.first) (sym is)
-
--- ---- the loop
-
--- what is written, and what the item becomes with the rest
-abbrev pub written : List Token → Item → List Operation → List Token
-written ts i ys = ts ++ each_tokens item_data (packed_behind i ys)
-
--- the last item between brackets with those before it
-pub all_written : (i : Item) (ops : List Operation) (k : ℕ) (items : List Item) (old opened here last new : List Token)
-    → length ops ≤ k → opened ≡ old ++ begin_array ∷ [] → written here i (drop k ops) ≡ opened ++ each_tokens item_data items
-    → last ≡ here ++ tokens_of (item_data i) → new ≡ last ++ end_array ∷ [] → new ≡ old ++ tokens_of (array (each_data item_data items))
-all_written i ops k items old opened here last new h first so_far is end =
-    let alone_left : written here i (drop k ops) ≡ here ++ (tokens_of (item_data i) ++ []) = ap (written here i) (drop_all k ops h) in
-    bracketed item_data items old opened last new first
-    (is ∙ ap (λ ts. here ++ ts) (sym (append-nil (tokens_of (item_data i)))) ∙ sym alone_left ∙ so_far) end
 
 -- ---- texts
 

@@ -47,13 +47,28 @@ above c h k l = elim (cases_lt (get_or (encode_utf8 c) k 0) 128) [
   | inr m ↦ m
 ]
 
-escaped : (c : ℕ) → 32 ≤ c → (c ≡ 34 → ⊥) → (c ≡ 92 → ⊥) → escape (encode_utf8 c) ≡ encode_utf8 c
+pub escaped : (c : ℕ) → 32 ≤ c → (c ≡ 34 → ⊥) → (c ≡ 92 → ⊥) → escape (encode_utf8 c) ≡ encode_utf8 c
 escaped c h q b = elim (cases_lt c 128) [
   | inl l ↦
       let one : encode_utf8 c ≡ c ∷ [] = sym (append-nil (encode_utf8 c)) ∙ lone c l in
       subst (λ bs. escape bs ≡ bs) (sym one) (rw (escape_byte_plain c q b h) refl)
   | inr m ↦ stay (encode_utf8 c) (above c m)
 ]
+
+one_byte : (c : ℕ) → c < 128 → encode_utf8 c ≡ c ∷ []
+one_byte c l = sym (append-nil (encode_utf8 c)) ∙ lone c l
+
+pub ascii_escape : (c : ℕ) → c < 128 → 32 ≤ c → (c ≡ 34 → ⊥) → (c ≡ 92 → ⊥) → escape (encode_utf8 c) ≡ c ∷ []
+ascii_escape c l h q b = escaped c h q b ∙ one_byte c l
+
+pub letter_escape : (c l : ℕ) → c < 128 → escape_letter c ≡ l → 0 < l → escape (encode_utf8 c) ≡ 92 ∷ l ∷ []
+unfolding escape_byte
+letter_escape c l h e m = ap escape (one_byte c h) ∙ rw e (rw (lt-ltb 0 l m) refl)
+
+pub number_escape : (c : ℕ) → c < 32 → escape_letter c ≡ 0
+    → escape (encode_utf8 c) ≡ 92 ∷ 117 ∷ 48 ∷ 48 ∷ digit_char (c / 16) ∷ digit_char (c % 16) ∷ []
+unfolding escape_byte
+number_escape c h e = ap escape (one_byte c (omega arith)) ∙ rw e (rw (lt-ltb c 32 h) refl)
 
 -- ---- a character in quotes
 
@@ -85,7 +100,7 @@ abbrev behind : List ℕ → List (List ℕ) → List ℕ
 behind t [] = t
 behind t (u ∷ us) = behind (t ++ u) us
 
-all_texts : (t : List ℕ) (us : List (List ℕ)) → IsUtf8 t → AllByRecursion IsUtf8 us → IsUtf8 (behind t us)
+pub all_texts : (t : List ℕ) (us : List (List ℕ)) → IsUtf8 t → AllByRecursion IsUtf8 us → IsUtf8 (behind t us)
 all_texts t [] h k = h
 all_texts t (u ∷ us) h k = all_texts (t ++ u) us (IsUtf8-append t u h k.0) k.1
 
@@ -93,12 +108,12 @@ more_texts : (ts : List (List ℕ)) → AllByRecursion IsUtf8 ts → IsUtf8 (mor
 more_texts [] h = IsUtf8-nil
 more_texts (t ∷ ts) h = all_texts (codes ",") (t ∷ more ts ∷ []) (IsUtf8-are_ascii _ refl) (h.0, (more_texts ts h.1, tt))
 
-listed_texts : (ts : List (List ℕ)) → AllByRecursion IsUtf8 ts → IsUtf8 (in_brackets ts)
+pub listed_texts : (ts : List (List ℕ)) → AllByRecursion IsUtf8 ts → IsUtf8 (in_brackets ts)
 listed_texts [] h = IsUtf8-are_ascii (codes "[]") refl
 listed_texts (t ∷ ts) h =
     all_texts (codes "[") (t ∷ more ts ∷ codes "]" ∷ []) (IsUtf8-are_ascii _ refl) (h.0, (more_texts ts h.1, (IsUtf8-are_ascii _ refl, tt)))
 
-number_text : (n : ℕ) → n < 2 ^ 64 → IsUtf8 (decimal n)
+pub number_text : (n : ℕ) → n < 2 ^ 64 → IsUtf8 (decimal n)
 number_text n h = IsUtf8-from_ascii (decimal n) (IsAscii-decimal n (omega arith))
 
 one_text : (e : edit.Edit) → IsEditInRange e → IsUtf8 (edit_text e)

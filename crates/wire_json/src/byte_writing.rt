@@ -40,3 +40,15 @@ pub(crate) fn put_number<const N: usize>(bytes: &mut [u8; N], at: usize, n: u64)
 {
     write_digits(n, bytes, at)
 }
+
+/// Puts a number of 32 bits before a place, and gives its own.
+#[inline(always)]
+pub(crate) fn put_small<const N: usize>(bytes: &mut [u8; N], at: usize, n: u32) -> usize
+    requires room { 10 ≤ at }
+    requires within { at ≤ N }
+    ensures told { drop result bytes.new ≡ decimal n ++ drop at bytes.old }
+    ensures place { at ≤ result + 10 }
+    ensures before { result ≤ at }
+{
+    write_digits(u64::from(n), bytes, at)
+}

@@ -140,8 +140,8 @@ fn put_by_number(bytes: &mut [u8; MOST], at: usize, ch: char) -> usize
     put(bytes, at, b'"')
 }
 
-// The hexadecimal digit.
-fn hex(digit: u32) -> u8
+/// The hexadecimal digit.
+pub(crate) fn hex(digit: u32) -> u8
     requires { digit < 16 }
     ensures { result ≡ digit_char digit }
 {

@@ -4,12 +4,14 @@
 mod asked;
 mod byte_writing;
 mod edit_bytes;
+mod escape_bytes;
 mod fields;
 mod flat;
 mod handed;
 mod items;
 mod laws;
 mod offer;
+mod op_bytes;
 mod opening;
 mod operation_writing;
 mod operations;

@@ -128,8 +128,8 @@ fn append_clock(out: &mut Writer, clock: &Clock) -> Result<(), AllocError>
     out.end_array()
 }
 
-// The count of the site with this number.
-fn entry_of(clock: &Clock, number: u8) -> u32
+/// The count of the site with this number.
+pub(crate) fn entry_of(clock: &Clock, number: u8) -> u32
     requires { number < SITES }
     ensures { result ≡ entry clock.now number }
 {

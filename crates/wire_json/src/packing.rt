@@ -2,12 +2,12 @@
 ghost use Rattle.std.specs.Prelude.{◌≡◌, ◌<◌, ◌++◌, ◌∷◌, true, IfOk, IfErr, OnOk, string_bytes, encode_utf8_all};
 ghost use Rattle.std.specs.List.{AllByRecursion};
 ghost use Rattle.opid.specs.declared.refusal.Refusal.TheVariants.{Memory};
-ghost use Rattle.serde_json.specs.Data.{array};
-ghost use Rattle.wire_json.specs.Packing.{joins, is_typed_next, alone, with_one_more, packed_items};
-ghost use Rattle.wire_json.specs.Text.{IsOperationInRange, item_text};
-ghost use Rattle.wire_json.specs.Written.{tokens_of, each_data, item_data};
+ghost use Rattle.wire_json.specs.Packing.{joins, is_typed_next, alone, with_one_more};
+ghost use Rattle.wire_json.specs.Text.{IsOperationInRange, item_text, packed_text};
+ghost use Rattle.wire_json.specs.Written.{tokens_of, item_data};
 
 use crate::items::next_op;
+use crate::op_bytes::{push_deletion, push_typed};
 use crate::operation_writing::{LIKELY_LEN, append_op, append_typed, check_op};
 use crate::tokens::{text_of, writer};
 use causal_clock::{MAX_SUM, Op};
@@ -87,15 +87,14 @@ fn is_typed_next(x: &Op, y: &Op) -> bool
 
 /// Appends the list of operations, packed from the left: an insertion joins the run before it where it is that run's next
 /// one and the run has fewer than 64 characters. Takes time and memory in proportion to the operations.
-pub(crate) fn append_packed(alloc: Global, out: &mut Writer, ops: &[Op]) -> Result<(), AllocError>
-    ensures before { out.new.before ≡ out.old.before }
-    ensures tokens { OnOk result (out.new.tokens ≡ out.old.tokens ++ tokens_of (array (each_data item_data (packed_items ops.now)))) }
+pub(crate) fn push_packed(alloc: Global, out: &mut Vec<u8>, ops: &[Op]) -> Result<(), AllocError>
+    ensures text { OnOk result (out.new.items ≡ out.old.items ++ packed_text ops.now) }
     ensures in_range { OnOk result (AllByRecursion IsOperationInRange ops.now) }
 {
-    out.begin_array()?;
     let [first, rest @ ..] = ops else {
-        return out.end_array();
+        return out.extend_from_slice(b"[]");
     };
+    out.push(b'[')?;
     check_op(first);
     let mut item = Item::new(alloc, *first);
     for op in rest {
@@ -103,12 +102,25 @@ pub(crate) fn append_packed(alloc: Global, out: &mut Writer, ops: &[Op]) -> Resu
         if item.is_joined_by(op) {
             item.push(op)?;
         } else {
-            append_item(alloc, out, &item)?;
+            push_item(out, &item)?;
+            out.push(b',')?;
             item = Item::new(alloc, *op);
         }
     }
-    append_item(alloc, out, &item)?;
-    out.end_array()
+    push_item(out, &item)?;
+    out.push(b']')?;
+    Ok(())
+}
+
+fn push_item(out: &mut Vec<u8>, item: &Item) -> Result<(), AllocError>
+    ensures { OnOk result (out.new.items ≡ out.old.items ++ item_text item.now) }
+{
+    let first = &item.first;
+    match (first.kind(), item.more.as_slice()) {
+        (OpKind::Ins { parent, ch }, []) => push_typed(out, b'i', first, parent, ch, &[]),
+        (OpKind::Ins { parent, ch }, more) => push_typed(out, b'r', first, parent, ch, more),
+        (OpKind::Del { target }, _) => push_deletion(out, first, target),
+    }
 }
 
 /// The one text of an item: of an operation, as `write_op` has it, or of a run. Refused with `Memory`. Takes time and memory

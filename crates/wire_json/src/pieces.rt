@@ -1,12 +1,15 @@
-//! The texts of what most requests get: an `ok`, edits or outcomes. Each is put from its end into a few bytes, and copied once.
+//! The texts of what most requests get: an `ok`, edits, operations or outcomes. Each is put from its end into a few bytes, and copied once.
 ghost use Rattle.std.specs.Prelude.{◌≡◌, ◌++◌, map, IfOk, OnOk, string_bytes};
 ghost use Rattle.std.specs.List.{AllByRecursion};
 ghost use Rattle.room.specs.declared.reply.Reply.TheVariants as replies;
-ghost use Rattle.wire_json.specs.Text.{IsEditInRange, IsOutcomeInRange, edit_text, outcome_text, in_brackets, more, text};
+ghost use Rattle.wire_json.specs.Text.{IsEditInRange, IsOperationInRange, IsOutcomeInRange};
+ghost use Rattle.wire_json.specs.Text.{edit_text, outcome_text, in_brackets, more, text};
 
 use crate::byte_writing::{put, put_all, put_number};
 use crate::edit_bytes::push_edit;
 use crate::outcome_bytes::push_outcome;
+use crate::packing::push_packed;
+use causal_clock::Op;
 use opid::Edit;
 use room::Outcome;
 use std::alloc::{AllocError, Global};
@@ -68,6 +71,29 @@ pub(crate) fn put_text(
     out.extend_from_slice(b"{\"os\":")?;
     push_outcomes(&mut out, outcomes)?;
     out.extend_from_slice(b",\"r\":\"put\"}")?;
+    match String::from_utf8(out) {
+        Ok(text) => Ok(text),
+        Err(_) => unreachable!(),
+    }
+}
+
+/// The text of operations from a place of the log on, in memory for so many bytes at first, and for the line feed that may come
+/// behind it.
+pub(crate) fn ops_text(
+    alloc: Global,
+    len: usize,
+    from: u32,
+    ops: &[Op],
+) -> Result<String, AllocError>
+    ensures text { IfOk result (λ s. string_bytes s ≡ text (replies.Ops from ops.now)) }
+    ensures in_range { OnOk result (AllByRecursion IsOperationInRange ops.now) }
+{
+    let mut out = Vec::with_capacity(alloc, len.saturating_add(1))?;
+    out.extend_from_slice(b"{\"from\":")?;
+    out.extend_from_slice(itoa::Buffer::new().format(from).as_bytes())?;
+    out.extend_from_slice(b",\"ops\":")?;
+    push_packed(alloc, &mut out, ops)?;
+    out.extend_from_slice(b",\"r\":\"ops\"}")?;
     match String::from_utf8(out) {
         Ok(text) => Ok(text),
         Err(_) => unreachable!(),

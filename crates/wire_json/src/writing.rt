@@ -1,15 +1,12 @@
 //! Writing a reply.
 ghost use Rattle.std.specs.Prelude.{◌≡◌, ◌++◌, Ok, IfOk, IfErr, OnOk, string_bytes};
-ghost use Rattle.std.specs.List.{AllByRecursion};
 ghost use Rattle.opid.specs.declared.refusal.Refusal.TheVariants.{Memory};
-ghost use Rattle.wire_json.specs.Text.{IsInRange, IsOperationInRange, text};
-ghost use Rattle.wire_json.specs.Written.{tokens_of, joined_data, left_data, part_data};
+ghost use Rattle.wire_json.specs.Text.{IsInRange, text};
+ghost use Rattle.wire_json.specs.Written.{tokens_of, joined_data, left_data};
 ghost use Rattle.wire_json.specs.Written.{text_data, no_data, data_of, IsByTokens};
 
-use crate::packing::append_packed;
-use crate::pieces::{edits_text, ok_text, put_text};
+use crate::pieces::{edits_text, ok_text, ops_text, put_text};
 use crate::tokens::{append_number, append_text, text_of, writer};
-use causal_clock::Op;
 use json::Writer;
 use opid::Refusal;
 use room::Reply;
@@ -28,12 +25,11 @@ pub fn write_reply(alloc: Global, reply: &Reply) -> Result<String, Refusal>
     match reply {
         Reply::Ok { from, to } => written(ok_text(alloc, len, *from, *to)),
         Reply::Edits { from, es } => written(edits_text(alloc, len, *from, es.as_slice())),
+        Reply::Ops { from, ops } => written(ops_text(alloc, len, *from, ops.as_slice())),
         Reply::Put(outcomes) => written(put_text(alloc, len, outcomes.as_slice())),
-        Reply::Joined { .. }
-        | Reply::Left
-        | Reply::Ops { .. }
-        | Reply::Text { .. }
-        | Reply::No(_) => written(text_by_tokens(alloc, len, reply)),
+        Reply::Joined { .. } | Reply::Left | Reply::Text { .. } | Reply::No(_) => {
+            written(text_by_tokens(alloc, len, reply))
+        }
     }
 }
 
@@ -57,7 +53,7 @@ fn text_by_tokens(alloc: Global, len: usize, reply: &Reply) -> Result<String, Al
     ensures in_range { OnOk result (IsInRange reply.now) }
 {
     let mut out = writer(alloc, len)?;
-    append_reply(alloc, &mut out, reply)?;
+    append_reply(&mut out, reply)?;
     Ok(text_of(out))
 }
 
@@ -73,7 +69,7 @@ fn likely_len(reply: &Reply) -> usize {
     more.saturating_add(63)
 }
 
-fn append_reply(alloc: Global, out: &mut Writer, reply: &Reply) -> Result<(), AllocError>
+fn append_reply(out: &mut Writer, reply: &Reply) -> Result<(), AllocError>
     requires { IsByTokens reply.now }
     ensures before { out.new.before ≡ out.old.before }
     ensures tokens { OnOk result (out.new.tokens ≡ out.old.tokens ++ tokens_of (data_of reply.now)) }
@@ -82,10 +78,10 @@ fn append_reply(alloc: Global, out: &mut Writer, reply: &Reply) -> Result<(), Al
     match reply {
         Reply::Joined { s, v, x } => append_joined(out, *s, *v, x.as_str()),
         Reply::Left => append_left(out),
-        Reply::Ops { from, ops } => append_part(alloc, out, *from, ops.as_slice()),
         Reply::Text { v, x } => append_whole_text(out, *v, x.as_str()),
         Reply::No(why) => append_refusal(out, *why),
-        Reply::Ok { .. } | Reply::Edits { .. } | Reply::Put(_) => unreachable!(),
+        Reply::Ok { .. } | Reply::Edits { .. } | Reply::Ops { .. } | Reply::Put(_) =>
+            unreachable!(),
     }
 }
 
@@ -98,19 +94,6 @@ fn append_joined(out: &mut Writer, s: u32, v: u32, x: &str) -> Result<(), AllocE
     append_number(out, "s", s)?;
     append_number(out, "v", v)?;
     append_text(out, "x", x)?;
-    out.end_object()
-}
-
-fn append_part(alloc: Global, out: &mut Writer, from: u32, ops: &[Op]) -> Result<(), AllocError>
-    ensures before { out.new.before ≡ out.old.before }
-    ensures tokens { OnOk result (out.new.tokens ≡ out.old.tokens ++ tokens_of (part_data from ops.now)) }
-    ensures in_range { OnOk result (AllByRecursion IsOperationInRange ops.now) }
-{
-    out.begin_object()?;
-    append_number(out, "from", from)?;
-    out.key("ops")?;
-    append_packed(alloc, out, ops)?;
-    append_text(out, "r", "ops")?;
     out.end_object()
 }
 

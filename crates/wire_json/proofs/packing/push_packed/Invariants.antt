@@ -1,0 +1,12 @@
+-- What is written, and what the item becomes with the rest, is all; the operations so far are within their ranges.
+use Rattle.std.proofs.Common.{◌≡◌, ◌++◌, ◌∷◌, [], take, drop}
+use Rattle.std.specs.List.{AllByRecursion}
+use Rattle.wire_json.specs.Text.{IsOperationInRange, packed_text}
+use Rattle.wire_json.proofs.PutItems.{listed}
+use Rattle.wire_json.proofs.packing.push_packed.Given as goal
+
+abbrev pub invariant-loop-op : goal.invariant-loop-op
+invariant-loop-op l = record {
+  text : l.out.items ++ (listed l.item (drop l.op-index l.rest) ++ 93 ∷ []) ≡ l.fn.out.items ++ packed_text l.ops;
+  in_range : AllByRecursion IsOperationInRange (take l.op-index l.rest);
+}
