@@ -278,13 +278,30 @@ impl VersionTree {
         ensures at_most { self.new.nodes ≤ self.old.nodes + 40 }
         ensures room { self.new.room + 1 ≡ self.old.room }
     {
+        let _rank = self.hide_ranked(elem);
+    }
+
+    /// The same, and tells how many shown elements stand before it, and how many units these have, as `ranks` would before. Costs
+    /// what `hide` costs.
+    pub fn hide_ranked(&mut self, elem: u32) -> Size
+        requires room { 1 ≤ self.old.room }
+        requires shown { Shows elem (newest_list self.old) }
+        ensures lists { self.new.lists ≡ self.old.lists ++ hidden elem (newest_list self.old) ∷ [] }
+        ensures nodes { self.new.nodes ≤ self.old.nodes + (2 * digits (length (newest_list self.new)) + 4) }
+        ensures at_most { self.new.nodes ≤ self.old.nodes + 40 }
+        ensures room { self.new.room + 1 ≡ self.old.room }
+        ensures shown { result.shown ≡ length (visible (entries_before elem (newest_list self.old))) }
+        ensures units { result.units ≡ length (units (entries_before elem (newest_list self.old))) }
+        ensures few { (result.shown ≤ 131072) × (result.units ≤ 2 * 131072) }
+    {
         let root = last_root(self.roots.as_slice());
-        let (top, less) = hide(&mut self.nodes, self.table.as_slice(), root.link, elem);
+        let hidden = hide(&mut self.nodes, self.table.as_slice(), root.link, elem);
         self.room -= 1;
         self.roots.push_reserved(PackedRoot::new(Root {
-            link: Some(top),
-            size: root.size.minus(less),
+            link: Some(hidden.top),
+            size: root.size.minus(hidden.less),
         }));
+        hidden.rank
     }
 
     /// Adds a version with the newest list again. Constant time.
