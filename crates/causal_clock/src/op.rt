@@ -1,20 +1,22 @@
 //! Operations: what a site did, with the clock that tells what it knew (Roh and others 2011).
-ghost use Rattle.std.specs.Prelude.{◌≡◌, ◌↔◌, ◌<◌, IsOk, IfOk, IfErr};
+ghost use Rattle.std.specs.Prelude.{◌≡◌, ◌↔◌, ◌<◌, ◌+◌, sum, IsOk, IfOk, IfErr};
 ghost use Rattle.opid.specs.declared.refusal.Refusal.TheVariants.{BadClock};
-ghost use Rattle.opid.specs.Clocks.{entry};
+ghost use Rattle.opid.specs.Clocks.{entry, raised};
 ghost use Rattle.opid.specs.Operations.{stamp_of, number_of};
 ghost use Rattle.causal_clock.specs.Kinds.{IsOperation};
 
-use crate::clock::Clock;
+use crate::clock::{Clock, MAX_SUM};
 use opid::{OpKind, Refusal, Site, Stamp};
+use std::fmt;
 use std::marker::Model;
 
 /// An operation of a site. Its clock counts it: the own entry is at least 1.
-#[derive(Clone, Copy, Debug, PartialEq, Eq)]
+#[derive(Clone, Copy, PartialEq, Eq)]
 pub struct Op {
-    site: Site,
+    // The site stands last: where it is first, a clock that is put behind it is copied with the three bytes between, from odd places.
     clock: Clock,
     kind: OpKind,
+    site: Site,
 }
 
 impl Model for Op {
@@ -30,6 +32,16 @@ impl Model for Op {
     ghost inverse = { λ x. record { site = x.site; clock = x.clock; kind = x.kind } };
 }
 
+impl fmt::Debug for Op {
+    fn fmt<W: fmt::Write>(&self, f: &mut fmt::Formatter<W>) -> fmt::Result {
+        f.debug_struct("Op")
+            .field("site", &self.site)
+            .field("clock", &self.clock)
+            .field("kind", &self.kind)
+            .finish()
+    }
+}
+
 impl Op {
     /// An operation of the site with this clock. Refused with `BadClock` exactly where the clock doesn't count it.
     /// Copies 32 counts.
@@ -42,7 +54,28 @@ impl Op {
         if known.entry(site) == 0 {
             return Err(Refusal::BadClock);
         }
-        Ok(Op { site, clock, kind })
+        Ok(Op { clock, kind, site })
+    }
+
+    /// The site's next operation after those that a clock counts. Copies 32 counts.
+    pub fn next(site: Site, known: &Clock, kind: OpKind) -> Op
+        requires { sum known.now < MAX_SUM }
+        ensures value { result ≡ record { site = site; clock = raised known.now site; kind = kind } }
+        ensures total { sum result.clock ≡ sum known.now + 1 }
+    {
+        let mut clock = *known;
+        clock.raise(site);
+        prove!(site.number() < 32);
+        prove!(clock.entry(site) > 0);
+        Op { clock, kind, site }
+    }
+
+    /// The operation of a site with this clock, which counts it.
+    pub(crate) fn told(site: Site, clock: Clock, kind: OpKind) -> Op
+        requires { IsOperation (record { site = site; clock = clock; kind = kind }) }
+        ensures { result ≡ record { site = site; clock = clock; kind = kind } }
+    {
+        Op { clock, kind, site }
     }
 
     /// The site that made it. Constant time.
@@ -61,8 +94,8 @@ impl Op {
         self.clock
     }
 
-    /// Its clock, where it is only looked at.
-    pub(crate) fn known(&self) -> &Clock
+    /// Its clock, where it is only looked at. Constant time.
+    pub fn known(&self) -> &Clock
         ensures value { result.now ≡ self.now.clock }
         ensures kept { IsOperation self.now }
     {

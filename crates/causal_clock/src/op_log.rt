@@ -284,10 +284,7 @@ pub(crate) fn told_by(row: &Row, counts: [u32; SITES]) -> Op
     requires { IsOperation (record { site = row.now.site; clock = counts; kind = row.now.kind }) }
     ensures { result ≡ record { site = row.now.site; clock = counts; kind = row.now.kind } }
 {
-    match Op::new(row.site, Clock::of_counts(counts), row.kind.kind()) {
-        Ok(op) => op,
-        Err(_) => unreachable!(),
-    }
+    Op::told(row.site, Clock::of_counts(counts), row.kind.kind())
 }
 
 /// Which entries are stored, a bit for each site from the lowest on: all are, or those that differ from the ones before. All counts

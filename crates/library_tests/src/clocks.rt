@@ -63,6 +63,14 @@ fn pairs_that_tell_a_clock(rt: HostRuntime) -> Result<(), Fail> {
     Ok(())
 }
 
+/// The insertion that a site makes next where a clock is known, where there may be more.
+fn next(site: Site, known: &Clock) -> Result<Op, Refusal> {
+    if known.sum() >= 131_072 {
+        return Err(Refusal::Full);
+    }
+    Ok(Op::next(site, known, TYPED))
+}
+
 /// The first operation of site 0, and that of site 1 which knows of it.
 fn become_ready_in_turn(zero: Site, one: Site) -> Result<bool, Refusal> {
     let empty = Clock::zero();
@@ -72,6 +80,7 @@ fn become_ready_in_turn(zero: Site, one: Site) -> Result<bool, Refusal> {
     all &= empty.ready(&first) && !empty.ready(&second);
     all &= first.clock().ready(&second) && !first.clock().ready(&first);
     all &= second.stamp().sum == 2 && second.number() == (one, 1);
+    all &= next(one, first.known())? == second && *second.known() == second.clock();
     all &= first == first && first != second;
     Ok(all && first.kind() == TYPED && second.site() == one)
 }
@@ -79,6 +88,25 @@ fn become_ready_in_turn(zero: Site, one: Site) -> Result<bool, Refusal> {
 #[test]
 fn an_operation_is_ready_after_its_past(rt: HostRuntime) -> Result<(), Fail> {
     assert!(rt; become_ready_in_turn(site(0)?, site(1)?)?);
+    Ok(())
+}
+
+/// Whether an operation of site 1 is printed for debugging as a derived `Debug` prints its fields: site, clock and kind.
+fn is_printed_in_order(alloc: Global) -> Result<bool, Refusal> {
+    let one = site(1)?;
+    let op = typed(one, Clock::from_pairs(&[(one, 1)])?)?;
+    let text = format!(in alloc; "{op:?}")?;
+    let zeros =
+        "0, 0, 0, 0, 0, 0, 0, 0, 0, 0, 0, 0, 0, 0, 0, 0, 0, 0, 0, 0, 0, 0, 0, 0, 0, 0, 0, 0, 0, 0";
+    let wanted = format!(in alloc;
+        "Op {{ site: Site {{ number: 1 }}, clock: Clock {{ counts: [0, 1, {zeros}], total: 1 }}, kind: Ins {{ parent: None, ch: 'a' }} }}"
+    )?;
+    Ok(text == wanted)
+}
+
+#[test]
+fn an_operation_is_printed_by_its_fields(rt: HostRuntime) -> Result<(), Fail> {
+    assert!(rt; is_printed_in_order(rt.alloc())?);
     Ok(())
 }
 

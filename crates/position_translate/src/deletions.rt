@@ -7,7 +7,6 @@ ghost use Rattle.opid.specs.Lawful.{IsLawful};
 ghost use Rattle.opid.specs.Asked.{deletion_run, each_once, asked_deletions, asked_deletions_in};
 ghost use Rattle.position_translate.specs.Causes.{deletion_refusal, deletion_refusal_in, element_count};
 
-use crate::next::next_op;
 use crate::places::{is_inside, len_at, stamp_at};
 use causal_clock::{Clock, Op};
 use opid::{OpKind, Refusal, Site, is_bad_count};
@@ -149,7 +148,7 @@ fn run(
             let Some(target) = stamp_at(doc, units, version, place) else {
                 unreachable!();
             };
-            let op = next_op(&clock, site, OpKind::Del { target });
+            let op = Op::next(site, &clock, OpKind::Del { target });
             clock.raise(site);
             ops.push(op)?;
         }

@@ -7,7 +7,6 @@ ghost use Rattle.opid.specs.Lawful.{IsLawful};
 ghost use Rattle.opid.specs.Asked.{parent_in_at, insertion_run, asked_insertions, asked_insertions_in, IsPlaced, IsPlaced_in};
 ghost use Rattle.position_translate.specs.Causes.{is_bad_place, insertion_refusal, insertion_refusal_in};
 
-use crate::next::next_op;
 use crate::places::{is_inside, len_at, stamp_at};
 use causal_clock::{Clock, Op};
 use opid::{OpKind, Refusal, Site, Stamp, count_characters, is_bad_count};
@@ -137,7 +136,7 @@ fn run(
     let mut clock = clock;
     let mut parent = parent;
     for ch in text.chars() {
-        let op = next_op(&clock, site, OpKind::Ins { parent, ch });
+        let op = Op::next(site, &clock, OpKind::Ins { parent, ch });
         clock.raise(site);
         parent = Some(op.stamp());
         ops.push(op)?;

@@ -4,7 +4,6 @@
 
 mod deletions;
 mod insertions;
-mod next;
 mod places;
 
 pub use deletions::{delete_ops, delete_ops_units};

@@ -207,10 +207,6 @@ pub fn next_op(last: &Op, ch: char) -> Op
     ensures value { result ≡ typed_next last.now ch }
     ensures total { sum result.clock ≡ sum last.now.clock + 1 }
 {
-    let site = last.site();
     let parent = Some(last.stamp());
-    let Ok(op) = Op::new(site, last.clock().raised(site), OpKind::Ins { parent, ch }) else {
-        unreachable!();
-    };
-    op
+    Op::next(last.site(), last.known(), OpKind::Ins { parent, ch })
 }

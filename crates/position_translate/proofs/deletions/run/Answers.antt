@@ -7,8 +7,8 @@ use Rattle.position_translate.proofs.Asking.{stamps, deletion_more, deletion_sam
 use Rattle.position_translate.proofs.deletions.run.Goals as goal
 use Rattle.position_translate.proofs.deletions.run.Goals.{then-not-is_inside+in-Some+in_ok-push, else-not-is_inside}
 
-pub next_op-op-requires : goal.next_op-op-requires
-next_op-op-requires c =
+pub next-op-requires : goal.next-op-requires
+next-op-requires c =
     let told : is_second c.args.units (visible_in_at c.args.units c.args.doc.now.log c.args.version) c.loop-place.place
     ≡ c.is_inside.result =
     sym (c.is_inside.ensures ∙ inside_second c.args.units c.args.doc.now.log c.args.version c.loop-place.place) in
@@ -34,17 +34,17 @@ loop-place-preserved c =
             (ap (λ v. v.items) w.ops-is ∙ w.in_ok-push.ensures.items)
             ∙ deletion_more c.args.site c.loop-place.ops.items c.loop-place.clock c.if-not-is_inside.clock c.args.units
             (visible_in_at c.args.units c.args.doc.now.log c.args.version) c.loop-place.place c.args.end w.in-Some.target
-            w.next_op-op.result
+            w.next-op.result
             (deletion_run c.args.site c.args.clock (stamps c.args.units
             (visible_in_at c.args.units c.args.doc.now.log c.args.version) c.args.first c.args.end))
-            c.loop-place-test.true w.in-Some.ensures (told ∙ w.if-not-is_inside.true) w.next_op-op.ensures.value
-            (w.clock-is ∙ w.raise.ensures.value ∙ sym (ap (λ (o : Operation). o.clock) w.next_op-op.ensures.value))
+            c.loop-place-test.true w.in-Some.ensures (told ∙ w.if-not-is_inside.true) w.next-op.ensures.value
+            (w.clock-is ∙ w.raise.ensures.value ∙ sym (ap (λ (o : Operation). o.clock) w.next-op.ensures.value))
             c.loop-place.invariant.whole;
         few = omega (
           arith,
           c.loop-place.invariant.few,
-          w.next_op-op.ensures.total,
-          ap sum (w.clock-is ∙ w.raise.ensures.value ∙ sym (ap (λ (o : Operation). o.clock) w.next_op-op.ensures.value)),
+          w.next-op.ensures.total,
+          ap sum (w.clock-is ∙ w.raise.ensures.value ∙ sym (ap (λ (o : Operation). o.clock) w.next-op.ensures.value)),
           fewer c.args.units (visible_in_at c.args.units c.args.doc.now.log c.args.version) c.loop-place.place c.args.end
               c.loop-place-test.true low (told ∙ w.if-not-is_inside.true),
         );

@@ -14,8 +14,8 @@ loop-ch-init c = record {
   few = c.requires;
 }
 
-pub next_op-op-requires : goal.next_op-op-requires
-next_op-op-requires c =
+pub next-op-requires : goal.next-op-requires
+next-op-requires c =
     let t = YieldsList-turn (YieldsList-from_chars c.args.text.now c.utf8.text cc) c.loop-ch.yielded _ c.loop-ch.yielded_by _ _ c.in-Some.ch
     c.in-Some.is c.next.ensures.steps in
     omega (arith, t.0, c.loop-ch.invariant.few)
@@ -28,20 +28,20 @@ loop-ch-preserved c =
       whole =
           ap (λ ops. ops ++ insertion_run c.args.site c.raise.new.self (Some c.stamp.result)
           (drop (length (c.loop-ch.yielded ++ c.in-Some.ch ∷ [])) (chars c.args.text.now))) c.in_ok-push.ensures.items
-          ∙ ap (λ n. (c.loop-ch.ops.items ++ c.next_op-op.result ∷ [])
+          ∙ ap (λ n. (c.loop-ch.ops.items ++ c.next-op.result ∷ [])
           ++ insertion_run c.args.site c.raise.new.self (Some c.stamp.result) (drop n (chars c.args.text.now)))
           (length_push c.loop-ch.yielded c.in-Some.ch)
           ∙ insertion_more c.args.site c.loop-ch.ops.items c.loop-ch.clock c.raise.new.self c.loop-ch.parent (Some c.stamp.result)
-          (chars c.args.text.now) (length c.loop-ch.yielded) c.in-Some.ch c.next_op-op.result
+          (chars c.args.text.now) (length c.loop-ch.yielded) c.in-Some.ch c.next-op.result
           (insertion_run c.args.site c.args.clock c.args.parent (chars c.args.text.now))
-          t.0 t.1 c.next_op-op.ensures.value
-          (c.raise.ensures.value ∙ sym (ap (λ (o : Operation). o.clock) c.next_op-op.ensures.value))
+          t.0 t.1 c.next-op.ensures.value
+          (c.raise.ensures.value ∙ sym (ap (λ (o : Operation). o.clock) c.next-op.ensures.value))
           (ap Some c.stamp.ensures) c.loop-ch.invariant.whole;
       few = omega (
         arith,
         c.loop-ch.invariant.few,
-        c.next_op-op.ensures.total,
-        ap sum (c.raise.ensures.value ∙ sym (ap (λ (o : Operation). o.clock) c.next_op-op.ensures.value)),
+        c.next-op.ensures.total,
+        ap sum (c.raise.ensures.value ∙ sym (ap (λ (o : Operation). o.clock) c.next-op.ensures.value)),
         length_push c.loop-ch.yielded c.in-Some.ch,
       );
     }
