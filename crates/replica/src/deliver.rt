@@ -79,35 +79,34 @@ pub(crate) fn deliver(
     log: &mut Log,
     held: &mut Held,
     room: usize,
-    op: Op,
+    op: &Op,
 ) -> Result<Delivery, Refusal>
     requires { AreReserved room log.old held.old }
-    ensures delivered { IfOk result (λ d. deliver site log.old.log held.old.ops op
+    ensures delivered { IfOk result (λ d. deliver site log.old.log held.old.ops op.now
         ≡ record { outcome = Ok d; log = log.new.log; held = held.new.ops }) }
-    ensures cause { IfErr result (λ e. ((deliver site log.old.log held.old.ops op).outcome ≡ Err e)
+    ensures cause { IfErr result (λ e. ((deliver site log.old.log held.old.ops op.now).outcome ≡ Err e)
         ⊎ ((e ≡ Memory) × (room ≤ length held.old.ops))) }
     ensures err { OnErr result ((log.new.log ≡ log.old.log) × (held.new ≡ held.old)) }
     ensures less_room { IfOk result (λ d. AreReserved (room - taken_by d) log.new held.new) }
     ensures same_room { OnErr result (AreReserved room log.new held.new) }
     ensures lawful { IsLawful log.new.log }
 {
-    let offered = &op;
-    if claims_site(site, log, offered) {
+    if claims_site(site, log, op) {
         return Err(Refusal::OwnSite);
     }
-    if look(log, offered)? {
+    if look(log, op)? {
         return Ok(Delivery::Again);
     }
-    if !log.doc().known().ready(offered) {
-        return match held.offer(op)? {
+    if !log.doc().known().ready(op) {
+        return match held.offer(*op)? {
             Arrival::Kept => Ok(Delivery::Kept),
             Arrival::Again => Ok(Delivery::Again),
         };
     }
-    if held.look(offered)? {
+    if held.look(op)? {
         return Ok(Delivery::Again);
     }
-    let tally = integrate(log, held, room, offered)?;
+    let tally = integrate(log, held, room, op)?;
     Ok(Delivery::Took {
         taken: tally.taken,
         dropped: tally.dropped,

@@ -221,7 +221,7 @@ impl Replica {
     /// last operation, `UnknownElement` where its parent or target is no element, `NotOlder` where its parent's stamp
     /// isn't smaller. `Memory` may come in place of an answer, but only where the room isn't above what is held.
     ///
-    /// `OwnSite` takes constant time. Where the number is in the log it takes the steps of `Doc::op`, which reads up to 64 rows.
+    /// `OwnSite` takes constant time. Where the number is in the log it takes the steps of `Doc::op`, which reads up to 8 rows.
     /// Else it takes one pass over what is held, to look for the number. An integration takes the steps of `Doc::integrate`
     /// besides, and settling takes one pass over what is held and those steps for each operation that leaves it, and at most one
     /// pass more. A pass takes at most 32 steps for each operation that is held.
@@ -235,6 +235,26 @@ impl Replica {
 
         // Each cause, and only then; on a refusal all is as before.
         ensures cause { IfErr result (λ e. ((deliver self.old.site self.old.log self.old.held op).outcome ≡ Err e)
+            ⊎ ((e ≡ Memory) × (self.old.room ≤ length self.old.held))) }
+        ensures err { OnErr result (self.new ≡ self.old) }
+
+        // Whatever is handed over.
+        ensures lawful { IsLawful self.new.log }
+    {
+        self.put_copy(&op)
+    }
+
+    /// Takes in an operation as `put` does, where the caller keeps it: it is copied only where it is held back.
+    pub fn put_copy(&mut self, op: &Op) -> Result<Delivery, Refusal>
+        ensures outcome { IfOk result (λ d. (deliver self.old.site self.old.log self.old.held op.now).outcome ≡ Ok d) }
+        ensures next { IfOk result (λ d. self.new ≡ record self.old {
+          log = (deliver self.old.site self.old.log self.old.held op.now).log;
+          held = (deliver self.old.site self.old.log self.old.held op.now).held;
+          room = self.old.room - taken_by d;
+        }) }
+
+        // Each cause, and only then; on a refusal all is as before.
+        ensures cause { IfErr result (λ e. ((deliver self.old.site self.old.log self.old.held op.now).outcome ≡ Err e)
             ⊎ ((e ≡ Memory) × (self.old.room ≤ length self.old.held))) }
         ensures err { OnErr result (self.new ≡ self.old) }
 

@@ -318,7 +318,7 @@ fn hand_over(replica: &mut Replica, ops: &[Op], outcomes: &mut Vec<Outcome>)
     ensures { IsHandedOver replica.old ops.now outcomes.new.items replica.new }
 {
     for op in ops {
-        let outcome = Outcome::of(replica.put(*op));
+        let outcome = Outcome::of(replica.put_copy(op));
         outcomes.push_reserved(outcome);
     }
 }

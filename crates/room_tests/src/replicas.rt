@@ -36,7 +36,7 @@ fn submissions_of_both_counts(rt: HostRuntime) -> Result<(), Fail> {
     Ok(())
 }
 
-/// What comes before its past waits, within what was reserved, and is taken with it.
+/// What comes before its past waits, within what was reserved, and is taken with it; and so is what is lent.
 fn delivers(_alloc: Global, replica: &mut Replica) -> Result<bool, Refusal> {
     let first = operation(1, 0, 1, at_head('a'))?;
     let second = operation(1, 0, 2, behind(stamp(1, 1)?, 'b'))?;
@@ -51,7 +51,15 @@ fn delivers(_alloc: Global, replica: &mut Replica) -> Result<bool, Refusal> {
     all &= replica.put(second)? == Delivery::Again;
     all &= replica.put(operation(1, 0, 1, at_head('z'))?).err() == Some(Refusal::Conflict);
     all &= replica.held() == 0;
-    Ok(all && tells(replica, 0, first, second)? && reads(replica, "ab")?)
+    all &= tells(replica, 0, first, second)? && reads(replica, "ab")?;
+    replica.reserve(1)?;
+    let third = operation(1, 0, 3, behind(stamp(2, 1)?, 'c'))?;
+    let one = Delivery::Took {
+        taken: 1,
+        dropped: 0,
+    };
+    all &= replica.put_copy(&third)? == one && replica.put_copy(&third)? == Delivery::Again;
+    Ok(all && tells(replica, 1, second, third)? && reads(replica, "abc")?)
 }
 
 #[test]

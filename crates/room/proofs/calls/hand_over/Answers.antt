@@ -7,14 +7,15 @@ pub loop-op-preserved : goal.loop-op-preserved
 loop-op-preserved c =
     let left = length-drop c.loop-op.op-index c.args.ops.now in
     let later = length-drop (c.loop-op.op-index + 1) c.args.ops.now in
-    let d = delivers c.loop-op.replica c.put.new.self c.op-item.result c.put.result c.put.ensures.outcome c.put.ensures.next
-    c.put.ensures.cause c.put.ensures.err (omega (arith, c.loop-op.invariant.room, left, c.loop-op-test.true)) in
+    let d = delivers c.loop-op.replica c.put_copy.new.self c.op-item.result c.put_copy.result c.put_copy.ensures.outcome
+    c.put_copy.ensures.next c.put_copy.ensures.cause c.put_copy.ensures.err
+    (omega (arith, c.loop-op.invariant.room, left, c.loop-op-test.true)) in
     record {
       site = d.site ∙ c.loop-op.invariant.site;
       handed =
-          handed_on c.loop-op.replica c.put.new.self c.args.ops.now c.loop-op.op-index c.op-item.result c.put.result
+          handed_on c.loop-op.replica c.put_copy.new.self c.args.ops.now c.loop-op.op-index c.op-item.result c.put_copy.result
           c.loop-op.outcomes.items c.push_reserved.new.self.items c.of-outcome.result _ c.loop-op-test.true
-          (subst (λ x. Delivers c.loop-op.replica c.put.new.self x c.put.result) c.op-item.is d) c.of-outcome.ensures
+          (subst (λ x. Delivers c.loop-op.replica c.put_copy.new.self x c.put_copy.result) c.op-item.is d) c.of-outcome.ensures
           c.push_reserved.ensures.items c.loop-op.invariant.handed;
       room = d.room (length (drop (c.loop-op.op-index + 1) c.args.ops.now))
           (omega (arith, c.loop-op.invariant.room, left, later, c.loop-op-test.true));
