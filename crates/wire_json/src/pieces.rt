@@ -9,6 +9,7 @@ use crate::byte_writing::{put, put_all, put_number};
 use crate::edit_bytes::push_edit;
 use crate::outcome_bytes::push_outcome;
 use crate::packing::push_packed;
+use crate::tokens::text_of_bytes;
 use causal_clock::Op;
 use opid::Edit;
 use room::Outcome;
@@ -29,10 +30,7 @@ pub(crate) fn ok_text(alloc: Global, len: usize, from: u32, to: u32) -> Result<S
     let at = put_all(&mut bytes, at, b"{\"from\":");
     let mut out = Vec::with_capacity(alloc, len.saturating_add(1))?;
     out.extend_from_slice(&bytes[at..])?;
-    match String::from_utf8(out) {
-        Ok(text) => Ok(text),
-        Err(_) => unreachable!(),
-    }
+    Ok(text_of_bytes(out))
 }
 
 /// The text of edits from a version on, in memory for so many bytes at first, and for the line feed that may come behind it.
@@ -51,10 +49,7 @@ pub(crate) fn edits_text(
     out.extend_from_slice(b",\"from\":")?;
     out.extend_from_slice(itoa::Buffer::new().format(from).as_bytes())?;
     out.extend_from_slice(b",\"r\":\"edits\"}")?;
-    match String::from_utf8(out) {
-        Ok(text) => Ok(text),
-        Err(_) => unreachable!(),
-    }
+    Ok(text_of_bytes(out))
 }
 
 /// The text of what became of the operations of a `put`, in memory for so many bytes at first, and for the line feed that may come
@@ -71,10 +66,7 @@ pub(crate) fn put_text(
     out.extend_from_slice(b"{\"os\":")?;
     push_outcomes(&mut out, outcomes)?;
     out.extend_from_slice(b",\"r\":\"put\"}")?;
-    match String::from_utf8(out) {
-        Ok(text) => Ok(text),
-        Err(_) => unreachable!(),
-    }
+    Ok(text_of_bytes(out))
 }
 
 /// The text of operations from a place of the log on, in memory for so many bytes at first, and for the line feed that may come
@@ -94,10 +86,7 @@ pub(crate) fn ops_text(
     out.extend_from_slice(b",\"ops\":")?;
     push_packed(alloc, &mut out, ops)?;
     out.extend_from_slice(b",\"r\":\"ops\"}")?;
-    match String::from_utf8(out) {
-        Ok(text) => Ok(text),
-        Err(_) => unreachable!(),
-    }
+    Ok(text_of_bytes(out))
 }
 
 fn push_edits(out: &mut Vec<u8>, es: &[Edit]) -> Result<(), AllocError>

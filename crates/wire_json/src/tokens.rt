@@ -1,5 +1,6 @@
 //! Writing JSON token by token into one buffer.
 ghost use Rattle.std.specs.Prelude.{◌≡◌, [], ◌∷◌, ◌++◌, decimal, IfOk, OnOk, string_bytes};
+ghost use Rattle.std.specs.Str.{IsUtf8};
 ghost use Rattle.json.specs.Token.{key, string, number};
 ghost use Rattle.json.specs.Print.{print};
 
@@ -20,8 +21,16 @@ pub(crate) fn text_of(out: Writer) -> String
     requires { out.before ≡ [] }
     ensures { string_bytes result ≡ print out.tokens }
 {
-    let bytes = out.into_inner();
     // What a writer has printed is UTF-8, by its `into_inner`.
+    text_of_bytes(out.into_inner())
+}
+
+/// The text of these bytes, which are UTF-8. Constant time: none of them is looked at.
+pub(crate) fn text_of_bytes(bytes: Vec<u8>) -> String
+    requires { IsUtf8 bytes.items }
+    ensures { string_bytes result ≡ bytes.items }
+{
+    // They are UTF-8, by the `requires`.
     unsafe { String::from_utf8_unchecked(bytes) }
 }
 

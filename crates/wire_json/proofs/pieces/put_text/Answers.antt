@@ -1,4 +1,4 @@
-use Rattle.std.proofs.Common.{◌≡◌, ◌∙◌, ◌++◌, List, ℕ, IsUtf8, false, true, map, codes, sym, ap, subst, arith}
+use Rattle.std.proofs.Common.{◌≡◌, ◌∙◌, ◌++◌, List, ℕ, IsUtf8, map, codes, sym, ap, subst, arith}
 use Rattle.std.proofs.lemmas.Grind.{common_steps}
 use Rattle.room.specs.declared.reply.Reply.TheVariants.{Put}
 use Rattle.wire_json.specs.Text.{in_brackets, outcome_text, text}
@@ -9,13 +9,10 @@ joined : (first mid new list : List ℕ) → first ≡ codes "{\"os\":" → mid 
     → new ≡ codes "{\"os\":" ++ list ++ codes ",\"r\":\"put\"}"
 joined first mid new list e f g = g ∙ ap (λ l. l ++ codes ",\"r\":\"put\"}") (f ∙ ap (λ l. l ++ list) e)
 
-pub unreachable-requires : goal.unreachable-requires
-unreachable-requires c =
+pub text_of_bytes-requires : goal.text_of_bytes-requires
+text_of_bytes-requires c =
     let list : List ℕ = in_brackets (map outcome_text c.args.outcomes.now) in
     let items : c.extend_from_slice-2.new.self.items ≡ text (Put c.args.outcomes.now) =
     joined c.extend_from_slice.new.self.items c.push_outcomes.new.out.items c.extend_from_slice-2.new.self.items list
     (grind (arith, common_steps)) (grind (arith, common_steps)) c.in_ok-extend_from_slice-2.ensures.items in
-    let fails : false ≡ true =
-    c.in-Err.ensures.succeeds
-    (subst IsUtf8 (sym items) (outcomes_utf8 c.args.outcomes.now c.in_ok-push_outcomes.ensures.in_range)) in
-    cc
+    subst IsUtf8 (sym items) (outcomes_utf8 c.args.outcomes.now c.in_ok-push_outcomes.ensures.in_range)
