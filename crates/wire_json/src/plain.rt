@@ -80,15 +80,19 @@ fn is_space(byte: u8) -> bool
     byte == b' ' || byte == b'\t' || byte == b'\n' || byte == b'\r'
 }
 
-// Behind the spaces from a place on. Mostly there are none: then just one byte is compared.
+// Behind the spaces from a place on. Mostly there are none, and then just one byte is compared, or there is one blank, and then two are.
 #[inline(always)]
 fn behind_spaces(bytes: &[u8], at: usize) -> usize
     requires { at ≤ length bytes.now }
     ensures same { lex between (drop result bytes.now) ≡ lex between (drop at bytes.now) }
     ensures within { result ≤ length bytes.now }
 {
-    if peek(bytes, at) > b' ' {
+    let next = peek(bytes, at);
+    if next > b' ' {
         return at;
+    }
+    if next == b' ' && peek(bytes, at + 1) > b' ' {
+        return at + 1;
     }
     behind_each_space(bytes, at)
 }
