@@ -94,7 +94,7 @@ impl Op {
         self.clock
     }
 
-    /// Its clock, where it is only looked at. Constant time.
+    /// Its clock, where it is only looked at: nothing is copied. Constant time.
     pub fn known(&self) -> &Clock
         ensures value { result.now ≡ self.now.clock }
         ensures kept { IsOperation self.now }

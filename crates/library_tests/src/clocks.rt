@@ -71,6 +71,24 @@ fn next(site: Site, known: &Clock) -> Result<Op, Refusal> {
     Ok(Op::next(site, known, TYPED))
 }
 
+/// Whether the second clock is the first one raised at the last site, and neither another one nor raised elsewhere.
+fn is_raised_at_the_last(zero: Site, last: Site) -> Result<bool, Refusal> {
+    let before = Clock::from_pairs(&[(zero, 1), (last, 2)])?;
+    let after = Clock::from_pairs(&[(zero, 1), (last, 3)])?;
+    let both = Clock::from_pairs(&[(zero, 2), (last, 3)])?;
+    let mut all = before.is_raised(last, &after) && after.is_raised(zero, &both);
+    all &= !before.is_raised(zero, &after) && !before.is_raised(last, &before);
+    all &= !before.is_raised(last, &both) && !after.is_raised(last, &before);
+    let op = typed(last, after)?;
+    Ok(all && *op.known() == after && before.is_raised(last, op.known()))
+}
+
+#[test]
+fn a_clock_is_raised_at_one_site(rt: HostRuntime) -> Result<(), Fail> {
+    assert!(rt; is_raised_at_the_last(site(0)?, site(31)?)?);
+    Ok(())
+}
+
 /// The first operation of site 0, and that of site 1 which knows of it.
 fn become_ready_in_turn(zero: Site, one: Site) -> Result<bool, Refusal> {
     let empty = Clock::zero();
