@@ -1,24 +1,12 @@
 -- Which operation joins an item, and the characters of a run as one text.
-use Rattle.std.proofs.Common.{◌≡◌, ◌+◌, ◌<◌, ◌≤◌, ℕ, true, false, List, [], ◌∷◌, ◌++◌, length, take, get_or, sum}
-use Rattle.std.proofs.Common.{refl, sym, ap, ◌∙◌, append_assoc, arith}
+use Rattle.std.proofs.Common.{◌≡◌, ◌+◌, ◌<◌, ℕ, true, List, [], ◌∷◌, ◌++◌, length, take, get_or}
+use Rattle.std.proofs.Common.{refl, sym, ap, ◌∙◌, append_assoc}
 use Rattle.std.specs.Prelude.{nat_lt, encode_utf8, encode_utf8_all}
-use Rattle.std.proofs.lemmas.Bool.{false_from_ne_true, and_parts}
+use Rattle.std.proofs.lemmas.Bool.{and_parts}
 use Rattle.std.proofs.lemmas.List.{append-nil, take_more}
 use Rattle.opid.specs.Operations.{Operation}
-use Rattle.opid.proofs.Counts.{sum-raised}
-use Rattle.causal_clock.specs.Kinds.{IsOperation}
 use Rattle.wire_json.specs.Packing.{Item, typed_next, last_typed, is_typed_next, joins, inserted_character}
 use Rattle.wire_json.proofs.Packed.{is_typed_next-typed_next}
-
--- no operation follows one whose clock is at the limit
-pub not_next : (x y : Operation) → 131072 ≤ sum x.clock → IsOperation x → IsOperation y → is_typed_next x y ≡ false
-not_next x y h o p = false_from_ne_true (is_typed_next x y) (λ e. omega (
-  arith,
-  h,
-  p.limit,
-  ap (λ (z : Operation). sum z.clock) (is_typed_next-typed_next x y e),
-  sum-raised x.clock x.site (omega (arith, o.site, o.width)),
-))
 
 last_typed-push : (x : Operation) (cs : List ℕ) (c : ℕ) → last_typed x (cs ++ c ∷ []) ≡ typed_next (last_typed x cs) c
 last_typed-push x [] c = refl

@@ -1,12 +1,13 @@
 -- Items with commas between them, and characters, one after another.
 use Rattle.std.proofs.Common.{◌≡◌, ℕ, ◌+◌, ◌<◌, Bool, true, false, cond, List, [], ◌∷◌, ◌++◌, map, length, drop, get_or, refl, sym, ap, ◌∙◌}
-use Rattle.std.proofs.Common.{append_assoc}
-use Rattle.std.specs.Prelude.{encode_utf8, encode_utf8_all}
+use Rattle.std.proofs.Common.{append_assoc, ◌≤◌, ◌&&◌, lt-ltb}
+use Rattle.std.proofs.lemmas.Bool.{le-ltb}
+use Rattle.std.specs.Prelude.{nat_lt, encode_utf8, encode_utf8_all}
 use Rattle.std.proofs.lemmas.Grind.{flat_map-append}
 use Rattle.std.proofs.lemmas.List.{drop_more}
 use Rattle.json.specs.Print.{escape, escape_byte}
 use Rattle.opid.specs.Operations.{Operation}
-use Rattle.wire_json.specs.Packing.{Item, joins, alone, with_one_more, packed_behind}
+use Rattle.wire_json.specs.Packing.{Item, joins, alone, with_one_more, packed_behind, is_typed_next, last_typed}
 use Rattle.wire_json.specs.Text.{more, in_brackets, item_text}
 
 -- ---- characters
@@ -73,3 +74,28 @@ ended i j ys k y old text new all h e apart is item more_is so_far =
   where
     regrouped : (a b c : List ℕ) → (a ++ b) ++ 44 ∷ [] ++ (c ++ 93 ∷ []) ≡ a ++ ((b ++ 44 ∷ c) ++ 93 ∷ [])
     regrouped a b c = simp append_assoc
+
+-- ---- the item by its first operation, the last one so far, and its characters
+
+abbrev pub item_of : Operation → List ℕ → Item
+item_of first more = record { first = first; more = more }
+
+pub is_joined : (first last y : Operation) (more : List ℕ) → last ≡ last_typed first more → length more + 1 < 64
+    → is_typed_next last y ≡ true → joins (item_of first more) y ≡ true
+is_joined first last y more is short next =
+    ap (λ b. b && is_typed_next (last_typed first more) y) (lt-ltb (length more + 1) 64 short) ∙ ap (λ x. is_typed_next x y) (sym is) ∙ next
+
+pub is_long : (first y : Operation) (more : List ℕ) → 64 ≤ length more + 1 → joins (item_of first more) y ≡ false
+is_long first y more long = ap (λ b. b && is_typed_next (last_typed first more) y) (le-ltb (length more + 1) 64 long)
+
+pub is_apart : (first last y : Operation) (more : List ℕ) → last ≡ last_typed first more → is_typed_next last y ≡ false
+    → joins (item_of first more) y ≡ false
+is_apart first last y more is next =
+    ap (λ b. nat_lt (length more + 1) 64 && b) (ap (λ x. is_typed_next x y) (sym is) ∙ next) ∙ and_false (nat_lt (length more + 1) 64)
+  where
+    and_false : (b : Bool) → (b && false) ≡ false
+    and_false true = refl
+    and_false false = refl
+
+pub same_item : (a b : Operation) (xs ys : List ℕ) → a ≡ b → xs ≡ ys → item_of a xs ≡ item_of b ys
+same_item a b xs ys e f = rw e (rw f refl)

@@ -28,7 +28,7 @@ pub(crate) fn push_typed(
         ++ codes ",\"x\":" ++ quote (ch ∷ more.now) ++ codes "}")) }
 {
     let mut bytes = [0; MOST];
-    let at = put_typed(&mut bytes, MOST, letter, op.site(), &op.clock(), parent);
+    let at = put_typed(&mut bytes, MOST, letter, op.site(), op.known(), parent);
     out.extend_from_slice(&bytes[at..])?;
     push_quoted(out, ch, more)?;
     out.push(b'}')?;
@@ -40,7 +40,7 @@ pub(crate) fn push_deletion(out: &mut Vec<u8>, op: &Op, target: Stamp) -> Result
     ensures { OnOk result (out.new.items ≡ out.old.items ++ op_text_of op.now.site op.now.clock (kinds.Del target)) }
 {
     let mut bytes = [0; MOST];
-    let at = put_deletion(&mut bytes, MOST, op.site(), &op.clock(), target);
+    let at = put_deletion(&mut bytes, MOST, op.site(), op.known(), target);
     out.extend_from_slice(&bytes[at..])?;
     Ok(())
 }

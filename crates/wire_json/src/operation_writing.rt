@@ -37,12 +37,12 @@ pub(crate) fn append_op(out: &mut Writer, op: &Op) -> Result<(), AllocError>
     ensures tokens { OnOk result (out.new.tokens ≡ out.old.tokens ++ tokens_of (op_data op.now)) }
 {
     let site = op.site();
-    let clock = op.clock();
+    let clock = op.known();
     match op.kind() {
         OpKind::Ins { parent, ch } => {
-            append_typed(out, "i", site, &clock, parent, ch.encode_utf8(&mut [0; 4]))
+            append_typed(out, "i", site, clock, parent, ch.encode_utf8(&mut [0; 4]))
         }
-        OpKind::Del { target } => append_deletion(out, site, &clock, target),
+        OpKind::Del { target } => append_deletion(out, site, clock, target),
     }
 }
 

@@ -2,17 +2,17 @@
 ghost use Rattle.std.specs.Prelude.{◌≡◌, ◌<◌, ◌++◌, ◌∷◌, true, IfOk, IfErr, OnOk, string_bytes, encode_utf8_all};
 ghost use Rattle.std.specs.List.{AllByRecursion};
 ghost use Rattle.opid.specs.declared.refusal.Refusal.TheVariants.{Memory};
-ghost use Rattle.wire_json.specs.Packing.{joins, is_typed_next, alone, with_one_more};
+ghost use Rattle.wire_json.specs.Packing.{joins, is_typed_next, alone, with_one_more, inserted_character, is_child, is_insertion};
 ghost use Rattle.wire_json.specs.Text.{IsOperationInRange, item_text, packed_text};
 ghost use Rattle.wire_json.specs.Written.{tokens_of, item_data};
 
-use crate::items::next_op;
 use crate::op_bytes::{push_deletion, push_typed};
 use crate::operation_writing::{LIKELY_LEN, append_op, append_typed, check_op};
 use crate::tokens::{text_of, writer};
-use causal_clock::{MAX_SUM, Op};
+use arrayvec::ArrayVec;
+use causal_clock::Op;
 use json::Writer;
-use opid::{MAX_COUNT, OpKind, Refusal};
+use opid::{MAX_COUNT, OpKind, Refusal, Stamp};
 use std::alloc::{AllocError, Global};
 use std::marker::Model;
 
@@ -71,52 +71,84 @@ impl Item {
     }
 }
 
-// Whether the first is an insertion, and the second the next one after it.
+// Whether the first is an insertion, and the second the next one after it. Neither is copied.
 fn is_typed_next(x: &Op, y: &Op) -> bool
     ensures { result ≡ is_typed_next x.now y.now }
 {
-    prove!(x.site().number() < 32);
-    prove!(y.site().number() < 32);
-    match (x.kind(), y.kind()) {
-        (OpKind::Ins { parent: _, ch: _ }, OpKind::Ins { parent: _, ch }) => {
-            x.clock().sum() < MAX_SUM && *y == next_op(x, ch)
-        }
+    is_insertion(x.kind())
+        && y.site() == x.site()
+        && is_child(y.kind(), x.stamp())
+        && x.known().is_raised(x.site(), y.known())
+}
+
+// Whether it puts a character in.
+#[inline(always)]
+fn is_insertion(kind: OpKind) -> bool
+    ensures { result ≡ is_insertion kind }
+{
+    matches!(kind, OpKind::Ins { parent: _, ch: _ })
+}
+
+// Whether it puts a character in behind the element.
+#[inline(always)]
+fn is_child(kind: OpKind, of: Stamp) -> bool
+    ensures { result ≡ is_child of kind }
+{
+    match kind {
+        OpKind::Ins {
+            parent: Some(parent),
+            ch: _,
+        } => parent == of,
         _ => false,
     }
 }
 
 /// Appends the list of operations, packed from the left: an insertion joins the run before it where it is that run's next
-/// one and the run has fewer than 64 characters. Takes time and memory in proportion to the operations.
-pub(crate) fn push_packed(alloc: Global, out: &mut Vec<u8>, ops: &[Op]) -> Result<(), AllocError>
+/// one and the run has fewer than 64 characters. Takes time in proportion to the operations, and memory where the text grows.
+pub(crate) fn push_packed(out: &mut Vec<u8>, ops: &[Op]) -> Result<(), AllocError>
     ensures text { OnOk result (out.new.items ≡ out.old.items ++ packed_text ops.now) }
     ensures in_range { OnOk result (AllByRecursion IsOperationInRange ops.now) }
 {
-    let [first, rest @ ..] = ops else {
+    let [head, rest @ ..] = ops else {
         return out.extend_from_slice(b"[]");
     };
     out.push(b'[')?;
-    check_op(first);
-    let mut item = Item::new(alloc, *first);
+    check_op(head);
+    let mut first = head;
+    let mut last = head;
+    let mut more: ArrayVec<char, MAX_RUN> = ArrayVec::new();
     for op in rest {
         check_op(op);
-        if item.is_joined_by(op) {
-            item.push(op)?;
+        if more.len() + 1 < MAX_RUN && is_typed_next(last, op) {
+            more.push(character_of(op));
         } else {
-            push_item(out, &item)?;
+            push_item(out, first, more.as_slice())?;
             out.push(b',')?;
-            item = Item::new(alloc, *op);
+            first = op;
+            more.clear();
         }
+        last = op;
     }
-    push_item(out, &item)?;
+    push_item(out, first, more.as_slice())?;
     out.push(b']')?;
     Ok(())
 }
 
-fn push_item(out: &mut Vec<u8>, item: &Item) -> Result<(), AllocError>
-    ensures { OnOk result (out.new.items ≡ out.old.items ++ item_text item.now) }
+// The character that an insertion puts in.
+fn character_of(op: &Op) -> char
+    ensures { result ≡ inserted_character op.now.kind }
 {
-    let first = &item.first;
-    match (first.kind(), item.more.as_slice()) {
+    match op.kind() {
+        OpKind::Ins { parent: _, ch } => ch,
+        OpKind::Del { target: _ } => '\0',
+    }
+}
+
+// Appends an operation, or a run of an insertion and those that put in more characters behind it.
+fn push_item(out: &mut Vec<u8>, first: &Op, more: &[char]) -> Result<(), AllocError>
+    ensures { OnOk result (out.new.items ≡ out.old.items ++ item_text (record { first = first.now; more = more.now })) }
+{
+    match (first.kind(), more) {
         (OpKind::Ins { parent, ch }, []) => push_typed(out, b'i', first, parent, ch, &[]),
         (OpKind::Ins { parent, ch }, more) => push_typed(out, b'r', first, parent, ch, more),
         (OpKind::Del { target }, _) => push_deletion(out, first, target),
@@ -144,14 +176,7 @@ fn append_item(alloc: Global, out: &mut Writer, item: &Item) -> Result<(), Alloc
         more => match first.kind() {
             OpKind::Ins { parent, ch } => {
                 let text = joined(alloc, ch, more)?;
-                append_typed(
-                    out,
-                    "r",
-                    first.site(),
-                    &first.clock(),
-                    parent,
-                    text.as_str(),
-                )
+                append_typed(out, "r", first.site(), first.known(), parent, text.as_str())
             }
             OpKind::Del { target: _ } => append_op(out, first),
         },

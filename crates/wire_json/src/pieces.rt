@@ -84,7 +84,7 @@ pub(crate) fn ops_text(
     out.extend_from_slice(b"{\"from\":")?;
     out.extend_from_slice(itoa::Buffer::new().format(from).as_bytes())?;
     out.extend_from_slice(b",\"ops\":")?;
-    push_packed(alloc, &mut out, ops)?;
+    push_packed(&mut out, ops)?;
     out.extend_from_slice(b",\"r\":\"ops\"}")?;
     Ok(text_of_bytes(out))
 }
