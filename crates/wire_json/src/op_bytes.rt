@@ -1,4 +1,5 @@
-//! The texts of operations and of runs, put together from their end in some bytes on the stack, so that each is copied once.
+//! The texts of operations and of runs, put together from their end in some bytes on the stack, so that each is copied once;
+//! the characters are appended behind.
 ghost use Rattle.std.specs.Prelude.{◌≡◌, ◌+◌, ◌<◌, ◌≤◌, ◌∷◌, ◌++◌, drop, codes, decimal, OnOk};
 ghost use Rattle.opid.specs.declared.kind.OpKind.TheVariants as kinds;
 ghost use Rattle.wire_json.specs.Text.{clock_text, op_text_of, pair_text, parent_text, quote, stamp_text};

@@ -134,7 +134,7 @@ pub(crate) fn push_packed(out: &mut Vec<u8>, ops: &[Op]) -> Result<(), AllocErro
     Ok(())
 }
 
-// The character that an insertion puts in.
+// The character that an insertion puts in, and 0 for a deletion, of which nobody asks.
 fn character_of(op: &Op) -> char
     ensures { result ≡ inserted_character op.now.kind }
 {

@@ -1,4 +1,5 @@
-//! The texts of what most requests get: an `ok`, edits, operations or outcomes. Each is put from its end into a few bytes, and copied once.
+//! The texts of what most requests get: an `ok`, edits, operations or outcomes. What has a bound, a number or an
+//! edit, is put from its end into a few bytes, and copied once.
 ghost use Rattle.std.specs.Prelude.{◌≡◌, ◌++◌, map, IfOk, OnOk, string_bytes};
 ghost use Rattle.std.specs.List.{AllByRecursion};
 ghost use Rattle.room.specs.declared.reply.Reply.TheVariants as replies;
