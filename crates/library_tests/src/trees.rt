@@ -1,4 +1,5 @@
 //! A worked tree, and a random one beside a scan of all elements.
+mod hidings;
 mod plain;
 
 ghost use Rattle.std.specs.Prelude.{◌<◌, ◌≤◌, ◌^◌};
@@ -122,20 +123,6 @@ fn hide(tree: &mut VersionTree, k: usize) -> Option<u32> {
     None
 }
 
-/// Hides the element at the place of the newest version, if there is one, and tells which, and how many elements, and how many units,
-/// the tree says stand before it.
-fn hide_ranked(tree: &mut VersionTree, k: usize) -> Option<(u32, (usize, usize))> {
-    if tree.room() == 0 {
-        return None;
-    }
-    let mut steps = Steps::new();
-    if let Some(e) = tree.find(tree.newest(), k, &mut steps) {
-        let ranks = tree.hide_ranked(e);
-        return Some((e, (ranks.shown as usize, ranks.units as usize)));
-    }
-    None
-}
-
 /// Makes a version like the one before.
 fn mark(tree: &mut VersionTree) {
     if tree.room() > 0 {
@@ -238,47 +225,6 @@ fn agrees(tree: &mut VersionTree, plain: &mut Plain) -> Result<bool, AllocError>
 #[test]
 fn agrees_with_a_scan(rt: HostRuntime) -> Result<(), Fail> {
     assert!(rt; of_empty_ones(rt.alloc(), OPERATIONS, agrees)?);
-    Ok(())
-}
-
-/// Hides an element of the tree and of the scan. Whether the tree tells that as much stands before it as in the scan.
-fn hide_ranked_in_both(tree: &mut VersionTree, plain: &mut Plain, k: usize) -> bool {
-    let before = tree.newest();
-    let Some((e, ranks)) = hide_ranked(tree, k) else {
-        return true;
-    };
-    let same = ranks == plain.ranks(before, e);
-    plain.hide(e, tree.newest());
-    same
-}
-
-/// Random insertions, and hidings of which each tells its ranks, beside a scan.
-fn tells_ranks(tree: &mut VersionTree, plain: &mut Plain) -> Result<bool, AllocError> {
-    let mut dice = Dice::new(17);
-    let mut all = true;
-    for _ in 0..OPERATIONS {
-        let n = tree.elements() as u32;
-        let before = below(&mut dice, n.saturating_add(1));
-        if dice.roll(3) == 0 {
-            all &= hide_ranked_in_both(tree, plain, before as usize);
-        } else {
-            let wide = dice.roll(3) == 0;
-            put_in_both(
-                tree,
-                plain,
-                before.checked_sub(1),
-                dice.roll(9) as u32,
-                wide,
-            )?;
-        }
-    }
-    all &= find_the_same(tree, plain, tree.newest(), 2 * OPERATIONS);
-    Ok(all && rank_the_same(tree, plain))
-}
-
-#[test]
-fn hidings_tell_the_ranks_of_a_scan(rt: HostRuntime) -> Result<(), Fail> {
-    assert!(rt; of_empty_ones(rt.alloc(), OPERATIONS, tells_ranks)?);
     Ok(())
 }
 
