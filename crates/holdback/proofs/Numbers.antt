@@ -1,11 +1,11 @@
 -- The first operation with a number, sought among the numbers of all.
 use Rattle.std.proofs.Common.{◌≡◌, ℕ, zero, suc, ◌+◌, ◌*◌, ◌/◌, ◌%◌, ◌<◌, ◌≤◌, MatchOption, Bool, true, false, cond, Option}
 use Rattle.std.proofs.Common.{Some, None, Ok, Err, List, [], ◌∷◌, length, map, get_or, refl, ap, ◌∙◌}
-use Rattle.std.proofs.Common.{sym, subst, arith, position, lt-ltb, eqb-true, eq-eqb, ◌==◌, ◌&&◌, ◌⊎◌, inl, inr}
+use Rattle.std.proofs.Common.{sym, arith, position, lt-ltb, eqb-true, eq-eqb, ◌==◌, ◌&&◌, inl, inr}
 use mathlib.Core.Path.{ap₂}
 use Rattle.std.specs.Prelude.{not, nat_lt, slice_get, is_some}
 use Rattle.std.specs.List.{position_or_len, remove}
-use Rattle.std.proofs.lemmas.Bool.{cases_eq, cases_lt, and_from, and_parts}
+use Rattle.std.proofs.lemmas.Bool.{cases_lt, and_from, and_parts}
 use Rattle.std.proofs.lemmas.Bool.Decides.{nat_tests}
 use Rattle.std.proofs.lemmas.List.{get_or_default, get_or-map, length-map}
 use Rattle.std.proofs.lemmas.List.Folds.{find_at}
@@ -85,16 +85,6 @@ none_at_all test xs i x l before =
     (λ m. absurd (omega (arith, m))) in
     sym (ap (λ k. cond (nat_lt k (length xs)) (Some k) None) at ∙ ap (λ b. cond b (Some (length xs)) None) (none_up_to (length xs)))
 
--- none before the next place either, where this one doesn't pass
-pub one_more : {A : Type 0} (test : A → Bool) (xs : List A) (start i : ℕ)
-    → ((k : ℕ) (d : A) → start ≤ k → k < i → test (get_or xs k d) ≡ false) → ((d : A) → test (get_or xs i d) ≡ false)
-    → (k : ℕ) (d : A) → start ≤ k → k < i + 1 → test (get_or xs k d) ≡ false
-one_more test xs start i before here k d s l = go (cases_eq k i)
-  where
-    go : (k ≡ i) ⊎ (k ≡ i → ⊥) → test (get_or xs k d) ≡ false
-    go (inl e) = subst (λ j. test (get_or xs j d) ≡ false) (sym e) (here d)
-    go (inr n) = before k d s (omega (arith, l, n))
-
 -- none in two neighbouring parts
 pub in_both : {A : Type 0} (test : A → Bool) (xs : List A) (start middle end : ℕ)
     → ((k : ℕ) (d : A) → start ≤ k → k < middle → test (get_or xs k d) ≡ false)
@@ -106,11 +96,6 @@ in_both test xs start middle end before behind k d s l = elim (cases_lt k middle
 ]
 
 -- ---- the first that is ready
-
-pub not_ready : (clock : List ℕ) (xs : List Operation) (i : ℕ) (x : Operation) → i < length xs → x ≡ get_or xs i x
-    → is_next x.site x.clock clock ≡ false → (d : Operation) → is_next (get_or xs i d).site (get_or xs i d).clock clock ≡ false
-not_ready clock xs i x l e h d =
-    subst (λ (y : Operation). is_next y.site y.clock clock ≡ false) (e ∙ get_or_default xs i x d l) h
 
 -- an operation whose number isn't its site's next one isn't ready
 pub not_due : (clock : List ℕ) (x : Operation) (n : ℕ × ℕ) → n ≡ number_of x → (n.1 == entry clock n.0 + 1) ≡ false

@@ -1,13 +1,15 @@
 -- Operations in slots.
 use Rattle.std.proofs.Common.{◌≡◌, ℕ, zero, suc, ◌+◌, ◌<◌, ◌≤◌, Bool, true, false, List, [], ◌∷◌, ◌++◌, length, map, get_or, refl, ap, ◌∙◌}
-use Rattle.std.proofs.Common.{sym, subst, arith, ◌==◌, eqb-true, eq-eqb, take, set, cond}
+use Rattle.std.proofs.Common.{sym, subst, arith, ◌==◌, eqb-true, eq-eqb, take, drop, set, cond, ◌-◌, append_assoc}
 use mathlib.Core.Path.{ap₂}
-use Rattle.std.specs.List.{remove, All, AllByRecursion, IsDistinct}
+use Rattle.std.specs.List.{copy_within, remove, All, AllByRecursion, IsDistinct}
 use Rattle.std.specs.Prelude.{IsPermutation}
-use Rattle.std.proofs.lemmas.List.{get_or-map, get_or-take, get_or_default, length-map, length-take-le, get_or-set_same, get_or-set_other}
-use Rattle.std.proofs.lemmas.List.{length-append, map-append, get_or_append_left, take-append-le}
+use Rattle.std.proofs.lemmas.List.{get_or-take, length-map, length-take-le, get_or-set_same, get_or-set_other}
+use Rattle.std.proofs.lemmas.List.{length-append, map-append, get_or_append_left, take-append-drop, take_at}
 use Rattle.std.proofs.lemmas.List.Elements.{All-append}
-use Rattle.std.proofs.lemmas.List.Sorted.{All-permutation, IsPermutation-remove, IsPermutation-append_comm, IsPermutation-trans}
+use Rattle.std.proofs.lemmas.List.Sorted.{All-permutation, IsPermutation-append_comm, IsPermutation-append_left, IsPermutation-remove}
+use Rattle.std.proofs.lemmas.List.Sorted.{IsPermutation-trans}
+use Rattle.std.proofs.lemmas.List.Edits.{length-remove}
 use Rattle.std.proofs.lemmas.Map.Keys.{IsDistinct-IsPermutation}
 use Rattle.std.proofs.Math.Seq.{take-suc, take-length, get_or-append_seam}
 use Rattle.opid.specs.Operations.{Operation}
@@ -16,14 +18,6 @@ use Rattle.holdback.specs.Slots.{arranged, in_no_slot, AreSlots}
 
 pub arranged_length : (slots : List Operation) (order : List ℕ) (n : ℕ) → n ≤ length order → length (arranged slots order n) ≡ n
 arranged_length slots order n l = length-map (take n order) (λ s. get_or slots s in_no_slot) ∙ length-take-le n order l
-
--- the operation at a place is the one in the slot that stands there
-pub arranged_at : (slots : List Operation) (order : List ℕ) (n i s : ℕ) (d x : Operation) → i < n → n ≤ length order → s ≡ get_or order i s
-    → s < length slots → x ≡ get_or slots s x → x ≡ get_or (arranged slots order n) i d
-arranged_at slots order n i s d x l m e b g =
-    g ∙ get_or_default slots s x in_no_slot b
-    ∙ ap (λ k. get_or slots k in_no_slot) (e ∙ sym (get_or-take n order i s l))
-    ∙ sym (get_or-map (λ k. get_or slots k in_no_slot) (take n order) i s d (omega (arith, l, m, length-take-le n order m)))
 
 -- what an operation in a slot that isn't among these changes
 untouched : (slots : List Operation) (s : ℕ) (x : Operation) (ks : List ℕ) → AllByRecursion (λ k. (k == s) ≡ false) ks
@@ -130,28 +124,58 @@ more_slots order longer count n m e f g h =
     subst (λ k. AreSlots k longer) (sym f)
     (subst (AreSlots (n + 1)) (sym g) (one_more_slot order n (subst (λ k. AreSlots k order) e h)))
 
--- one that is taken out is free from then on
-cut : (ks : List ℕ) (m i s : ℕ) → i ≤ m → suc m ≤ length ks → take m (remove ks i ++ s ∷ []) ≡ remove (take (suc m) ks) i
-cut [] m i s l h = absurd (omega (arith, h))
-cut (k ∷ ks) m zero s l h = take-append-le m ks (s ∷ []) (omega (arith, h))
-cut (k ∷ ks) zero (suc i) s l h = absurd (omega (arith, l))
-cut (k ∷ ks) (suc m) (suc i) s l h = ap (λ js. k ∷ js) (cut ks m i s (omega (arith, l)) (omega (arith, h)))
+-- ---- one that is taken out: those behind it up to the last move up, and its slot stands behind them
 
-pub taken_out : (slots : List Operation) (order : List ℕ) (n m i s : ℕ) → n ≡ suc m → i < n → n ≤ length order
-    → arranged slots (remove order i ++ s ∷ []) m ≡ remove (arranged slots order n) i
-taken_out slots order n m i s e l h =
+moved_on : (s k : ℕ) (ks : List ℕ) (m : ℕ) → m ≤ length ks → set (take m ks ++ drop m (k ∷ ks)) m s ≡ take m ks ++ s ∷ drop m ks
+moved_on s k ks zero l = refl
+moved_on s k [] (suc m) l = absurd (omega (arith, l))
+moved_on s k (j ∷ ks) (suc m) l = ap (λ js. j ∷ js) (moved_on s j ks m (omega (arith, l)))
+
+moved_up : (ks : List ℕ) (i m n s : ℕ) → n ≡ i + m → suc n ≤ length ks
+    → set (take i ks ++ take m (drop (suc i) ks) ++ drop n ks) n s ≡ remove (take (suc n) ks) i ++ s ∷ drop (suc n) ks
+moved_up [] i m n s e l = absurd (omega (arith, l))
+moved_up (k ∷ ks) zero m n s e l =
+    let same : m ≡ n = omega (arith, e) in
+    ap (λ j. set (take j ks ++ drop n (k ∷ ks)) n s) same ∙ moved_on s k ks n (omega (arith, l))
+moved_up (k ∷ ks) (suc i) m zero s e l = absurd (omega (arith, e))
+moved_up (k ∷ ks) (suc i) m (suc n) s e l = ap (λ js. k ∷ js) (moved_up ks i m n s (omega (arith, e)) (omega (arith, l)))
+
+pub moved_back : (ks js : List ℕ) (n i s : ℕ) → i < n → n ≤ length ks → js ≡ set (copy_within ks (i + 1) n i) (n - 1) s
+    → js ≡ remove (take n ks) i ++ s ∷ drop n ks
+moved_back ks js zero i s l h e = absurd (omega (arith, l))
+moved_back ks js (suc n) i s l h e =
+    let next : i + 1 ≡ suc i = omega arith in
+    let last : suc n - 1 ≡ n = omega arith in
+    let seam : i + (suc n - (i + 1)) ≡ n = omega (arith, l) in
+    e ∙ ap (λ k. set (copy_within ks (i + 1) (suc n) i) k s) last
+    ∙ ap₂ (λ (a b : ℕ). set (take i ks ++ take (suc n - (i + 1)) (drop a ks) ++ drop b ks) n s) next seam
+    ∙ moved_up ks i (suc n - (i + 1)) n s (sym seam) (omega (arith, h))
+
+pub taken_out : (slots : List Operation) (order later : List ℕ) (n m i s : ℕ) → n ≡ m + 1 → i < n → n ≤ length order
+    → later ≡ remove (take n order) i ++ s ∷ drop n order → arranged slots later m ≡ remove (arranged slots order n) i
+taken_out slots order later n m i s e l h r =
     let at : ℕ → Operation = λ k. get_or slots k in_no_slot in
-    ap (map at) (cut order m i s (omega (arith, l, e)) (omega (arith, h, e)) ∙ ap (λ k. remove (take k order) i) (sym e))
+    let long : length (remove (take n order) i) ≡ m =
+    omega (arith, e, length-take-le n order h, length-remove (take n order) i (omega (arith, l, length-take-le n order h))) in
+    ap (λ ks. map at (take m ks)) r ∙ ap (map at) (take_at (remove (take n order) i) (s ∷ drop n order) m long)
     ∙ one_removed at (take n order) i
 
-pub same_slots : (order : List ℕ) (count i s : ℕ) → i < length order → s ≡ get_or order i s → AreSlots count order
-    → AreSlots count (remove order i ++ s ∷ [])
-same_slots order count i s l e h =
-    let moved : IsPermutation order (remove order i ++ s ∷ []) =
-    IsPermutation-trans order (s ∷ remove order i) (remove order i ++ s ∷ []) (IsPermutation-remove order i s l e)
-    (IsPermutation-append_comm (s ∷ []) (remove order i)) in (
-      All-permutation (λ k. k < count) order (remove order i ++ s ∷ []) moved h.0,
-      IsDistinct-IsPermutation (λ k t. k == t) flips order (remove order i ++ s ∷ []) moved h.1,
+pub same_slots : (order later : List ℕ) (count n i s : ℕ) → i < n → n ≤ length order → s ≡ get_or order i s
+    → later ≡ remove (take n order) i ++ s ∷ drop n order → AreSlots count order → AreSlots count later
+same_slots order later count n i s l m e r h =
+    let held : List ℕ = take n order in
+    let here : s ≡ get_or held i s = e ∙ sym (get_or-take n order i s l) in
+    let front : IsPermutation held (remove held i ++ s ∷ []) =
+    IsPermutation-trans held (s ∷ remove held i) (remove held i ++ s ∷ [])
+    (IsPermutation-remove held i s (omega (arith, l, length-take-le n order m)) here)
+    (IsPermutation-append_comm (s ∷ []) (remove held i)) in
+    let whole : IsPermutation (held ++ drop n order) ((remove held i ++ s ∷ []) ++ drop n order) =
+    IsPermutation-append_left (drop n order) held (remove held i ++ s ∷ []) front in
+    let moved : IsPermutation order later =
+    subst (λ ks. IsPermutation order ks) (append_assoc (remove held i) (s ∷ []) (drop n order) ∙ sym r)
+    (subst (λ ks. IsPermutation ks ((remove held i ++ s ∷ []) ++ drop n order)) (take-append-drop n order) whole) in (
+      All-permutation (λ k. k < count) order later moved h.0,
+      IsDistinct-IsPermutation (λ k t. k == t) flips order later moved h.1,
     )
 
 pub no_slots : (count : ℕ) (order : List ℕ) → order ≡ [] → AreSlots count order

@@ -1,4 +1,4 @@
--- The numbers of operations, each packed into one, and which of them are due.
+-- The numbers of operations, each packed into one, and which of them are due. No public clause cites these: they are the code's alone.
 use Rattle.std.specs.Prelude.{◌≡◌, ℕ, ◌+◌, ◌*◌, ◌/◌, ◌%◌, ◌<◌, ◌≤◌, true, false, ◌==◌, List, slice_index, get_or}
 use Rattle.opid.specs.Clocks.{entry, is_next}
 use Rattle.opid.specs.Operations.{Operation}

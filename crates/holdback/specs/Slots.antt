@@ -1,4 +1,4 @@
--- Operations that stand in slots, in an order beside them.
+-- Operations that stand in slots, in an order beside them. No public clause cites these: they are the code's alone.
 use Rattle.std.specs.Prelude.{ℕ, ◌==◌, ◌<◌, List, [], map, take, get_or}
 use Rattle.std.specs.List.{All, IsDistinct}
 use Rattle.opid.specs.declared.kind.OpKind.TheVariants.{Del}

@@ -121,7 +121,7 @@ impl Held {
     /// Takes out the first operation, in order of arrival, that is ready where just the operations are that the clock
     /// counts. The others keep their order. Takes no memory, a step for each of 32 sites, a step for each operation up to 15 behind
     /// the one that is taken, and the steps of `Clock::ready`, some 32, for those of them that are their sites' next ones; six bytes
-    /// are moved for each one behind it, and two for each slot that is free.
+    /// are moved for each one behind it.
     #[tactic(auto, using(crate::proofs::Places::taken, crate::proofs::Places::none_taken, crate::proofs::Places::left, crate::proofs::Places::all_left))]
     pub fn take_first_ready(&mut self, clock: &Clock) -> Option<Op>
         ensures taken { result ≡ first_ready clock.now self.old.ops }

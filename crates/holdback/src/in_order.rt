@@ -84,15 +84,17 @@ impl InOrder {
         Ok(())
     }
 
-    /// Takes out the operation at this place. Takes no memory; two bytes are moved for each one behind it, and for each free slot.
+    /// Takes out the operation at this place. Takes no memory; two bytes are moved for each one behind it. Its slot is the first to
+    /// be used again.
     pub fn remove(&mut self, place: usize) -> Op
         requires { place < length self.old.ops }
         ensures value { result ≡ slice_index_or self.old.ops place result }
         ensures others { self.new ≡ record self.old { ops = remove self.old.ops place } }
     {
-        let slot = self.order.remove(place);
-        self.order.push_reserved(slot);
+        let slot = self.order[place];
+        self.order.copy_within(place + 1..self.len, place);
         self.len -= 1;
+        self.order[self.len] = slot;
         self.slots[usize::from(slot)]
     }
 
