@@ -1,19 +1,20 @@
 -- The parts of a log of one operation more.
 use Rattle.std.proofs.Common.{◌≡◌, ℕ, zero, suc, ◌+◌, ◌*◌, ◌%◌, ◌<◌, ◌≤◌, ◌⊎◌, inl, inr, Bool, true, false, eqb, List, [], ◌∷◌, ◌++◌}
-use Rattle.std.proofs.Common.{length, set, get_or, cond, refl, ap, ◌∙◌, sym, subst, arith, length-append, get_or-set_other, get_or-set_same}
+use Rattle.std.proofs.Common.{length, set, get_or, take, drop, cond, refl, ap, ◌∙◌, sym, subst, arith, length-append, get_or-set_other, get_or-set_same}
 use mathlib.Core.Path.{ap₂}
 use Rattle.std.proofs.lemmas.Bool.{cases_eq, cond-true, cond-false, eq-eqb, eqb-true, false_from_ne_true}
 use Rattle.std.proofs.lemmas.List.{get_or_append_left, get_or_push, length_push}
 use Rattle.opid.specs.Operations.{Operation}
 use Rattle.opid.specs.Delivery.{clock_of, count_of}
+use Rattle.opid.proofs.Counts.{length-clock_of}
 use Rattle.causal_clock.specs.declared.row.Row.{Row}
 use Rattle.causal_clock.specs.Kinds.{IsOperation}
 use Rattle.causal_clock.specs.Stored.{changes, is_whole, latest, entries_of}
 use Rattle.causal_clock.specs.Packed.{no_row, no_op, row_at, operation_at, fill, row_clock, after, no_clocks, logged, IsRow}
-use Rattle.causal_clock.specs.Packed.{AreRows, IsLastBefore, IsSite, IsPacked, is_marked, marks_of, unmarked}
+use Rattle.causal_clock.specs.Packed.{AreRows, IsLastBefore, IsSite, IsPacked, base_of, is_marked, marks_of, unmarked}
 use Rattle.causal_clock.proofs.Changing.{fill-changes, length-changes_le}
 use Rattle.causal_clock.proofs.Lasts.{last-grown, last-other, last-own}
-use Rattle.causal_clock.proofs.Telling.{told-append, after-append, told-one, after-one, changes_of-new, AreWithin}
+use Rattle.causal_clock.proofs.Telling.{told-append, after-append, told-one, after-one, changes_of-new, part-new, AreWithin}
 use Rattle.causal_clock.proofs.Telling.{told-grown, after-grown, latest-push, count-push, stored-push}
 use Rattle.causal_clock.proofs.Packing.{packed_same, GoesBack, Tells, line-grown, new-near, line-new, eighths-more, one_each}
 
@@ -53,7 +54,7 @@ site-other rows ops clocks lasts numbers r x n m s e d p =
     }
 
 -- the operation's site has it last
-site-own : (es : List (ℕ × ℕ)) (ms : List (List ℕ)) (rows : List Row) (ops : List Operation) (clocks : List (List ℕ))
+site-own : (es ms : List (ℕ × ℕ)) (rows : List Row) (ops : List Operation) (clocks : List (List ℕ))
     (lasts numbers : List ℕ) (r : Row) (x : Operation) (m : ℕ)
     → length ops ≡ length rows → length clocks ≡ 32 → length lasts ≡ 32 → length numbers ≡ 32 → m ≡ count_of ops x.site + 1
     → IsSite rows ops clocks lasts numbers x.site → Tells es ms rows ops lasts x r
@@ -81,11 +82,11 @@ site-own es ms rows ops clocks lasts numbers r x m e wc wl wn c p t =
           ∙ ap (λ (v : Operation). v.clock) (get_or_push ops x no_op (length rows) e) ∙ sym newest;
     }
 
-within_each : (es : List (ℕ × ℕ)) (ms : List (List ℕ)) (rows : List Row) (ops : List Operation) → AreRows es ms rows ops → AreWithin es rows
+within_each : (es ms : List (ℕ × ℕ)) (rows : List Row) (ops : List Operation) → AreRows es ms rows ops → AreWithin es rows
 within_each es ms rows ops h = λ k l. (h k l).within
 
 -- the clock that the new row tells
-clock-new : (es : List (ℕ × ℕ)) (ms ns : List (List ℕ)) (rows : List Row) (ops : List Operation) (clocks : List (List ℕ))
+clock-new : (es ms ns : List (ℕ × ℕ)) (rows : List Row) (ops : List Operation) (clocks : List (List ℕ))
     (lasts numbers : List ℕ) (r : Row) (x : Operation)
     → length (latest ops x.site) ≡ 32 → IsPacked es ms rows ops clocks lasts numbers → Tells es ns rows ops lasts x r
     → row_clock (after no_clocks (es ++ entries_of ops x) rows) (es ++ entries_of ops x) r ≡ x.clock
@@ -106,7 +107,7 @@ same-op x r c a b k =
     ∙ ap (λ v. let y : Operation = record { site = x.site; clock = x.clock; kind = v } in y) k
 
 -- the log of one row more
-logged-push : (es : List (ℕ × ℕ)) (ms ns : List (List ℕ)) (rows : List Row) (clocks : List (List ℕ)) (lasts numbers : List ℕ) (r : Row)
+logged-push : (es ms ns : List (ℕ × ℕ)) (rows : List Row) (clocks : List (List ℕ)) (lasts numbers : List ℕ) (r : Row)
     (x : Operation)
     → length (latest (logged es rows) x.site) ≡ 32 → IsPacked es ms rows (logged es rows) clocks lasts numbers
     → Tells es ns rows (logged es rows) lasts x r
@@ -121,10 +122,10 @@ logged-push es ms ns rows clocks lasts numbers r x w p t =
     (clock-new es ms ns rows (logged es rows) clocks lasts numbers r x w p t) t.kind))
 
 -- the parts of one operation more
-packed-push : (es : List (ℕ × ℕ)) (ms fresh : List (List ℕ)) (rows : List Row) (ops : List Operation) (clocks : List (List ℕ))
+packed-push : (es ms fresh : List (ℕ × ℕ)) (rows : List Row) (ops : List Operation) (clocks : List (List ℕ))
     (lasts numbers : List ℕ) (r : Row) (x : Operation) (m : ℕ)
     → length clocks ≡ 32 → length lasts ≡ 32 → length numbers ≡ 32 → m ≡ get_or numbers x.site 0 + 1 → length (latest ops x.site) ≡ 32
-    → 8 * length fresh + (get_or numbers x.site 0 + 1) % 8 ≡ get_or numbers x.site 0 % 8 + 1
+    → length fresh + 4 * ((get_or numbers x.site 0 + 1) % 8) ≤ 4 * (get_or numbers x.site 0 % 8 + 1)
     → IsPacked es ms rows ops clocks lasts numbers → Tells es (ms ++ fresh) rows ops lasts x r
     → IsPacked (es ++ entries_of ops x) (ms ++ fresh) (rows ++ r ∷ []) (ops ++ x ∷ []) (set clocks x.site x.clock)
     (set lasts x.site (length rows)) (set numbers x.site m)
@@ -148,8 +149,12 @@ packed-push es ms fresh rows ops clocks lasts numbers r x m wc wl wn c w f p t =
         length_push rows r,
         length-changes_le (is_whole (count_of ops x.site)) (latest ops x.site) x.clock 32,
       );
-      eighths = ap (λ v. 8 * length (ms ++ fresh) + unmarked (set numbers x.site v)) c
-          ∙ eighths-more ms fresh numbers x.site (length rows) (omega (arith, wn, t.valid.site)) f p.eighths ∙ sym (length_push rows r);
+      eighths = omega (
+        arith,
+        ap (λ v. unmarked (set numbers x.site v)) c,
+        eighths-more ms fresh numbers x.site (length rows) (omega (arith, wn, t.valid.site)) f p.eighths,
+        length_push rows r,
+      );
     }
   where
     line : (k : ℕ) → k < length (rows ++ r ∷ []) → (k ≡ length rows) ⊎ (k ≡ length rows → ⊥)
@@ -173,12 +178,12 @@ packed-push es ms fresh rows ops clocks lasts numbers r x m wc wl wn c w f p t =
     site s l (inr d) = site-other rows ops clocks lasts numbers r x (length rows) m s p.each d (p.sites s l)
 
 -- the vectors after one operation more
-pub appended : (es fs : List (ℕ × ℕ)) (ms fresh ns : List (List ℕ)) (rows lines : List Row) (clocks : List (List ℕ))
+pub appended : (es fs ms fresh ns : List (ℕ × ℕ)) (rows lines : List Row) (clocks : List (List ℕ))
     (lasts numbers : List ℕ) (r : Row) (x : Operation) (m : ℕ)
     → fs ≡ es ++ entries_of (logged es rows) x → ns ≡ ms ++ fresh → lines ≡ rows ++ r ∷ []
     → length clocks ≡ 32 → length lasts ≡ 32 → length numbers ≡ 32 → m ≡ get_or numbers x.site 0 + 1
     → length (latest (logged es rows) x.site) ≡ 32
-    → 8 * length fresh + (get_or numbers x.site 0 + 1) % 8 ≡ get_or numbers x.site 0 % 8 + 1
+    → length fresh + 4 * ((get_or numbers x.site 0 + 1) % 8) ≤ 4 * (get_or numbers x.site 0 % 8 + 1)
     → IsPacked es ms rows (logged es rows) clocks lasts numbers → Tells es (ms ++ fresh) rows (logged es rows) lasts x r
     → IsPacked fs ns lines (logged fs lines) (set clocks x.site x.clock) (set lasts x.site (length rows)) (set numbers x.site m)
     × (logged fs lines ≡ logged es rows ++ x ∷ [])
@@ -198,44 +203,53 @@ appended es fs ms fresh ns rows lines clocks lasts numbers r x m ef em el wc wl 
 
 -- ---- what the calls answered
 
-pub width-latest : (es : List (ℕ × ℕ)) (ms : List (List ℕ)) (rows : List Row) (ops : List Operation) (clocks : List (List ℕ))
+pub width-latest : (es ms : List (ℕ × ℕ)) (rows : List Row) (ops : List Operation) (clocks : List (List ℕ))
     (lasts numbers : List ℕ) (s place : ℕ) (before : List ℕ) → IsPacked es ms rows ops clocks lasts numbers
     → s < 32 → place ≡ s → before ≡ get_or clocks place [] → before ≡ latest ops s
 width-latest es ms rows ops clocks lasts numbers s place before p l e b = b ∙ ap (λ k. get_or clocks k []) e ∙ (p.sites s l).clock
 
 -- the row names the clock before, or goes back
-goes-back : (ms : List (List ℕ)) (rows : List Row) (ops : List Operation) (clocks : List (List ℕ)) (lasts numbers : List ℕ) (x : Operation)
+goes-back : (ms : List (ℕ × ℕ)) (rows : List Row) (ops : List Operation) (clocks : List (List ℕ)) (lasts numbers : List ℕ) (x : Operation)
     (r : Row) → IsSite rows ops clocks lasts numbers x.site
-    → r.marked ≡ is_marked (get_or numbers x.site 0)
-    → (is_marked (get_or numbers x.site 0) ≡ true → get_or ms r.prev [] ≡ latest ops x.site)
+    → (is_marked (get_or numbers x.site 0) ≡ true → base_of ms r ≡ latest ops x.site)
+    → (is_marked (get_or numbers x.site 0) ≡ false → base_of ms r ≡ clock_of [])
     → (is_marked (get_or numbers x.site 0) ≡ false → r.prev ≡ get_or lasts x.site 0)
     → (is_marked (get_or numbers x.site 0) ≡ true → r.back ≡ 0) → (get_or numbers x.site 0 + 1 ≤ 1 → r.back ≡ 0)
     → (is_marked (get_or numbers x.site 0) ≡ false → 1 < get_or numbers x.site 0 + 1
     → r.back ≡ (row_at rows (get_or lasts x.site 0)).back + 1)
     → GoesBack ms rows ops lasts x r
-goes-back ms rows ops clocks lasts numbers x r own d b e h f g = go (is_marked (count_of ops x.site)) (count_of ops x.site) refl refl
+goes-back ms rows ops clocks lasts numbers x r own b d e h f g = go (is_marked (count_of ops x.site)) (count_of ops x.site) refl refl
   where
     go : (t : Bool) (n : ℕ) → is_marked (count_of ops x.site) ≡ t → count_of ops x.site ≡ n → GoesBack ms rows ops lasts x r
     go true n q c =
         let m : is_marked (get_or numbers x.site 0) ≡ true = ap is_marked own.number ∙ q in
-        inl (h m, cond-true _ _ _ (d ∙ m) ∙ b m)
+        inl (h m, b m)
     go false zero q c =
         let m : is_marked (get_or numbers x.site 0) ≡ false = ap is_marked own.number ∙ q in
-        inl (f (omega (arith, own.number, c)), cond-false _ _ _ (d ∙ m) ∙ sym (own.none c))
+        inl (f (omega (arith, own.number, c)), d m ∙ sym (own.none c))
     go false (suc n) q c =
         let m : is_marked (get_or numbers x.site 0) ≡ false = ap is_marked own.number ∙ q in
         inr (omega (arith, c), q, e m, g m (omega (arith, own.number, c)))
 
--- the mark stands at its place
-marked_at : (ms : List (List ℕ)) (t : Bool) (before : List ℕ) → t ≡ true → get_or (ms ++ marks_of t before) (length ms) [] ≡ before
-marked_at ms true before e = get_or_push ms before [] (length ms) refl
-marked_at ms false before e = absurd (cc)
+-- the mark stands at its place, and tells the clock before
+marked_at : (ms : List (ℕ × ℕ)) (t : Bool) (before : List ℕ) (r : Row) → length before ≡ 32
+    → r.prev ≡ length ms → r.mark ≡ length (marks_of t before) → t ≡ true → base_of (ms ++ marks_of t before) r ≡ before
+marked_at ms true before r w p m e =
+    ap (fill (clock_of [])) (part-new ms (marks_of true before) r.prev r.mark p m)
+    ∙ fill-changes false (clock_of []) before (clock_of []) 32 (length-clock_of []) w (λ _. refl)
+marked_at ms false before r w p m e = absurd (cc)
 
-marked_within : (ms : List (List ℕ)) (t : Bool) (before : List ℕ) → t ≡ true → length ms < length (ms ++ marks_of t before)
-marked_within ms true before e = omega (arith, length_push ms before)
-marked_within ms false before e = absurd (cc)
+unmarked_at : (ms : List (ℕ × ℕ)) (t : Bool) (before : List ℕ) (r : Row) → r.mark ≡ length (marks_of t before) → t ≡ false
+    → base_of ms r ≡ clock_of []
+unmarked_at ms true before r m e = absurd (cc)
+unmarked_at ms false before r m e = ap (λ n. fill (clock_of []) (take n (drop r.prev ms))) m
 
-pub appended_read : (es fs : List (ℕ × ℕ)) (ms ns : List (List ℕ)) (rows lines : List Row) (clocks : List (List ℕ)) (lasts numbers : List ℕ)
+marked_within : (ms : List (ℕ × ℕ)) (t : Bool) (before : List ℕ) (p m last : ℕ) → p ≡ cond t (length ms) last
+    → m ≡ length (marks_of t before) → 0 < m → p + m ≤ length (ms ++ marks_of t before)
+marked_within ms true before p m last e f l = omega (arith, e, f, length-append ms (marks_of true before))
+marked_within ms false before p m last e f l = absurd (omega (arith, f, l))
+
+pub appended_read : (es fs ms ns : List (ℕ × ℕ)) (rows lines : List Row) (clocks : List (List ℕ)) (lasts numbers : List ℕ)
     (r : Row) (x : Operation) (place : ℕ) (before clock : List ℕ)
     → IsPacked es ms rows (logged es rows) clocks lasts numbers → IsOperation x
     → length clocks ≡ 32 → length lasts ≡ 32 → length numbers ≡ 32
@@ -244,7 +258,7 @@ pub appended_read : (es fs : List (ℕ × ℕ)) (ms ns : List (List ℕ)) (rows 
     → ns ≡ ms ++ marks_of (is_marked (get_or numbers place 0)) before → lines ≡ rows ++ r ∷ []
     → r.site ≡ x.site → r.kind ≡ x.kind → r.from ≡ length es
     → r.count ≡ length (changes (is_whole (get_or numbers place 0)) before clock 32)
-    → r.marked ≡ is_marked (get_or numbers place 0)
+    → r.mark ≡ length (marks_of (is_marked (get_or numbers place 0)) before)
     → r.prev ≡ cond (is_marked (get_or numbers place 0)) (length ms) (get_or lasts place 0)
     → (is_marked (get_or numbers place 0) ≡ true → r.back ≡ 0) → (get_or numbers place 0 + 1 ≤ 1 → r.back ≡ 0)
     → (is_marked (get_or numbers place 0) ≡ false → 1 < get_or numbers place 0 + 1 → r.back ≡ (row_at rows (get_or lasts place 0)).back + 1)
@@ -260,21 +274,19 @@ appended_read es fs ms ns rows lines clocks lasts numbers r x place before clock
     (λ (a d : List ℕ). changes (is_whole (count_of (logged es rows) x.site)) a d 32) old c in
     let at : get_or numbers x.site 0 ≡ get_or numbers place 0 = ap (λ k. get_or numbers k 0) (sym s) in
     let there : get_or lasts place 0 ≡ get_or lasts x.site 0 = ap (λ k. get_or lasts k 0) s in
-    let fresh : List (List ℕ) = marks_of (is_marked (get_or numbers place 0)) before in
+    let fresh : List (ℕ × ℕ) = marks_of (is_marked (get_or numbers place 0)) before in
     let tells : Tells es (ms ++ fresh) rows (logged es rows) lasts x r = record {
       valid = v;
       site = rs;
       kind = rk;
       from = rf;
       count = rn ∙ ap length same;
-      mark = λ q.
-          let m : is_marked (get_or numbers place 0) ≡ true = sym rm ∙ q in
-          omega (arith, rp ∙ cond-true _ _ _ m, marked_within ms (is_marked (get_or numbers place 0)) before m);
-      back = goes-back (ms ++ fresh) rows (logged es rows) clocks lasts numbers x r own (rm ∙ sym (ap is_marked at))
+      mark = marked_within ms (is_marked (get_or numbers place 0)) before r.prev r.mark (get_or lasts place 0) rp rm;
+      back = goes-back (ms ++ fresh) rows (logged es rows) clocks lasts numbers x r own
           (λ q.
           let m : is_marked (get_or numbers place 0) ≡ true = ap is_marked (sym at) ∙ q in
-          ap (λ k. get_or (ms ++ fresh) k []) (rp ∙ cond-true _ _ _ m)
-          ∙ marked_at ms (is_marked (get_or numbers place 0)) before m ∙ old)
+          marked_at ms (is_marked (get_or numbers place 0)) before r wb (rp ∙ cond-true _ _ _ m) rm m ∙ old)
+          (λ q. unmarked_at (ms ++ fresh) (is_marked (get_or numbers place 0)) before r rm (ap is_marked (sym at) ∙ q))
           (λ q.
           let m : is_marked (get_or numbers place 0) ≡ false = ap is_marked (sym at) ∙ q in
           rp ∙ cond-false _ _ _ m ∙ there)
@@ -283,7 +295,7 @@ appended_read es fs ms ns rows lines clocks lasts numbers r x place before clock
     } in
     let all = appended es fs ms fresh ns rows lines clocks lasts numbers r x (get_or numbers place 0 + 1) (ef ∙ ap (λ m. es ++ m) same) em
     el wc wl wn (ap (λ n. n + 1) (sym at)) (sym (ap length old) ∙ wb)
-    (subst (λ n. 8 * length fresh + (n + 1) % 8 ≡ n % 8 + 1) (sym at) (one_each (get_or numbers place 0) before)) p tells in (
+    (subst (λ n. length fresh + 4 * ((n + 1) % 8) ≤ 4 * (n % 8 + 1)) (sym at) (one_each (get_or numbers place 0) before)) p tells in (
       subst (λ (k : ℕ). IsPacked fs ns lines (logged fs lines) (set clocks k clock) (set lasts k (length rows))
           (set numbers k (get_or numbers place 0 + 1))) (sym s)
           (subst (λ (d : List ℕ). IsPacked fs ns lines (logged fs lines) (set clocks x.site d) (set lasts x.site (length rows))

@@ -68,7 +68,7 @@ same_op x y a b c =
     ∙ ap (λ v. let z : Operation = record { site = y.site; clock = y.clock; kind = v } in z) c
 
 -- the operation at the place, from its row and the counts of its clock
-pub op_read : (es : List (ℕ × ℕ)) (ms : List (List ℕ)) (rows : List Row) (k : ℕ) (r : Row) (counts : List ℕ) (x : Operation)
+pub op_read : (es ms : List (ℕ × ℕ)) (rows : List Row) (k : ℕ) (r : Row) (counts : List ℕ) (x : Operation)
     → AreRows es ms rows (logged es rows) → k < length rows → r ≡ row_at rows k → counts ≡ (operation_at (logged es rows) k).clock
     → x ≡ record { site = r.site; clock = counts; kind = r.kind } → slice_get (logged es rows) k ≡ Some x
 op_read es ms rows k r counts x h l at b e =

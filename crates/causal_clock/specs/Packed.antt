@@ -1,5 +1,5 @@
 -- What holds of a log's parts; no public clause cites these.
-use Rattle.std.specs.Prelude.{◌≡◌, ℕ, ◌+◌, ◌*◌, ◌%◌, ◌<◌, ◌≤◌, ◌==◌, Bool, true, false, if◌then◌else◌, List, [], ◌∷◌, length, take, drop}
+use Rattle.std.specs.Prelude.{◌≡◌, ℕ, ◌+◌, ◌*◌, ◌%◌, ◌<◌, ◌≤◌, ◌==◌, Bool, true, false, List, [], ◌∷◌, length, take, drop}
 use Rattle.std.specs.Prelude.{replicate, get_or, slice_set}
 use Rattle.std.specs.List.{sum_by}
 use Rattle.opid.specs.declared.kind.OpKind.{OpKind}
@@ -8,7 +8,7 @@ use Rattle.opid.specs.Operations.{Operation}
 use Rattle.opid.specs.Delivery.{clock_of, count_of}
 use Rattle.causal_clock.specs.declared.row.Row.{Row}
 use Rattle.causal_clock.specs.Kinds.{IsOperation}
-use Rattle.causal_clock.specs.Stored.{latest, stored}
+use Rattle.causal_clock.specs.Stored.{changes, latest, stored}
 
 -- a kind, a row and an operation for places past the end
 abbrev pub no_kind : OpKind
@@ -16,7 +16,7 @@ no_kind = Del (record { sum = 0; site = 0 })
 
 -- what stands for a row where there is none
 abbrev pub no_row : Row
-no_row = record { kind = no_kind; from = 0; prev = 0; site = 0; back = 0; count = 0; marked = false }
+no_row = record { kind = no_kind; from = 0; prev = 0; site = 0; back = 0; count = 0; mark = 0 }
 
 -- what stands for an operation where there is none
 abbrev pub no_op : Operation
@@ -69,27 +69,31 @@ pub record IsLastBefore (ops : List Operation) (site end place : ℕ) : Type 0 w
   pub own : (operation_at ops place).site ≡ site
   pub last : (j : ℕ) → place < j → j < end → (operation_at ops j).site ≡ site → ⊥
 
--- a site's 8th, 16th .. operation, after so many, has a mark: the clock of the site's operation before it
+-- a site's 8th, 16th .. operation, after so many, has a mark: the clock of the site's operation before it, without the counts of 0
 abbrev pub is_marked : ℕ → Bool
 is_marked count = (count + 1) % 8 == 0
 
--- the marks that are added with an operation
-abbrev pub marks_of : Bool → List ℕ → List (List ℕ)
-marks_of true before = before ∷ []
+-- the entries of the mark that is added with an operation
+abbrev pub marks_of : Bool → List ℕ → List (ℕ × ℕ)
+marks_of true before = changes false (clock_of []) before 32
 marks_of false before = []
 
--- the clock that a row names: its mark, or that of no operations
-abbrev pub base_of : List (List ℕ) → Row → List ℕ
-base_of marks row = if row.marked then get_or marks row.prev [] else clock_of []
+-- a row's mark
+abbrev pub mark_of : List (ℕ × ℕ) → Row → List (ℕ × ℕ)
+mark_of marks row = take row.mark (drop row.prev marks)
+
+-- the clock that a row names: that of its mark, or that of no operations
+abbrev pub base_of : List (ℕ × ℕ) → Row → List ℕ
+base_of marks row = fill (clock_of []) (mark_of marks row)
 
 -- The row at k tells the operation there: its entries are put into its mark or the clock of no operations, or into the
 -- clock of the row that it names, its site's last one before, which is one step nearer to a row of the first kind.
-pub record IsRow (entries : List (ℕ × ℕ)) (marks : List (List ℕ)) (rows : List Row) (ops : List Operation) (k : ℕ) : Type 0 where
+pub record IsRow (entries marks : List (ℕ × ℕ)) (rows : List Row) (ops : List Operation) (k : ℕ) : Type 0 where
   pub valid : IsOperation (operation_at ops k)
   pub site : (row_at rows k).site ≡ (operation_at ops k).site
   pub kind : (row_at rows k).kind ≡ (operation_at ops k).kind
   pub within : (row_at rows k).from + (row_at rows k).count ≤ length entries
-  pub mark : (row_at rows k).marked ≡ true → (row_at rows k).prev < length marks
+  pub mark : 0 < (row_at rows k).mark → (row_at rows k).prev + (row_at rows k).mark ≤ length marks
   pub base : (row_at rows k).back ≡ 0
       → (operation_at ops k).clock ≡ fill (base_of marks (row_at rows k)) (changes_of entries (row_at rows k))
   pub short : (row_at rows k).back < 8
@@ -99,7 +103,7 @@ pub record IsRow (entries : List (ℕ × ℕ)) (marks : List (List ℕ)) (rows :
       → (operation_at ops k).clock ≡ fill (operation_at ops (row_at rows k).prev).clock (changes_of entries (row_at rows k))
 
 -- each row tells the operation at its place
-abbrev pub AreRows : List (ℕ × ℕ) → List (List ℕ) → List Row → List Operation → Type 0
+abbrev pub AreRows : List (ℕ × ℕ) → List (ℕ × ℕ) → List Row → List Operation → Type 0
 AreRows entries marks rows ops = (k : ℕ) → k < length rows → IsRow entries marks rows ops k
 
 -- what is kept of a site: its last operation's clock and place, and how many operations it has
@@ -116,7 +120,7 @@ abbrev pub unmarked : List ℕ → ℕ
 unmarked numbers = sum_by (λ n. n % 8) numbers
 
 -- the parts of a log of these operations
-pub record IsPacked (entries : List (ℕ × ℕ)) (marks : List (List ℕ)) (rows : List Row) (ops : List Operation) (clocks : List (List ℕ))
+pub record IsPacked (entries marks : List (ℕ × ℕ)) (rows : List Row) (ops : List Operation) (clocks : List (List ℕ))
     (lasts numbers : List ℕ) : Type 0 where
   pub each : length ops ≡ length rows
   pub lines : AreRows entries marks rows ops
@@ -124,11 +128,12 @@ pub record IsPacked (entries : List (ℕ × ℕ)) (marks : List (List ℕ)) (row
   pub current : clocks ≡ after no_clocks entries rows
   pub kept : entries ≡ stored ops
   pub small : length entries ≤ 32 * length rows
-  pub eighths : 8 * length marks + unmarked numbers ≡ length rows
+  pub eighths : length marks + 4 * unmarked numbers ≤ 4 * length rows
 
--- memory for so many operations more, each with up to 32 entries, and one mark for eight of all
-pub record AreReserved (rows_len rows_capacity entries_len entries_capacity marks_capacity room : ℕ) : Type 0 where
+-- memory for so many operations more, each with up to 32 entries, and for each eight of a site, those since its last mark included,
+-- a mark with as many
+pub record AreReserved (rows_len rows_capacity entries_len entries_capacity marks_len marks_capacity since room : ℕ) : Type 0 where
   pub rows : rows_len + room ≤ rows_capacity
   pub entries : entries_len + 32 * room ≤ entries_capacity
-  pub marks : rows_len + room < 8 * marks_capacity + 8
+  pub marks : marks_len + 4 * (since + room) ≤ marks_capacity
   pub few : rows_len + room ≤ 67108864

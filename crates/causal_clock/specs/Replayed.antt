@@ -19,8 +19,7 @@ abbrev pub between : ℕ → ℕ → List Operation → List Operation
 between start place ops = drop start (take place ops)
 
 -- the rows tell their log, the places are in it, and the clocks that are kept are those of the sites that were passed
-pub record IsReplay (seen : List (Option (List ℕ))) (entries : List (ℕ × ℕ)) (marks : List (List ℕ)) (rows : List Row) (start place : ℕ)
-    : Type 0 where
+pub record IsReplay (seen : List (Option (List ℕ))) (entries marks : List (ℕ × ℕ)) (rows : List Row) (start place : ℕ) : Type 0 where
   pub lines : AreRows entries marks rows (logged entries rows)
   pub order : start ≤ place
   pub within : place ≤ length rows

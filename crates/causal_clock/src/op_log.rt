@@ -2,11 +2,12 @@
 ghost use Rattle.std.specs.Prelude.{◌≡◌, ◌==◌, ◌+◌, ◌-◌, ◌*◌, ◌<◌, ◌≤◌, ◌++◌, [], ◌∷◌, ℕ, Bool, Some, max, length, drop};
 ghost use Rattle.std.specs.Prelude.{slice_get, OnOk, OnErr, IfErr, vec_len, vec_capacity, true, false, if◌then◌else◌};
 ghost use Rattle.opid.specs.declared.refusal.Refusal.TheVariants.{Memory};
+ghost use Rattle.opid.specs.Delivery.{clock_of};
 ghost use Rattle.causal_clock.specs.Kinds.{IsOperation};
 ghost use Rattle.causal_clock.specs.Stored.{changes, entries_of, stored};
 ghost use Rattle.causal_clock.specs.Told.{AreTold};
-ghost use Rattle.causal_clock.specs.Packed.{AreReserved, AreRows, IsPacked, base_of, changes_of, fill, marks_of, operation_at};
-ghost use Rattle.causal_clock.specs.Packed.{row_at, logged};
+ghost use Rattle.causal_clock.specs.Packed.{AreReserved, AreRows, IsPacked, changes_of, fill, mark_of, marks_of, operation_at};
+ghost use Rattle.causal_clock.specs.Packed.{row_at, logged, unmarked};
 
 use crate::changed::Changed;
 use crate::clock::Clock;
@@ -30,14 +31,20 @@ const WHOLE: u32 = 64;
 /// Each operation of a site that has a number of this multiple has a mark.
 const MARK: u32 = 8;
 
+/// So many entries of a mark each of these operations has for its part.
+const PART: usize = SITES / MARK as usize;
+
+/// All sites have made at most so many operations since those that have their last marks.
+const SINCE: usize = SITES * (MARK as usize - 1);
+
 /// A log of operations. Of each operation it keeps the entries of its clock that differ from those of its site's
 /// operation before, and of each 64th operation of a site all 32. Beside them each 8th operation of a site has a mark,
-/// the whole clock of its site's operation before it, so that what is asked for is near one.
+/// the counts of its site's operation before it, those of 0 apart, so that what is asked for is near one.
 #[derive(Drop)]
 pub struct OpLog {
     rows: Vec<Row>,
     entries: Vec<Changed>,
-    marks: Vec<[u32; SITES]>,
+    marks: Vec<Changed>,
     clocks: [Clock; SITES],
     lasts: [u32; SITES],
     numbers: [u32; SITES],
@@ -50,13 +57,14 @@ impl Model for OpLog {
 
     ghost Value = { Logged };
 
-    ghost use Rattle.causal_clock.specs.Packed.{IsPacked, AreReserved, logged};
+    ghost use Rattle.causal_clock.specs.Packed.{IsPacked, AreReserved, logged, unmarked};
 
     ghost view = { λ l. record { ops = logged l.entries.items l.rows.items; room = l.room } };
 
     ghost invariant = { λ l. IsPacked l.entries.items l.marks.items l.rows.items (logged l.entries.items l.rows.items) l.clocks l.lasts
         l.numbers
-        × AreReserved (vec_len l.rows) (vec_capacity l.rows) (vec_len l.entries) (vec_capacity l.entries) (vec_capacity l.marks) l.room };
+        × AreReserved (vec_len l.rows) (vec_capacity l.rows) (vec_len l.entries) (vec_capacity l.entries) (vec_len l.marks)
+        (vec_capacity l.marks) (unmarked l.numbers) l.room };
 }
 
 impl OpLog {
@@ -90,7 +98,8 @@ impl OpLog {
     }
 
     /// The operation at the place. Takes no memory, and reads what is kept of at most 8 operations: itself, and those of
-    /// its site before it back to one that has a mark, or to its first. It copies 32 counts, and puts in the entries of each of them.
+    /// its site before it back to one that has a mark, or to its first. It sets 32 counts, and puts in the entries of that mark and of
+    /// each of them.
     pub fn get<L: Ledger>(&self, i: usize, steps: &mut Reads<L>) -> Op
         requires { i < length self.now.ops }
         ensures value { slice_get self.now.ops i ≡ Some result }
@@ -119,9 +128,9 @@ impl OpLog {
     }
 
     /// Reserves memory for the next `n` operations, so that they aren't refused with `Memory`: for each 20 bytes,
-    /// 128 for the 32 entries that it may have, and 16 for its part of a mark, of which there is at most one for eight operations of
-    /// the log. Constant time; nothing grows where so many are reserved already. Refused with `Memory`,
-    /// only where fewer are: for want of it, or above 67,108,864 operations.
+    /// 128 for the 32 entries that it may have, and 16 for its part of a mark, which each 8th operation of a site has, with as many
+    /// entries; and 3,584 for the marks that are next in turn. Constant time; nothing grows where so many are reserved already.
+    /// Refused with `Memory`, only where fewer are: for want of it, or above 67,108,864 operations.
     pub fn reserve(&mut self, n: usize) -> Result<(), Refusal>
         ensures ok { OnOk result (self.new ≡ record self.old { room = max self.old.room n }) }
         ensures err { OnErr result (self.new ≡ self.old) }
@@ -134,8 +143,9 @@ impl OpLog {
         Ok(())
     }
 
-    /// Adds an operation. Compares the counts of all sites at once, and takes a step for each entry that is stored. Refused with
-    /// `Memory`, only where nothing is reserved, also above 67,108,864 operations.
+    /// Adds an operation. Compares the counts of all sites at once, and takes a step for each entry that is stored, and for each 8th
+    /// operation of a site one for each of its mark. Refused with `Memory`, only where nothing is reserved, also above 67,108,864
+    /// operations.
     pub fn push(&mut self, op: Op) -> Result<(), Refusal>
         ensures ok { OnOk result (self.new ≡ record { ops = self.old.ops ++ op ∷ []; room = self.old.room - 1 }) }
 
@@ -147,9 +157,9 @@ impl OpLog {
         self.push_copy(&op)
     }
 
-    /// Adds an operation as `push` does, where the caller keeps it: of its clock 32 counts are copied, once. Compares the counts of
-    /// all sites at once, and takes a step for each entry that is stored. Refused with `Memory`, only where nothing is reserved, also
-    /// above 67,108,864 operations.
+    /// Adds an operation as `push` does, where the caller keeps it: of its clock 32 counts are copied, once; with each 8th operation
+    /// of a site the counts of the one before are kept once more, those of 0 apart. Takes the steps of `push`. Refused with `Memory`,
+    /// only where nothing is reserved, also above 67,108,864 operations.
     pub fn push_copy(&mut self, op: &Op) -> Result<(), Refusal>
         ensures ok { OnOk result (self.new ≡ record { ops = self.old.ops ++ op.now ∷ []; room = self.old.room - 1 }) }
 
@@ -176,23 +186,25 @@ impl OpLog {
     }
 }
 
-/// Reserves memory for `n` more operations.
+/// Reserves memory for `n` more operations. So that no site's operations are counted for it, its marks' part is for as many more as
+/// all sites can have made since their last marks.
 fn reserve_each(
     rows: &mut Vec<Row>,
     entries: &mut Vec<Changed>,
-    marks: &mut Vec<[u32; SITES]>,
+    marks: &mut Vec<Changed>,
     n: usize,
 ) -> Result<(), Refusal>
     ensures rows { rows.new.items ≡ rows.old.items }
     ensures entries { entries.new.items ≡ entries.old.items }
     ensures marks { marks.new.items ≡ marks.old.items }
-    ensures kept { (room : ℕ)
+    ensures kept { (since room : ℕ)
         → AreReserved (vec_len rows.old) (vec_capacity rows.old) (vec_len entries.old) (vec_capacity entries.old)
-        (vec_capacity marks.old) room
+        (vec_len marks.old) (vec_capacity marks.old) since room
         → AreReserved (vec_len rows.new) (vec_capacity rows.new) (vec_len entries.new) (vec_capacity entries.new)
-        (vec_capacity marks.new) room }
-    ensures ok { OnOk result (AreReserved (vec_len rows.new) (vec_capacity rows.new) (vec_len entries.new) (vec_capacity entries.new)
-        (vec_capacity marks.new) n) }
+        (vec_len marks.new) (vec_capacity marks.new) since room }
+    ensures ok { OnOk result ((since : ℕ) → since ≤ SINCE
+        → AreReserved (vec_len rows.new) (vec_capacity rows.new) (vec_len entries.new) (vec_capacity entries.new)
+        (vec_len marks.new) (vec_capacity marks.new) since n) }
     ensures memory { IfErr result (λ e. e ≡ Memory) }
 {
     if rows.len() > MAX_ROWS || n > MAX_ROWS - rows.len() {
@@ -200,8 +212,7 @@ fn reserve_each(
     }
     rows.reserve(n)?;
     entries.reserve(SITES * n)?;
-    let eighths = (rows.len() + n) / MARK as usize;
-    marks.reserve(eighths.saturating_sub(marks.len()))?;
+    marks.reserve(PART * (SINCE + n))?;
     Ok(())
 }
 
@@ -210,7 +221,7 @@ fn reserve_each(
 pub(crate) fn counts_before<L: Ledger>(
     rows: &[Row],
     entries: &[Changed],
-    marks: &[[u32; SITES]],
+    marks: &[Changed],
     row: &Row,
     steps: &mut Reads<L>,
 ) -> [u32; SITES]
@@ -225,15 +236,16 @@ pub(crate) fn counts_before<L: Ledger>(
     counts
 }
 
-/// Puts these counts over others. In place, since a row may go back over 7 others.
+/// Puts these counts over zeros. In place, since a row may go back over 7 others.
 fn put_before<L: Ledger>(
     rows: &[Row],
     entries: &[Changed],
-    marks: &[[u32; SITES]],
+    marks: &[Changed],
     row: &Row,
     counts: &mut [u32; SITES],
     steps: &mut Reads<L>,
 )
+    requires zeros { counts.old ≡ clock_of [] }
     requires rows { AreRows entries.now marks.now rows.now (logged entries.now rows.now) }
     requires row { (k : ℕ) × (k < length rows.now) × (row_at rows.now k ≡ row.now) }
     ensures counts { (k : ℕ) → k < length rows.now → row_at rows.now k ≡ row.now
@@ -241,7 +253,7 @@ fn put_before<L: Ledger>(
     ensures cost { steps.new ≡ steps.old + row.now.back }
 {
     if row.back == 0 {
-        *counts = named_counts(marks, row);
+        put_in(counts, mark_of(marks, row));
         return;
     }
     let (last, changes) = read(rows, entries, row.prev as usize, steps);
@@ -249,15 +261,16 @@ fn put_before<L: Ledger>(
     put_in(counts, changes);
 }
 
-/// The counts that a row names: those of its mark, or none.
-fn named_counts(marks: &[[u32; SITES]], row: &Row) -> [u32; SITES]
-    requires { row.now.marked ≡ true → row.now.prev < length marks.now }
-    ensures { result ≡ base_of marks.now row.now }
+/// The entries of a row's mark: none, where it has no mark.
+fn mark_of<'a>(marks: &'a [Changed], row: &Row) -> &'a [Changed]
+    requires { 0 < row.now.mark → row.now.prev + row.now.mark ≤ length marks.now }
+    ensures { result.now ≡ mark_of marks.now row.now }
 {
-    if row.marked {
-        return marks[row.prev as usize];
+    if row.mark == 0 {
+        return &marks[..0];
     }
-    [0; SITES]
+    let from = row.prev as usize;
+    &marks[from..from + usize::from(row.mark)]
 }
 
 /// Puts in each of the entries.
@@ -319,20 +332,21 @@ fn push_changes(entries: &mut Vec<Changed>, whole: bool, before: &[u32; SITES], 
     (entries.len() - from) as u8
 }
 
-/// Keeps the counts as the mark of an operation that has one, and tells where, or else the place that is given.
-fn push_mark(marks: &mut Vec<[u32; SITES]>, marked: bool, before: &[u32; SITES], last: u32) -> u32
-    requires room { marked ≡ true → vec_len marks.old < vec_capacity marks.old }
-    requires few { vec_len marks.old < MAX_ROWS }
+/// Keeps the counts, those of 0 apart, as the mark of an operation that has one, and tells where it begins, or else the place that is
+/// given; and how many they are.
+fn push_mark(marks: &mut Vec<Changed>, marked: bool, before: &Clock, last: u32) -> (u32, u8)
+    requires room { marked ≡ true → vec_len marks.old + 32 ≤ vec_capacity marks.old }
+    requires few { vec_len marks.old ≤ PART * MAX_ROWS }
     ensures items { marks.new.items ≡ marks.old.items ++ marks_of marked before.now }
-    ensures place { result ≡ (if marked then length marks.old.items else last) }
+    ensures place { result.0 ≡ (if marked then length marks.old.items else last) }
+    ensures count { result.1 ≡ length (marks_of marked before.now) }
     ensures capacity { vec_capacity marks.old ≤ vec_capacity marks.new }
 {
     if !marked {
-        return last;
+        return (last, 0);
     }
     let place = marks.len() as u32;
-    marks.push_reserved(*before);
-    place
+    (place, push_changes(marks, false, &[0; SITES], before))
 }
 
 /// How many operations of its site a site's operation of this number has to go back to one that has a mark, or is its first.
@@ -355,7 +369,7 @@ fn back_of(rows: &[Row], marked: bool, number: u32, last: u32) -> u8
 fn append(
     rows: &mut Vec<Row>,
     entries: &mut Vec<Changed>,
-    marks: &mut Vec<[u32; SITES]>,
+    marks: &mut Vec<Changed>,
     clocks: &mut [Clock; SITES],
     lasts: &mut [u32; SITES],
     numbers: &mut [u32; SITES],
@@ -365,13 +379,14 @@ fn append(
         lasts.old numbers.old }
     requires rows { vec_len rows.old < vec_capacity rows.old }
     requires entries { vec_len entries.old + 32 ≤ vec_capacity entries.old }
-    requires marks { vec_len rows.old + 1 < 8 * vec_capacity marks.old + 8 }
+    requires marks { vec_len marks.old + 4 * (unmarked numbers.old + 1) ≤ vec_capacity marks.old }
     requires few { vec_len rows.old < MAX_ROWS }
     ensures packed { IsPacked entries.new.items marks.new.items rows.new.items (logged entries.new.items rows.new.items) clocks.new
         lasts.new numbers.new }
     ensures grown { logged entries.new.items rows.new.items ≡ logged entries.old.items rows.old.items ++ op.now ∷ [] }
     ensures rows { vec_len rows.new ≡ vec_len rows.old + 1 }
     ensures entries { vec_len entries.new ≤ vec_len entries.old + 32 }
+    ensures marks { vec_len marks.new + 4 * unmarked numbers.new ≤ vec_len marks.old + 4 * (unmarked numbers.old + 1) }
     ensures row_capacity { vec_capacity rows.old ≤ vec_capacity rows.new }
     ensures entry_capacity { vec_capacity entries.old ≤ vec_capacity entries.new }
     ensures mark_capacity { vec_capacity marks.old ≤ vec_capacity marks.new }
@@ -383,11 +398,11 @@ fn append(
     let whole = number % WHOLE == 0;
     let marked = number % MARK == 0;
     let from = entries.len() as u32;
-    let before = clocks[place].counts();
-    let count = push_changes(entries, whole, before, clock);
+    let before = &clocks[place];
+    let count = push_changes(entries, whole, before.counts(), clock);
     let last = lasts[place];
     let back = back_of(rows.as_slice(), marked, number, last);
-    let prev = push_mark(marks, marked, before, last);
+    let (prev, mark) = push_mark(marks, marked, before, last);
     lasts[place] = rows.len() as u32;
     numbers[place] = number;
     clocks[place] = *clock;
@@ -398,6 +413,6 @@ fn append(
         site,
         back,
         count,
-        marked,
+        mark,
     });
 }

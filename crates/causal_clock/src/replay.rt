@@ -20,7 +20,7 @@ use std::sync::ledger::{Blank, Ledger};
 pub struct Replay<'a> {
     rows: &'a [Row],
     entries: &'a [Changed],
-    marks: &'a [[u32; SITES]],
+    marks: &'a [Changed],
 
     /// Where the walk began.
     start: usize,
@@ -54,7 +54,7 @@ impl<'a> Replay<'a> {
     pub(crate) fn new(
         rows: &'a [Row],
         entries: &'a [Changed],
-        marks: &'a [[u32; SITES]],
+        marks: &'a [Changed],
         place: usize,
     ) -> Replay<'a>
         requires rows { AreRows entries.now marks.now rows.now (logged entries.now rows.now) }
@@ -140,7 +140,7 @@ fn op_after<L: Ledger>(
     seen: &mut [Option<[u32; SITES]>; SITES],
     rows: &[Row],
     entries: &[Changed],
-    marks: &[[u32; SITES]],
+    marks: &[Changed],
     at: usize,
     steps: &mut Reads<L>,
 ) -> Op
@@ -167,7 +167,7 @@ fn counts_after<L: Ledger>(
     kept: Option<[u32; SITES]>,
     rows: &[Row],
     entries: &[Changed],
-    marks: &[[u32; SITES]],
+    marks: &[Changed],
     row: &Row,
     steps: &mut Reads<L>,
 ) -> [u32; SITES]

@@ -14,15 +14,15 @@ pub(crate) struct Row {
     pub(crate) kind: PackedKind,
     /// The first of its entries, in the vector of entries.
     pub(crate) from: u32,
-    /// The place of its mark, in the vector of marks, or else of its site's operation before it, where there is one.
+    /// The first entry of its mark, in the vector of marks, or else the place of its site's operation before it, where there is one.
     pub(crate) prev: u32,
     pub(crate) site: Site,
     /// How many operations of its site one has to go back to one that has a mark, or is its first.
     pub(crate) back: u8,
     /// How many entries it has.
     pub(crate) count: u8,
-    /// Whether it has a mark: the whole clock of its site's operation before it.
-    pub(crate) marked: bool,
+    /// How many entries its mark has, where it has one: the counts, those of 0 apart, of its site's operation before it.
+    pub(crate) mark: u8,
 }
 
 const _: () = prove!(size_of::<Row>() == 20);
