@@ -16,6 +16,8 @@ mod lists;
 #[cfg(test)]
 mod plain;
 #[cfg(test)]
+mod printed;
+#[cfg(test)]
 mod sessions;
 #[cfg(test)]
 mod splices;
