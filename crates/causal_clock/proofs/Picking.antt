@@ -12,18 +12,18 @@ use Rattle.causal_clock.specs.Stored.{changes}
 use Rattle.causal_clock.specs.Told.{AreTold, picked}
 
 -- a comparison of 32 counts tells which differ
-pub compared : (w : Bool) (before clock : List ℕ) (m : ℕ) → w ≡ false → length before ≡ 32 → length clock ≡ 32
-    → m ≡ mask_l (zip2 (λ a b. not (eqb a b)) before clock) % 2 ^ 64 → AreTold w before clock m
-compared w before clock m some lb lc e =
+pub compared : (before clock : List ℕ) (m : ℕ) → length before ≡ 32 → length clock ≡ 32
+    → m ≡ mask_l (zip2 (λ a b. not (eqb a b)) before clock) % 2 ^ 64 → AreTold false before clock m
+compared before clock m lb lc e =
     let ms : List Bool = zip2 (λ a b. not (eqb a b)) before clock in
     let long : length ms ≡ 32 = length-zip2 (λ (a b : ℕ). not (eqb a b)) before clock (lb ∙ sym lc) ∙ lb in
     let is : m ≡ mask_l ms = e ∙ mask_l-mod ms 64 (omega (arith, long)) in
-    subst (λ v. AreTold v before clock m) (sym some) (record {
+    record {
       sites = λ n l. ap (λ k. bit_at k n) is ∙ bit_mask_l ms n
           ∙ ap (λ b. cond b 1 0) (get_or-zip2 (λ (a b : ℕ). not (eqb a b)) before clock n 0 0 false
           (omega (arith, l, lb)) (omega (arith, l, lc)));
       few = subst (λ k. k < 2 ^ 32) (sym is) (subst (λ k. mask_l ms < 2 ^ k) long (mask_l-lt ms));
-    })
+    }
 
 -- all bits tell all entries
 pub all_told : (before clock : List ℕ) → AreTold true before clock 4294967295

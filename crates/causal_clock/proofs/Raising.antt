@@ -1,7 +1,6 @@
 -- A test of every site, by the bits of a comparison: whether a clock is another one, raised.
 use Rattle.std.proofs.Common.{◌≡◌, ℕ, ◌+◌, ◌*◌, ◌^◌, ◌%◌, ◌<◌, ◌≤◌, ◌⊎◌, inl, inr, Bool, true, false, cond, not, ◌∙◌}
 use Rattle.std.proofs.Common.{refl, ap, subst, sym, arith, List, length, get_or, eqb, eqb-true, eq-eqb, w64, bit_and}
-use lib.Lanes.{mask_l, zip2}
 use Rattle.std.specs.Prelude.{bytes_eq}
 use Rattle.std.specs.Int.{bit_at, bit_not}
 use Rattle.std.proofs.lemmas.Bool.{cases_eq, cases_lt}
@@ -9,9 +8,9 @@ use Rattle.std.proofs.lemmas.Bool.Decides.{same_from_decides}
 use Rattle.std.proofs.lemmas.List.{ext_get_or, length-set, get_or-set_same, get_or-set_other}
 use Rattle.std.proofs.lemmas.Nat.{and_le_l}
 use Rattle.std.proofs.lemmas.Nat.Bits.{bit_at_clear_same, bit_at_clear_other, bit_at_above, bit_at-zero, same_from_bits}
-use Rattle.std.proofs.lemmas.Simd.{length-zip2, get_or-zip2, mask_l-lt, mask_l-mod, bit_mask_l}
 use Rattle.std.proofs.lemmas.Slice.Eq.{bytes_eq-Decides}
 use Rattle.opid.specs.Clocks.{entry, raised}
+use Rattle.causal_clock.specs.Told.{AreTold}
 
 -- a bit as a number
 abbrev bit_of : Bool → ℕ
@@ -30,9 +29,9 @@ no_bit a b e = ap (λ t. bit_of (not t)) (eq-eqb a b e)
 -- where the site's count is raised, and no bit is left of those that tell which counts differ, but for the site's, the first clock is
 -- the second one, raised
 pub raised_by_bits : (own : ℕ) (xs ys : List ℕ) (m : ℕ) → own < 32 → length xs ≡ 32 → length ys ≡ 32
-    → m ≡ mask_l (zip2 (λ a b. not (eqb a b)) xs ys) % 2 ^ 64 → entry xs own ≡ entry ys own + 1
+    → AreTold false xs ys m → entry xs own ≡ entry ys own + 1
     → eqb (bit_and m (bit_not w64 (1 * 2 ^ own % 2 ^ 64))) 0 ≡ bytes_eq xs (raised ys own)
-raised_by_bits own xs ys m o lx ly e next =
+raised_by_bits own xs ys m o lx ly t next =
     same_from_decides (eqb left 0) (bytes_eq xs (raised ys own))
     ((λ h. same (eqb-true left 0 h)), (λ q. eq-eqb left 0 (none q)))
     (bytes_eq-Decides xs (raised ys own))
@@ -40,18 +39,8 @@ raised_by_bits own xs ys m o lx ly e next =
     left : ℕ
     left = bit_and m (bit_not w64 (1 * 2 ^ own % 2 ^ 64))
 
-    long : length (zip2 (λ (a b : ℕ). not (eqb a b)) xs ys) ≡ 32
-    long = length-zip2 (λ (a b : ℕ). not (eqb a b)) xs ys (lx ∙ sym ly) ∙ lx
-
-    few : m < 2 ^ 32
-    few = subst (λ k. k < 2 ^ 32) (sym (e ∙ mask_l-mod (zip2 (λ (a b : ℕ). not (eqb a b)) xs ys) 64 (omega (arith, long))))
-        (subst (λ k. mask_l (zip2 (λ (a b : ℕ). not (eqb a b)) xs ys) < 2 ^ k) long (mask_l-lt (zip2 (λ (a b : ℕ). not (eqb a b)) xs ys)))
-
     bit : (k : ℕ) → k < 32 → bit_at m k ≡ bit_of (not (eqb (get_or xs k 0) (get_or ys k 0)))
-    bit k l =
-        ap (λ v. bit_at v k) (e ∙ mask_l-mod (zip2 (λ (a b : ℕ). not (eqb a b)) xs ys) 64 (omega (arith, long)))
-        ∙ bit_mask_l (zip2 (λ (a b : ℕ). not (eqb a b)) xs ys) k
-        ∙ ap bit_of (get_or-zip2 (λ (a b : ℕ). not (eqb a b)) xs ys k 0 0 false (omega (arith, l, lx)) (omega (arith, l, ly)))
+    bit k l = t.sites k l
 
     same : left ≡ 0 → xs ≡ raised ys own
     same h = ext_get_or 0 xs (raised ys own) (lx ∙ sym (length-set ys own (entry ys own + 1) ∙ ly))
@@ -74,4 +63,4 @@ raised_by_bits own xs ys m o lx ly e next =
             ∙ no_bit (get_or xs k 0) (get_or ys k 0)
             (ap (λ (zs : List ℕ). get_or zs k 0) q ∙ get_or-set_other ys own k (entry ys own + 1) 0 d)
         at k (inr d) (inr past) = bit_at_above left 32 k
-            (omega (arith, few, and_le_l m (bit_not w64 (1 * 2 ^ own % 2 ^ 64)))) past
+            (omega (arith, t.few, and_le_l m (bit_not w64 (1 * 2 ^ own % 2 ^ 64)))) past

@@ -10,7 +10,7 @@ ghost use Rattle.causal_clock.specs.Packed.{AreReserved, AreRows, IsPacked, chan
 ghost use Rattle.causal_clock.specs.Packed.{row_at, logged, unmarked};
 
 use crate::changed::Changed;
-use crate::clock::Clock;
+use crate::clock::{Clock, differing};
 use crate::op::Op;
 use crate::packed_kind::{PackedKind, site_of};
 use crate::reads::Reads;
@@ -19,7 +19,6 @@ use crate::row::{Row, read};
 use opid::{Refusal, SITES};
 use std::alloc::Global;
 use std::marker::Model;
-use std::simd::prelude::*;
 use std::sync::ledger::Ledger;
 
 /// No log is longer: its entries have places of 32 bits.
@@ -300,17 +299,14 @@ pub(crate) fn told_by(row: &Row, counts: [u32; SITES]) -> Op
     Op::told(row.site, Clock::of_counts(counts), row.kind.kind())
 }
 
-/// Which entries are stored, a bit for each site from the lowest on: all are, or those that differ from the ones before. All counts
-/// are compared at once.
+/// Which entries are stored, a bit for each site from the lowest on: all are, or those that differ from the ones before.
 fn told_sites(whole: bool, before: &[u32; SITES], counts: &[u32; SITES]) -> u64
     ensures { AreTold whole before.now counts.now result }
 {
     if whole {
         return 0xffff_ffff;
     }
-    u32x32::from_slice(before)
-        .simd_ne(u32x32::from_slice(counts))
-        .to_bitmask()
+    differing(before, counts)
 }
 
 /// Adds the entries of the clock that differ from those before, or all, and tells how many. Takes a step for each entry that is added.
