@@ -244,7 +244,8 @@ impl Replica {
         self.put_copy(&op)
     }
 
-    /// Takes in an operation as `put` does, where the caller keeps it: it is copied only where it is held back.
+    /// Takes in an operation as `put` does, where the caller keeps it: it is copied whole only where it is held back. An integration
+    /// stores its parts, and copies its clock once.
     pub fn put_copy(&mut self, op: &Op) -> Result<Delivery, Refusal>
         ensures outcome { IfOk result (λ d. (deliver self.old.site self.old.log self.old.held op.now).outcome ≡ Ok d) }
         ensures next { IfOk result (λ d. self.new ≡ record self.old {
@@ -279,8 +280,8 @@ impl Replica {
     }
 
     /// Reserves memory for `n` operations, those that are held back included: while fewer are held than there is room
-    /// for, `put` isn't refused with `Memory`. Constant time; nothing grows where so many are reserved already. Refused with `Memory`, only
-    /// where fewer are.
+    /// for, `put` and `put_copy` aren't refused with `Memory`. Constant time; nothing grows where so many are reserved already. Refused
+    /// with `Memory`, only where fewer are.
     pub fn reserve(&mut self, n: usize) -> Result<(), Refusal>
         ensures ok { OnOk result (self.new ≡ record self.old { room = max self.old.room n }) }
         ensures err { OnErr result (self.new ≡ self.old) }

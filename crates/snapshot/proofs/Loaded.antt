@@ -110,7 +110,16 @@ all_told runs front vs i total h so_far =
     nothing true = ap Some (append-nil front)
     nothing false = ap Some (append-nil front)
 
--- each of a lawful log's next operations may follow those before it, so a value whose operations may not is none of its
+-- the next operations of a lawful log may follow those before them
+pub no_part : (front ys zs log : List Operation) → (front ++ ys) ++ zs ≡ log → IsLawful log → length log ≤ 131072
+    → (GoesOn front ys → length front + length ys ≤ 131072 → ⊥) → ⊥
+no_part front ys zs log e lawful few not =
+    let both : take (length (front ++ ys)) log ≡ front ++ ys =
+    ap (take (length (front ++ ys))) (sym e) ∙ take-append_seam (front ++ ys) zs in
+    not (goes_on_after [] front ys (subst IsLawful both (IsLawful-take log (length (front ++ ys)) lawful)))
+    (omega (arith, few, ap (length {A = Operation}) e, length-append (front ++ ys) zs, length-append front ys))
+
+-- a value whose operations may not follow is none of a lawful log's
 pub refuted : (runs : Bool) (front : List Operation) (vs : List Value) (i : ℕ) (v : Value) (log : List Operation) → i < length vs
     → v ≡ get_or vs i v → told_from runs front (drop i vs) ≡ Some log → IsLawful log → length log ≤ 131072
     → ((xs : List Operation) → value_told runs (view v) ≡ Ok xs → GoesOn front xs → length front + length xs ≤ 131072 → ⊥) → ⊥
@@ -118,16 +127,10 @@ refuted runs front vs i v log h at so_far lawful few not =
     go (value_told runs (view v)) (result_ok (ops_told runs (items_told (items_view (drop (i + 1) vs))))) refl
     (sym (told_at runs front vs i v h at) ∙ so_far)
   where
-    may : (ys zs : List Operation) → value_told runs (view v) ≡ Ok ys → (front ++ ys) ++ zs ≡ log → ⊥
-    may ys zs is e =
-        let both : take (length (front ++ ys)) log ≡ front ++ ys =
-        ap (take (length (front ++ ys))) (sym e) ∙ take-append_seam (front ++ ys) zs in
-        not ys is (goes_on_after [] front ys (subst IsLawful both (IsLawful-take log (length (front ++ ys)) lawful)))
-        (omega (arith, few, ap (length {A = Operation}) e, length-append (front ++ ys) zs, length-append front ys))
-
     go : (r : Result (List Operation) Refusal) (rest : Option (List Operation)) → value_told runs (view v) ≡ r
         → option_map (λ zs. front ++ zs) (then r rest) ≡ Some log → ⊥
-    go (Ok ys) (Some zs) is e = may ys zs is (append_assoc front ys zs ∙ (let same : front ++ (ys ++ zs) ≡ log = cc in same))
+    go (Ok ys) (Some zs) is e =
+        no_part front ys zs log (append_assoc front ys zs ∙ (let same : front ++ (ys ++ zs) ≡ log = cc in same)) lawful few (not ys is)
     go (Ok ys) None is e = cc
     go (Err f) rest is e = cc
 

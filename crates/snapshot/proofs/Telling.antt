@@ -1,20 +1,25 @@
 -- The log that tokens tell, one object after another.
 use Rattle.std.proofs.Common.{◌≡◌, ℕ, Bool, true, false, List, [], ◌∷◌, ◌++◌, Option, Some, None, Result, Ok, Err, refl, sym, ap, ◌∙◌}
-use Rattle.std.proofs.Common.{subst, append_assoc, append-nil, codes, lt-ltb, ◌^◌}
+use Rattle.std.proofs.Common.{subst, append_assoc, append-nil, codes, lt-ltb, ◌^◌, ◌≤◌, length}
 use Rattle.std.specs.Result.{result_ok}
+use Rattle.std.specs.Str.{IsUtf8}
+use Rattle.json.specs.Lex.{tokens}
 use Rattle.json.specs.Token.{Token, begin_object, end_object, begin_array, end_array, key}
 use Rattle.serde_json.specs.Data.{Data, number, array, object, unsigned, no_members}
 use Rattle.opid.specs.declared.refusal.Refusal.{Refusal}
 use Rattle.opid.specs.Operations.{Operation}
+use Rattle.opid.specs.Lawful.{IsLawful}
 use Rattle.wire_json.specs.Members.{◌>>=◌}
 use Rattle.wire_json.specs.Packing.{typed_behind}
 use Rattle.wire_json.specs.Coming.{Comes, ReadsItem, items_of, put_entries}
 use Rattle.wire_json.proofs.Come.{array_comes, object_comes, one_more_item}
 use Rattle.wire_json.proofs.Spelt.{told_back}
 use Rattle.wire_json.proofs.Calling.{five_deep, whole}
-use Rattle.snapshot.specs.Snapshot.{ops_told}
+use Rattle.wire_json.specs.Request.{json_of}
+use Rattle.wire_json.proofs.Steps.{json_read}
+use Rattle.snapshot.specs.Snapshot.{StandsFor, StandsForNone, ops_told, told_by, told_in}
 use Rattle.snapshot.specs.Values.{value_told}
-use Rattle.snapshot.specs.Coming.{ReadsFormat, TellsLog, ReadsLog}
+use Rattle.snapshot.specs.Coming.{ReadsFormat, OpensLog, TellsLog, ReadsLog}
 use Rattle.snapshot.proofs.Loaded.{then, first_told, only_ok}
 
 -- ---- one more value
@@ -73,18 +78,33 @@ log_more runs old now mid new log after x more run t opened i single lone grown 
 
 -- ---- the whole text
 
-pub log_read : (all a b c d e f g : List Token) (runs : Bool) (log : List Operation) → all ≡ begin_object ∷ a
-    → a ≡ key (codes "format") ∷ b → ReadsFormat b runs c → c ≡ key (codes "ops") ∷ d → d ≡ begin_array ∷ e
-    → TellsLog runs e log (end_array ∷ f) → f ≡ end_object ∷ g → g ≡ [] → ReadsLog all log
-log_read all a b c d e f g runs log opened first r second list t closed over =
+pub log_read : (all e f : List Token) (runs : Bool) (log : List Operation) → OpensLog all runs e
+    → TellsLog runs e log (end_array ∷ f) → f ≡ end_object ∷ [] → ReadsLog all log
+log_read all e f runs log o t last =
+    let r : ReadsFormat o.number runs o.list = o.format in
     let members : List (List ℕ × Data) = (codes "format", number (unsigned r.n)) ∷ (codes "ops", array (items_of t.values)) ∷ [] in
-    let last : f ≡ end_object ∷ [] = closed ∙ ap (λ ts. end_object ∷ ts) over in
     let value : Data = object (put_entries members no_members) in
-    let items : Comes 5 d (array (items_of t.values)) f =
-    subst (λ ts. Comes 5 ts (array (items_of t.values)) f) (sym list) (array_comes 4 e t.values f t.told) in
+    let items : Comes 5 (begin_array ∷ e) (array (items_of t.values)) f = array_comes 4 e t.values f t.told in
     record {
       value = value;
-      is = whole all value (subst (λ ts. Comes 6 ts value []) (sym opened) (object_comes 5 a members []
-          (b, c, first, five_deep b c (number (unsigned r.n)) r.first, (d, f, second, items, last))));
+      is = whole all value (subst (λ ts. Comes 6 ts value []) (sym o.first) (object_comes 5 (key (codes "format") ∷ o.number) members [] (
+        o.number,
+        o.list,
+        refl,
+        five_deep o.number o.list (number (unsigned r.n)) r.first,
+        (begin_array ∷ e, f, o.last, items, last),
+      )));
       tells = rw (lt-ltb r.n (2 ^ 32) r.small) (rw r.is (rw (told_back t.values) t.are));
     }
+
+-- where the bytes' tokens tell this log, the bytes do
+pub bytes_told : (bytes : List ℕ) (log : List Operation) → IsUtf8 bytes → ReadsLog (tokens bytes) log → told_in bytes ≡ Ok log
+bytes_told bytes log utf8 read = ap (λ r. r >>= told_by) (json_read bytes read.value utf8 read.is) ∙ read.tells
+
+-- no other log than that which they tell
+pub none_but : (bytes : List ℕ) (log : List Operation) → told_in bytes ≡ Ok log → (IsLawful log → length log ≤ 131072 → ⊥)
+    → StandsForNone bytes
+none_but bytes log told not other stands =
+    let theirs : told_in bytes ≡ Ok other = stands.told in
+    let same : other ≡ log = cc in
+    not (subst IsLawful same stands.lawful) (subst (λ (l : List Operation). length l ≤ 131072) same stands.few)

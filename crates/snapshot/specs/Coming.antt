@@ -1,6 +1,6 @@
 -- The logs that tokens tell. No public clause cites this: it is the code's alone.
-use Rattle.std.specs.Prelude.{◌≡◌, ℕ, ◌<◌, ◌^◌, Bool, List, Ok}
-use Rattle.json.specs.Token.{Token}
+use Rattle.std.specs.Prelude.{◌≡◌, ℕ, ◌<◌, ◌^◌, Bool, List, ◌∷◌, Ok, codes}
+use Rattle.json.specs.Token.{Token, key, begin_object, begin_array}
 use Rattle.serde_json.specs.Data.{Data, number, unsigned}
 use Rattle.opid.specs.Operations.{Operation}
 use Rattle.wire_json.specs.Flat.{value_of_tokens}
@@ -14,6 +14,14 @@ pub record ReadsFormat (old : List Token) (runs : Bool) (new : List Token) : Typ
   pub first : Comes 1 old (number (unsigned n)) new
   pub small : n < 2 ^ 32
   pub is : has_runs n ≡ Ok runs
+
+-- of the tokens `old` the brackets that open an object and its operations' list come first, with the format between, and `new` are the rest
+pub record OpensLog (old : List Token) (runs : Bool) (new : List Token) : Type 0 where
+  pub number : List Token
+  pub list : List Token
+  pub first : old ≡ begin_object ∷ key (codes "format") ∷ number
+  pub format : ReadsFormat number runs list
+  pub last : list ≡ key (codes "ops") ∷ begin_array ∷ new
 
 -- of the tokens `old` values come first that tell this log, and `new` are the rest
 pub record TellsLog (runs : Bool) (old : List Token) (log : List Operation) (new : List Token) : Type 0 where

@@ -3,6 +3,7 @@
 //! Which log a text stands for is told by `specs/Snapshot.antt`.
 #![tactic(auto)]
 
+mod gathered;
 pub mod laws;
 mod loading;
 mod saving;

@@ -39,9 +39,10 @@ pub fn load(alloc: Global, bytes: &[u8], site: Site) -> Result<Replica, Refusal>
 /// The document over the log that the bytes stand for.
 ///
 /// Refused with `BadSnapshot` exactly where they stand for none, and with `Memory` in the place of any answer. Takes time in
-/// proportion to the bytes, and the steps of `Doc::integrate` for each operation: a logarithmic number. A text that is spelled as
-/// `save` and `write_op` spell, but for spaces and escapes, is read byte by byte, with no memory beside the document; any other, and
-/// one that stands for no log, is then read anew as a JSON value, which is in memory as a whole.
+/// proportion to the bytes, and the steps of `Doc::integrate` for each operation: a logarithmic number. Nothing is integrated before
+/// the whole text is read. One that is spelled as `save` and `write_op` spell, but for spaces and escapes, is read byte by byte, and
+/// each of its objects is kept in some 200 bytes till it is integrated; any other is read as a JSON value, which is in memory as a
+/// whole.
 pub fn load_doc(alloc: Global, bytes: &[u8]) -> Result<Doc, Refusal>
     ensures stands { IfOk result (λ doc. StandsFor bytes.now doc.log) }
     ensures unreserved { IfOk result (λ doc. doc.room ≡ 0) }
@@ -115,7 +116,7 @@ fn append_value(alloc: Global, doc: &mut Doc, value: &Value, runs: bool) -> Resu
 }
 
 // Appends operations of which each may follow those before it.
-fn append_all(doc: &mut Doc, ops: &[Op]) -> Result<(), Refusal>
+pub(crate) fn append_all(doc: &mut Doc, ops: &[Op]) -> Result<(), Refusal>
     ensures grown { OnOk result (doc.new.log ≡ doc.old.log ++ ops.now) }
     ensures unreserved { OnOk result (doc.old.room ≡ 0 → doc.new.room ≡ 0) }
     ensures cause { IfErr result (λ e. (e ≡ Memory)
@@ -128,7 +129,7 @@ fn append_all(doc: &mut Doc, ops: &[Op]) -> Result<(), Refusal>
 }
 
 // Appends an operation that may follow the log.
-pub(crate) fn append(doc: &mut Doc, op: &Op) -> Result<(), Refusal>
+fn append(doc: &mut Doc, op: &Op) -> Result<(), Refusal>
     ensures grown { OnOk result (doc.new ≡ record { log = doc.old.log ++ op.now ∷ []; room = doc.old.room - 1 }) }
     ensures cause { IfErr result (λ e. (e ≡ Memory) ⊎ (MayFollow doc.old.log op.now → length doc.old.log < 131072 → ⊥)) }
 {

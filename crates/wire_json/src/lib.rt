@@ -37,5 +37,5 @@ pub use plain::{MAX_TEXT, PlainReader};
 pub use reading::{
     MAX_REQUEST_BYTES, RequestReader, check_keys, read_number, read_request, read_value,
 };
-pub use spelled::{SpelledItem, rest_of_item};
+pub use spelled::{SpelledItem, is_closed, rest_of_item};
 pub use writing::write_reply;

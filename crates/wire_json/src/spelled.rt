@@ -23,9 +23,9 @@ pub(crate) fn is_one(a: &str, b: &str) -> bool
     a == b
 }
 
-// Whether just the bracket that closes the object is left.
+/// Whether just the bracket that closes the object is left, which is then taken. Constant time, but for spaces behind it.
 #[inline(always)]
-pub(crate) fn is_closed(reader: &mut PlainReader<'_>) -> bool
+pub fn is_closed(reader: &mut PlainReader<'_>) -> bool
     ensures { result ≡ true → reader.old ≡ end_object ∷ [] }
 {
     reader.take_end_object() && reader.is_over()

@@ -1,26 +1,27 @@
-use Rattle.std.proofs.Common.{◌≡◌, Some, Ok, Option, ◌∙◌, List, ap, subst}
+use Rattle.std.proofs.Common.{◌≡◌, ◌⊎◌, Ok, Option, Vec, Global, ◌∙◌, List, ap, subst, sym, inl, inr, length, ◌≤◌}
 use Rattle.std.specs.Prelude.{IfSome}
 use Rattle.json.specs.Token.{Token}
 use Rattle.json.specs.Lex.{tokens}
-use Rattle.wire_json.specs.Flat.{value_of_tokens}
-use Rattle.wire_json.specs.Members.{◌>>=◌}
-use Rattle.wire_json.specs.Request.{json_of}
-use Rattle.wire_json.proofs.Steps.{json_read}
-use Rattle.versions.specs.Document.{Document}
-use Rattle.snapshot.specs.Snapshot.{told_by}
+use Rattle.opid.specs.Operations.{Operation}
+use Rattle.wire_json.specs.Packing.{unfolded_all}
+use Rattle.snapshot.specs.declared.gathered.Gathered.{Gathered}
+use Rattle.snapshot.specs.Snapshot.{told_in}
 use Rattle.snapshot.specs.Coming.{ReadsLog}
+use Rattle.snapshot.proofs.Telling.{bytes_told, none_but}
 use Rattle.snapshot.proofs.spelled.read_spelled.Goals as goal
 
-pub returns-in-Some-clause-stands : goal.returns-in-Some-clause-stands
-returns-in-Some-clause-stands c =
-    let read : ReadsLog c.new-reader.result c.in-Some.doc.log =
-    subst (λ (o : Option Document). IfSome o (λ doc. ReadsLog c.new-reader.result doc.log)) c.in-Some.is c.in_ok-doc.ensures.told in
-    let value : json_of c.args.bytes.now ≡ Ok read.value =
-    json_read c.args.bytes.now read.value c.in-Ok.ensures.cases.1
-    (subst (λ (ts : List Token). value_of_tokens ts ≡ Some read.value)
-    (c.new-reader.ensures ∙ ap tokens c.in-Ok.ensures.cases.0) read.is) in
+pub returns-in-Ok-integrate_gathered-clause-stands :
+    goal.returns-in-Ok-integrate_gathered-clause-stands
+returns-in-Ok-integrate_gathered-clause-stands c =
+    let log : List Operation = unfolded_all c.in-Some.items.items in
+    let read : ReadsLog c.new-reader.result log =
+    subst (λ (o : Option (Vec Gathered Global)). IfSome o (λ items. ReadsLog c.new-reader.result (unfolded_all items.items)))
+    c.in-Some.is c.in_ok-items.ensures.told in
+    let told : told_in c.args.bytes.now ≡ Ok log =
+    bytes_told c.args.bytes.now log c.in-Ok.ensures.cases.1
+    (subst (λ (ts : List Token). ReadsLog ts log) (c.new-reader.ensures ∙ ap tokens c.in-Ok.ensures.cases.0) read) in
     record {
-      told = ap (λ r. r >>= told_by) value ∙ read.tells;
+      told = told ∙ ap Ok (sym (c.in-Ok-integrate_gathered.ensures.told ∙ ap unfolded_all c.as_slice.ensures.value));
       lawful = c.version.ensures.lawful;
       few = c.version.ensures.within;
     }

@@ -1,10 +1,7 @@
 -- The log so far is told by the objects so far.
-use Rattle.std.proofs.Common.{◌≡◌}
+use Rattle.wire_json.specs.Packing.{unfolded_all}
 use Rattle.snapshot.specs.Coming.{TellsLog}
 use Rattle.snapshot.proofs.spelled.rest_of_log.Given as goal
 
 abbrev pub invariant-loop : goal.invariant-loop
-invariant-loop l = record {
-  told : TellsLog l.runs l.initial.reader l.doc.log l.reader;
-  unreserved : l.doc.room ≡ 0;
-}
+invariant-loop l = TellsLog l.runs l.initial.reader (unfolded_all l.items.items) l.reader
