@@ -87,21 +87,21 @@ number_first p s r h is ended = ap (punctuate p) (lex-number s r is ended) ∙ p
 
 -- ---- texts whose bytes stand for themselves
 
-no_quote : (x : ℕ) → is_plain x ≡ true → (x == 34) ≡ false
+pub no_quote : (x : ℕ) → is_plain x ≡ true → (x == 34) ≡ false
 no_quote x h = go (x == 34) refl
   where
     go : (t : Bool) → (x == 34) ≡ t → t ≡ false
     go true e = let no : is_plain 34 ≡ true = subst (λ y. is_plain y ≡ true) (eqb-true x 34 e) h in cc
     go false e = refl
 
-no_backslash : (x : ℕ) → is_plain x ≡ true → (x == 92) ≡ false
+pub no_backslash : (x : ℕ) → is_plain x ≡ true → (x == 92) ≡ false
 no_backslash x h = go (x == 92) refl
   where
     go : (t : Bool) → (x == 92) ≡ t → t ≡ false
     go true e = let no : is_plain 92 ≡ true = subst (λ y. is_plain y ≡ true) (eqb-true x 92 e) h in cc
     go false e = refl
 
-no_control : (x : ℕ) → is_plain x ≡ true → nat_lt x 32 ≡ false
+pub no_control : (x : ℕ) → is_plain x ≡ true → nat_lt x 32 ≡ false
 no_control x h = grind (arith, nat_tests)
 
 content_plain : (s r : List ℕ) → list_all is_plain s ≡ true → content plain (s ++ 34 ∷ r) ≡ Some s
@@ -117,7 +117,7 @@ in_text true w x xs k = refl
 in_text false true x xs k = refl
 in_text false false x xs k = refl
 
-passed : (x : ℕ) (xs : List ℕ) → is_plain x ≡ true → lex in_string (x ∷ xs) ≡ lex in_string xs
+pub passed : (x : ℕ) (xs : List ℕ) → is_plain x ≡ true → lex in_string (x ∷ xs) ≡ lex in_string xs
 unfolding lex
 passed x xs h =
     rw (no_quote x h) (rw (no_backslash x h) (in_text (is_operator x) (is_space x) x xs (λ m. lex m xs)))
@@ -308,118 +308,10 @@ number_written bytes at count n within some most all is first ended =
       within = within;
     }
 
--- ---- texts at a place
-
-prepended : (xs ys : List ℕ) (o : Option (List ℕ)) → prepend xs (prepend ys o) ≡ prepend (xs ++ ys) o
-prepended xs ys None = refl
-prepended xs ys (Some zs) = ap Some (sym (append_assoc xs ys zs))
-
-prepended_none : (o : Option (List ℕ)) → o ≡ prepend [] o
-prepended_none None = refl
-prepended_none (Some zs) = refl
-
-pub plain_stretch : (s r : List ℕ) → list_all is_plain s ≡ true → content plain (s ++ r) ≡ prepend s (content plain r)
-unfolding content
-plain_stretch [] r h = prepended_none (content plain r)
-plain_stretch (x ∷ s) r h =
-    let here = and_parts (is_plain x) (list_all is_plain s) h in
-    rw (no_quote x here.0) (rw (no_backslash x here.0) (rw (no_control x here.0)
-    (ap (prepend (x ∷ [])) (plain_stretch s r here.1) ∙ prepended (x ∷ []) s (content plain r))))
-
-pub stretch_passed : (s r : List ℕ) → list_all is_plain s ≡ true → lex in_string (s ++ r) ≡ lex in_string r
-stretch_passed [] r h = refl
-stretch_passed (x ∷ s) r h =
-    let here = and_parts (is_plain x) (list_all is_plain s) h in
-    passed x (s ++ r) here.0 ∙ stretch_passed s r here.1
-
-pub quote_ends : (r : List ℕ) → (content plain (34 ∷ r) ≡ Some []) × (lex in_string (34 ∷ r) ≡ lex between r)
-unfolding content lex
-quote_ends r = (refl, refl)
-
-pub escape_told : (e c : ℕ) (r : List ℕ) → short_escape e ≡ Some c → (e == 117) ≡ false
-    → content plain (92 ∷ e ∷ r) ≡ prepend (c ∷ []) (content plain r)
-unfolding content
-escape_told e c r is short = rw short (rw is refl)
-
-pub escape_passed : (e : ℕ) (r : List ℕ) → lex in_string (92 ∷ e ∷ r) ≡ lex in_string r
-unfolding lex
-escape_passed e r = refl
-
-split_at : (bytes : List ℕ) (at end : ℕ) → at ≤ end → drop at bytes ≡ take (end - at) (drop at bytes) ++ drop end bytes
+pub split_at : (bytes : List ℕ) (at end : ℕ) → at ≤ end → drop at bytes ≡ take (end - at) (drop at bytes) ++ drop end bytes
 split_at bytes at end order =
     sym (take-append-drop (end - at) (drop at bytes))
     ∙ ap (λ r. take (end - at) (drop at bytes) ++ r) (drop-drop (end - at) at bytes ∙ ap (λ n. drop n bytes) (omega (arith, order)))
-
-one_more : (xs : List ℕ) (n : ℕ) → n < length xs → list_all is_plain (take n xs) ≡ true → is_plain (get_or xs n 0) ≡ true
-    → list_all is_plain (take (suc n) xs) ≡ true
-one_more [] n within h e = absurd (omega (arith, within))
-one_more (x ∷ xs) zero within h e = rw e refl
-one_more (x ∷ xs) (suc n) within h e =
-    let here = and_parts (is_plain x) (list_all is_plain (take n xs)) h in
-    rw here.0 (one_more xs n (omega (arith, within)) here.1 e)
-
-pub plain_more : (bytes : List ℕ) (at end : ℕ) → at ≤ end → end < length bytes
-    → list_all is_plain (take (end - at) (drop at bytes)) ≡ true → is_plain (slice_index bytes end) ≡ true
-    → list_all is_plain (take (end + 1 - at) (drop at bytes)) ≡ true
-plain_more bytes at end order within h e =
-    let size : end - at < length (drop at bytes) = omega (arith, length-drop at bytes, order, within) in
-    let here : get_or (drop at bytes) (end - at) 0 ≡ get_or bytes end 0 =
-    get_or-drop at bytes (end - at) 0 ∙ ap (λ n. get_or bytes n 0) (omega (arith, order)) in
-    let next : end + 1 - at ≡ suc (end - at) = omega (arith, order) in
-    subst (λ n. list_all is_plain (take n (drop at bytes)) ≡ true) (sym next)
-    (one_more (drop at bytes) (end - at) size h (ap is_plain here ∙ e))
-
-pub stops_low : (x : ℕ) → is_plain x ≡ false → x < 128
-stops_low x h = grind (arith, nat_tests)
-
-stretch : (bytes front mid : List ℕ) (at m end : ℕ) → m ≤ end → list_all is_plain (take (end - m) (drop m bytes)) ≡ true
-    → content plain (drop at bytes) ≡ prepend front (content plain (drop m bytes))
-    → lex in_string (drop at bytes) ≡ lex in_string (drop m bytes) → mid ≡ front ++ take (end - m) (drop m bytes)
-    → (content plain (drop at bytes) ≡ prepend mid (content plain (drop end bytes)))
-    × (lex in_string (drop at bytes) ≡ lex in_string (drop end bytes))
-stretch bytes front mid at m end order all told passes is =
-    let s : List ℕ = take (end - m) (drop m bytes) in
-    let split = split_at bytes m end order in (
-      told ∙ ap (prepend front) (ap (content plain) split ∙ plain_stretch s (drop end bytes) all)
-          ∙ prepended front s (content plain (drop end bytes)) ∙ ap (λ xs. prepend xs (content plain (drop end bytes))) (sym is),
-      passes ∙ ap (lex in_string) split ∙ stretch_passed s (drop end bytes) all,
-    )
-
-pub text_ended : (bytes front mid : List ℕ) (at m end : ℕ) → m ≤ end → list_all is_plain (take (end - m) (drop m bytes)) ≡ true
-    → content plain (drop at bytes) ≡ prepend front (content plain (drop m bytes))
-    → lex in_string (drop at bytes) ≡ lex in_string (drop m bytes) → mid ≡ front ++ take (end - m) (drop m bytes)
-    → slice_index bytes end ≡ 34 → WritesText bytes at mid end
-text_ended bytes front mid at m end order all told passes is quote =
-    let so_far = stretch bytes front mid at m end order all told passes is in
-    let here = peeked bytes end 34 quote (omega arith) in
-    let over = quote_ends (drop (end + 1) bytes) in
-    record {
-      is = so_far.0 ∙ ap (λ r. prepend mid (content plain r)) here.1 ∙ ap (prepend mid) over.0 ∙ ap Some (append-nil mid);
-      closed = so_far.1 ∙ ap (lex in_string) here.1 ∙ over.1;
-      within = here.0;
-    }
-
-pub text_goes_on : (bytes front mid new : List ℕ) (at m end e ch : ℕ) → m ≤ end
-    → list_all is_plain (take (end - m) (drop m bytes)) ≡ true
-    → content plain (drop at bytes) ≡ prepend front (content plain (drop m bytes))
-    → lex in_string (drop at bytes) ≡ lex in_string (drop m bytes) → mid ≡ front ++ take (end - m) (drop m bytes)
-    → slice_index bytes end ≡ 92 → slice_index bytes (end + 1) ≡ e → 0 < e → short_escape e ≡ Some ch → (e == 117) ≡ false
-    → new ≡ mid ++ ch ∷ []
-    → (content plain (drop at bytes) ≡ prepend new (content plain (drop (end + 2) bytes)))
-    × (lex in_string (drop at bytes) ≡ lex in_string (drop (end + 2) bytes)) × (end + 1 < length bytes)
-text_goes_on bytes front mid new at m end e ch order all told passes is slash next some stands short grown =
-    let so_far = stretch bytes front mid at m end order all told passes is in
-    let here = peeked bytes end 92 slash (omega arith) in
-    let then = peeked bytes (end + 1) e next some in
-    let behind : drop (end + 1 + 1) bytes ≡ drop (end + 2) bytes = ap (λ n. drop n bytes) (omega arith) in
-    let both : drop end bytes ≡ 92 ∷ e ∷ drop (end + 2) bytes =
-    here.1 ∙ ap (λ r. 92 ∷ r) (then.1 ∙ ap (λ r. e ∷ r) behind) in (
-      so_far.0 ∙ ap (λ r. prepend mid (content plain r)) both ∙ ap (prepend mid) (escape_told e ch (drop (end + 2) bytes) stands short)
-          ∙ prepended mid (ch ∷ []) (content plain (drop (end + 2) bytes))
-          ∙ ap (λ xs. prepend xs (content plain (drop (end + 2) bytes))) (sym grown),
-      so_far.1 ∙ ap (lex in_string) both ∙ escape_passed e (drop (end + 2) bytes),
-      then.0,
-    )
 
 -- ---- what is taken at a place: `bytes` are those of `text`
 

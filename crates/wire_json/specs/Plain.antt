@@ -1,8 +1,10 @@
 -- What is left of a JSON text that is read byte by byte, as tokens (RFC 8259): the value of a `PlainReader`, and what a key may have.
-use Rattle.std.specs.Prelude.{◌≡◌, ◌≤◌, ◌<◌, ◌^◌, ◌+◌, ℕ, List, ◌∷◌, length, drop, Bool, true, nat_le, ◌&&◌, not, ◌==◌, Some}
+use Rattle.std.specs.Prelude.{◌≡◌, ◌≤◌, ◌<◌, ◌^◌, ◌+◌, ◌-◌, ℕ, List, ◌∷◌, length, take, drop, get_or, Bool, true, nat_le, ◌&&◌, not}
+use Rattle.std.specs.Prelude.{◌==◌, Some, encode_utf8}
+use Rattle.std.specs.List.{list_all}
 use Rattle.json.specs.Token.{Token, number}
-use Rattle.json.specs.Text.{content, plain}
-use Rattle.json.specs.Lex.{Place, fresh, after_value, after_comma, between, in_string, lex, punctuate, may_begin}
+use Rattle.json.specs.Text.{Within, code_unit, content, plain, prepend}
+use Rattle.json.specs.Lex.{Mode, Place, fresh, after_value, after_comma, between, in_string, lex, punctuate, may_begin}
 use Rattle.serde_json.specs.Data.{unsigned}
 use Rattle.serde_json.specs.Read.{number_of}
 use Rattle.wire_json.specs.declared.plain.Place as standing
@@ -35,3 +37,19 @@ pub record WritesText (bytes : List ℕ) (at : ℕ) (told : List ℕ) (end : ℕ
   pub is : content plain (drop at bytes) ≡ Some told
   pub closed : lex in_string (drop at bytes) ≡ lex between (drop (end + 1) bytes)
   pub within : end < length bytes
+
+-- four hex digits from a place of the bytes on spell this code unit
+pub record WritesUnit (bytes : List ℕ) (at : ℕ) (unit : ℕ) : Type 0 where
+  pub is : code_unit (get_or bytes at 0) (get_or bytes (at + 1) 0) (get_or bytes (at + 2) 0) (get_or bytes (at + 3) 0) ≡ Some unit
+  pub small : unit < 65536
+  pub plainly : list_all is_plain (take 4 (drop at bytes)) ≡ true
+  pub ascii : get_or bytes (at + 3) 0 < 128
+  pub within : at + 4 ≤ length bytes
+
+-- from a place of the bytes on, where a text goes on so, this character is written, up to another place
+pub record WritesCharacter (how : Within) (mode : Mode) (bytes : List ℕ) (at : ℕ) (ch : ℕ) (end : ℕ) : Type 0 where
+  pub is : content how (drop at bytes) ≡ prepend (encode_utf8 ch) (content plain (drop end bytes))
+  pub passed : lex mode (drop at bytes) ≡ lex in_string (drop end bytes)
+  pub ascii : get_or bytes (end - 1) 0 < 128
+  pub order : at < end
+  pub within : end ≤ length bytes

@@ -16,8 +16,8 @@ use std::alloc::Global;
 use std::str;
 
 /// The call that the bytes ask for, where they are an object whose first key is `t` and whose others come in the order of the
-/// protocol's page, its numbers of at most nine digits and its texts of at most 256 bytes, with no code point that is escaped by its
-/// number; the operations of a `put` are spelled as `rest_of_item` reads them. None otherwise. An error is for want of memory.
+/// protocol's page, its numbers of at most nine digits and its texts of at most 256 bytes; the operations of a `put` are spelled as
+/// `rest_of_item` reads them. None otherwise. An error is for want of memory.
 pub(crate) fn read_asked(alloc: Global, bytes: &[u8]) -> Result<Option<Call>, Refusal>
     ensures told { IfOk result (λ r. IfSome r (λ call. AsksFor bytes.now call)) }
     ensures memory { IfErr result (λ e. e ≡ Memory) }

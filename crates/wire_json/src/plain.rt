@@ -1,5 +1,5 @@
-//! A JSON text read byte by byte, as far as it is plain: whole numbers of at most nine digits, texts of at most 256 bytes whose
-//! escapes have no code points, lists, objects and `null`, with any spaces but before a colon. What isn't plain is read elsewhere.
+//! A JSON text read byte by byte, as far as it is plain: whole numbers of at most nine digits, texts that tell at most 256 bytes,
+//! lists, objects and `null`, with at most 64 spaces in a row, but none before a colon. What isn't plain is read elsewhere.
 ghost use Rattle.std.specs.Prelude.{◌≡◌, ◌≤◌, ◌<◌, ◌+◌, ◌^◌, ◌≢◌, [], ◌∷◌, true};
 ghost use Rattle.std.specs.Prelude.{false, length, take, drop, slice_index, Some, IfSome, ◌==◌, ◌-◌};
 ghost use Rattle.std.specs.List.{list_all};
@@ -14,11 +14,15 @@ ghost use Rattle.wire_json.specs.Coming.{Comes};
 ghost use Rattle.wire_json.specs.Plain.{tokens_behind, spot_of, is_plain, WritesNumber, WritesText};
 
 use crate::flat::MOST_DIGITS;
+use crate::plain_text::text_at;
 use arrayvec::ArrayString;
 use std::marker::Model;
 
 /// The most bytes of a text that is read here: 64 characters fit.
 pub const MAX_TEXT: usize = 256;
+
+// The most spaces in a row that are passed one by one. Longer stretches are passed by words elsewhere.
+const MOST_SPACES: usize = 64;
 
 // Where a reader stands.
 #[derive(Clone, Copy, Drop)]
@@ -67,7 +71,7 @@ impl<'a> Model for PlainReader<'a> {
 
 // The byte at the place, 0 behind the last.
 #[inline(always)]
-fn peek(bytes: &[u8], at: usize) -> u8
+pub(crate) fn peek(bytes: &[u8], at: usize) -> u8
     ensures { result ≡ slice_index bytes.now at }
 {
     if at < bytes.len() { bytes[at] } else { 0 }
@@ -97,15 +101,16 @@ fn behind_spaces(bytes: &[u8], at: usize) -> usize
     behind_each_space(bytes, at)
 }
 
-// Behind the spaces from a place on, passed one by one.
+// The same where there may be more of them, of which at most so many are passed: then a space comes next, which no reader takes.
 #[inline(never)]
 fn behind_each_space(bytes: &[u8], at: usize) -> usize
     requires { at ≤ length bytes.now }
     ensures same { lex between (drop result bytes.now) ≡ lex between (drop at bytes.now) }
     ensures within { result ≤ length bytes.now }
 {
+    let most = bytes.len().min(at + MOST_SPACES);
     let mut at = at;
-    while is_space(peek(bytes, at)) {
+    while at < most && is_space(bytes[at]) {
         at += 1;
     }
     at
@@ -175,79 +180,6 @@ fn number_at(bytes: &[u8], at: usize) -> Option<(u32, usize)>
         return None;
     }
     Some((n, end))
-}
-
-#[inline(always)]
-fn is_plain(byte: u8) -> bool
-    ensures { result ≡ is_plain byte }
-{
-    byte >= 32 && byte != b'"' && byte != b'\\'
-}
-
-// Behind the bytes from a place on that stand for themselves.
-#[inline(always)]
-fn behind_plain(bytes: &[u8], at: usize) -> usize
-    requires { at ≤ length bytes.now }
-    ensures plain { list_all is_plain (take (result - at) (drop at bytes.now)) ≡ true }
-    ensures stops { result < length bytes.now → slice_index bytes.now result < 128 }
-    ensures order { at ≤ result }
-    ensures within { result ≤ length bytes.now }
-{
-    let mut end = at;
-    while end < bytes.len() && is_plain(bytes[end]) {
-        end += 1;
-    }
-    end
-}
-
-// The character that a backslash and the byte stand for, other than a code point.
-#[tactic(auto, unfolding(json::specs::Text::short_escape))]
-fn short_escape(byte: u8) -> Option<char>
-    ensures told { IfSome result (λ c. short_escape byte ≡ Some c) }
-    ensures small { IfSome result (λ c. c < 128) }
-    ensures ascii { IfSome result (λ c. (0 < byte) × (byte < 128)) }
-    ensures short { IfSome result (λ c. (byte == 117) ≡ false) }
-{
-    match byte {
-        b'"' => Some('"'),
-        b'\\' => Some('\\'),
-        b'/' => Some('/'),
-        b'n' => Some('\n'),
-        b't' => Some('\t'),
-        b'r' => Some('\r'),
-        b'b' => Some('\u{8}'),
-        b'f' => Some('\u{c}'),
-        _ => None,
-    }
-}
-
-// Puts in what a text tells from a place on, behind its opening quote, and gives the place of the closing one.
-fn text_at(text: &str, at: usize, into: &mut ArrayString<MAX_TEXT>) -> Option<usize>
-    requires within { at ≤ length text.now }
-    requires boundary { IsCharBoundary text.now at }
-    requires empty { into.old.bytes ≡ [] }
-    ensures { IfSome result (λ end. WritesText text.now at into.new.bytes end) }
-{
-    let bytes = text.as_bytes();
-    let mut at = at;
-    'parts: while at < bytes.len() {
-        let end = behind_plain(bytes, at);
-        let Ok(()) = into.try_push_str(&text[at..end]) else {
-            return None;
-        };
-        match peek(bytes, end) {
-            b'"' => return Some(end),
-            b'\\' => {
-                let ch = short_escape(peek(bytes, end + 1))?;
-                let Ok(()) = into.try_push(ch) else {
-                    return None;
-                };
-                at = end + 2;
-            }
-            _ => return None,
-        }
-    }
-    None
 }
 
 // Whether what ends a value comes next, behind spaces.
@@ -424,8 +356,8 @@ impl<'a> PlainReader<'a> {
         Some(n)
     }
 
-    /// Puts in the next text, in place of what was there, where it has at most so many bytes, no code point is escaped in it, and a
-    /// comma or a closing bracket comes behind it. Passes what stands between it and what is next.
+    /// Puts in the next text, in place of what was there, where it tells at most so many bytes, and a comma or a closing bracket
+    /// comes behind it. Passes what stands between it and what is next.
     #[inline(always)]
     pub fn next_text(&mut self, into: &mut ArrayString<MAX_TEXT>) -> bool
         ensures { result ≡ true → Comes 1 self.old (tree.string into.new.bytes) self.new }

@@ -1,6 +1,6 @@
-//! Operation objects and run objects read byte by byte, with no tree, as servers spell them: with any spaces but before a colon, and
-//! with just the keys of their kind, in the order of their bytes. What is spelled otherwise or would be refused isn't read here: it
-//! is read as a tree.
+//! Operation objects and run objects read byte by byte, with no tree, as servers spell them: with just the keys of their kind, in the
+//! order of their bytes, and spaces as a `PlainReader` passes them. What is spelled otherwise or would be refused isn't read here:
+//! it is read as a tree.
 ghost use Rattle.std.specs.Prelude.{◌≡◌, ◌≤◌, ◌<◌, ◌∷◌, ◌+◌, [], false, true, List, length, sum, take, drop, codes, IfSome};
 ghost use Rattle.std.specs.Str.{chars};
 ghost use Rattle.json.specs.Token.{Token as Sign, begin_array, end_array, end_object, key};
@@ -214,9 +214,9 @@ fn rest_of_run(
 
 /// The operation that an object tells, or the first one of a run, up to the bracket that closes it; the one that opens it was taken.
 /// The text of an insertion or a run is put in, in place of what was there: what stands behind its first character is that of the
-/// operations that follow. None where the object is spelled otherwise than `write_op` and `write_item` spell, but for spaces,
-/// none of them before a colon, and for escapes other than by a number, or is refused: then the reader is anywhere. Takes time in
-/// proportion to the object, and no memory.
+/// operations that follow. None where the object is refused, or is spelled otherwise than `write_op` and `write_item` spell, but for
+/// escapes, by a number too, and for spaces, at most 64 in a row and none before a colon: then the reader is anywhere. Takes time
+/// in proportion to the object, and no memory.
 pub fn rest_of_item(
     reader: &mut PlainReader<'_>,
     into: &mut ArrayString<MAX_TEXT>,

@@ -3,7 +3,7 @@ use Rattle.std.proofs.Common.{◌≡◌, length, ◌-◌, ◌≤◌, drop}
 use Rattle.std.specs.Str.{IsCharBoundary}
 use Rattle.json.specs.Text.{content, plain, prepend}
 use Rattle.json.specs.Lex.{in_string, lex}
-use Rattle.wire_json.proofs.plain.text_at.Given as goal
+use Rattle.wire_json.proofs.plain_text.text_at.Given as goal
 
 abbrev pub decreases-parts : goal.decreases-parts
 decreases-parts l = length l.text - l.at
