@@ -1,5 +1,5 @@
 -- The calls that tokens ask for, key by key.
-use Rattle.std.proofs.Common.{◌≡◌, ◌^◌, ℕ, suc, List, [], ◌∷◌, Some, Ok, refl, sym, ap, subst, ◌∙◌, codes, lt-ltb}
+use Rattle.std.proofs.Common.{◌≡◌, ◌^◌, ℕ, suc, List, [], ◌∷◌, Some, Ok, true, false, refl, sym, ap, subst, ◌∙◌, codes, lt-ltb}
 use Rattle.std.proofs.Common.{Option, None, Result, Err}
 use Rattle.std.specs.Prelude.{IfSome, IfOk}
 use Rattle.std.specs.Str.{chars, IsUtf8}
@@ -8,7 +8,7 @@ use Rattle.opid.specs.declared.refusal.Refusal.{Refusal}
 use Rattle.json.specs.Token.{Token, begin_object, end_object, key}
 use Rattle.serde_json.specs.Data.{Data, object, string, number, unsigned, no_members}
 use Rattle.room.specs.declared.call.Call.{Call}
-use Rattle.room.specs.declared.call.Call.TheVariants.{Ins, Del, Pull, Ops}
+use Rattle.room.specs.declared.call.Call.TheVariants.{Ins, Del, Pull, Ops, Read, Join, Leave}
 use Rattle.wire_json.specs.Flat.{lone_value, value_of_tokens}
 use Rattle.wire_json.specs.Coming.{Comes, put_entries}
 use Rattle.wire_json.specs.Handed.{ReadsField, ReadsPlace, ReadsRest, ReadsCall, AsksFor}
@@ -129,6 +129,28 @@ ins_rest old a b c s n v k x p first told last = record {
   asks =
       rw (lt-ltb s (2 ^ 32) p.first.small) (rw (lt-ltb n (2 ^ 32) p.second.small) (rw (lt-ltb v (2 ^ 32) p.third.small)
       (rw (lt-ltb k (2 ^ 32) p.fourth.small) refl)));
+}
+
+pub read_rest : (old : List Token) → old ≡ end_object ∷ [] → ReadsRest (codes "read") old Read
+read_rest old last = record { entries = []; told = last; asks = refl }
+
+pub join_rest : (old : List Token) → old ≡ end_object ∷ [] → ReadsRest (codes "join") old (Join false)
+join_rest old last = record { entries = []; told = last; asks = refl }
+
+pub units_rest : (old a b : List Token) (n : ℕ) → old ≡ key (codes "u") ∷ a → Comes 1 a (number (unsigned n)) b → n ≡ 16
+    → b ≡ end_object ∷ [] → ReadsRest (codes "join") old (Join true)
+units_rest old a b n first told is last = record {
+  entries = (codes "u", number (unsigned n)) ∷ [];
+  told = (a, b, first, five_deep a b _ told, last);
+  asks = rw is refl;
+}
+
+pub leave_rest : (old a : List Token) (s : ℕ) → ReadsField old (codes "s") s a → a ≡ end_object ∷ []
+    → ReadsRest (codes "leave") old (Leave s)
+leave_rest old a s f last = record {
+  entries = (codes "s", number (unsigned s)) ∷ [];
+  told = (f.mid, a, f.first, five_deep f.mid a _ f.told, last);
+  asks = rw (lt-ltb s (2 ^ 32) f.small) refl;
 }
 
 -- ---- what a reader tells of a kind's rest, it tells of the whole

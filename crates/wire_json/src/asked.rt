@@ -1,5 +1,5 @@
-//! Requests read byte by byte, with no tree, where their keys come in the order in which the page of the protocol tells them: those
-//! of an insertion, a deletion, a pull, a `put` and a call for operations. All else is read elsewhere, which alone knows refusals.
+//! Requests read byte by byte, with no tree, where their keys come in the order in which the page of the protocol tells them. All
+//! else is read elsewhere, which alone knows refusals.
 ghost use Rattle.std.specs.Prelude.{◌≡◌, true, codes, IfOk, IfErr, IfSome};
 ghost use Rattle.std.specs.List.{list_all};
 ghost use Rattle.opid.specs.declared.refusal.Refusal.TheVariants.{Memory};
@@ -13,18 +13,14 @@ use arrayvec::ArrayString;
 use opid::Refusal;
 use room::{Call, Characters};
 use std::alloc::Global;
-use std::str;
 
-/// The call that the bytes ask for, where they are an object whose first key is `t` and whose others come in the order of the
+/// The call that the text asks for, where it is an object whose first key is `t` and whose others come in the order of the
 /// protocol's page, its numbers of at most nine digits and its texts of at most 256 bytes; the operations of a `put` are spelled as
-/// `rest_of_item` reads them. None otherwise. An error is for want of memory.
-pub(crate) fn read_asked(alloc: Global, bytes: &[u8]) -> Result<Option<Call>, Refusal>
-    ensures told { IfOk result (λ r. IfSome r (λ call. AsksFor bytes.now call)) }
+/// `rest_of_item` reads them. None otherwise, mostly at the first byte that is spelled otherwise. An error is for want of memory.
+pub(crate) fn read_asked(alloc: Global, text: &str) -> Result<Option<Call>, Refusal>
+    ensures told { IfOk result (λ r. IfSome r (λ call. AsksFor text.now call)) }
     ensures memory { IfErr result (λ e. e ≡ Memory) }
 {
-    let Ok(text) = str::from_utf8(bytes) else {
-        return Ok(None);
-    };
     let mut reader = PlainReader::new(text);
     read_object(alloc, &mut reader)
 }
@@ -34,8 +30,11 @@ fn read_object(alloc: Global, reader: &mut PlainReader<'_>) -> Result<Option<Cal
     ensures told { IfOk result (λ r. IfSome r (λ call. ReadsCall reader.old call)) }
     ensures memory { IfErr result (λ e. e ≡ Memory) }
 {
+    if !reader.take_begin_object() || !reader.take_key("t") {
+        return Ok(None);
+    }
     let mut text = ArrayString::new();
-    if !reader.take_begin_object() || !reader.take_key("t") || !reader.next_text(&mut text) {
+    if !reader.next_text(&mut text) {
         return Ok(None);
     }
     if is_one(text.as_str(), "ins") {
@@ -52,6 +51,15 @@ fn read_object(alloc: Global, reader: &mut PlainReader<'_>) -> Result<Option<Cal
     }
     if is_one(text.as_str(), "ops") {
         return Ok(rest_of_part(reader));
+    }
+    if is_one(text.as_str(), "read") {
+        return Ok(rest_of_read(reader));
+    }
+    if is_one(text.as_str(), "join") {
+        return Ok(rest_of_join(reader));
+    }
+    if is_one(text.as_str(), "leave") {
+        return Ok(rest_of_leave(reader));
     }
     Ok(None)
 }
@@ -134,4 +142,43 @@ fn rest_of_part(reader: &mut PlainReader<'_>) -> Option<Call>
         return None;
     }
     Some(Call::Ops { after, max })
+}
+
+// What a read has behind its kind, which is nothing.
+fn rest_of_read(reader: &mut PlainReader<'_>) -> Option<Call>
+    ensures { IfSome result (λ call. ReadsRest (codes "read") reader.old call) }
+{
+    if !is_closed(reader) {
+        return None;
+    }
+    Some(Call::Read)
+}
+
+// What a join has behind its kind: nothing, or how it counts.
+fn rest_of_join(reader: &mut PlainReader<'_>) -> Option<Call>
+    ensures { IfSome result (λ call. ReadsRest (codes "join") reader.old call) }
+{
+    if !reader.take_key("u") {
+        return if is_closed(reader) {
+            Some(Call::Join { units: false })
+        } else {
+            None
+        };
+    }
+    let width = reader.next_number()?;
+    if width != 16 || !is_closed(reader) {
+        return None;
+    }
+    Some(Call::Join { units: true })
+}
+
+// What a leave has behind its kind.
+fn rest_of_leave(reader: &mut PlainReader<'_>) -> Option<Call>
+    ensures { IfSome result (λ call. ReadsRest (codes "leave") reader.old call) }
+{
+    let s = next_field(reader, "s")?;
+    if !is_closed(reader) {
+        return None;
+    }
+    Some(Call::Leave { s })
 }

@@ -49,20 +49,17 @@ enum Next<'a> {
     Other,
 }
 
-/// Puts in the members of the object that the bytes are, if each is a whole number or a text and there are at most eight, and tells
-/// whether that is so. False too where the scratch has too little room and memory is refused. Time in proportion to the bytes. The
+/// Puts in the members of the object that the text is, if each is a whole number or a text and there are at most eight, and tells
+/// whether that is so. False too where the scratch has too little room and memory is refused. Time in proportion to the text. The
 /// members are written where the caller keeps them, since each move of all eight would be a copy.
 pub(crate) fn read_flat<'a>(
     scratch: &'a mut Scratch,
-    bytes: &'a [u8],
+    text: &'a str,
     members: &mut ArrayVec<Member<'a>, MAX_MEMBERS>,
 ) -> bool
     requires { members.old.items ≡ [] }
-    ensures { result ≡ true → json_of bytes.now ≡ Ok (flat_data members.new.items) }
+    ensures { result ≡ true → json_of text.now ≡ Ok (flat_data members.new.items) }
 {
-    let Ok(text) = str::from_utf8(bytes) else {
-        return false;
-    };
     let Ok(mut reader) = Reader::new(text, scratch) else {
         return false;
     };

@@ -38,3 +38,27 @@ returns-then-is_one-5-clause-told c =
     (c.take_key.ensures.yes c.if-not-take_key.false)
     (c.next_text.ensures c.if-not-next_text.false) (sym c.as_str-5.ensures.value ∙ c.is_one-5.ensures c.if-is_one-5.true)
     c.rest_of_part.ensures
+
+pub returns-then-is_one-6-clause-told : goal.returns-then-is_one-6-clause-told
+returns-then-is_one-6-clause-told c =
+    some_read c.args.reader.now c.take_begin_object.new.self c.take_key.new.self c.next_text.new.self (codes "read") c.next_text.new.into.bytes
+    c.rest_of_read.result (c.take_begin_object.ensures.yes c.if-not-take_begin_object.false)
+    (c.take_key.ensures.yes c.if-not-take_key.false)
+    (c.next_text.ensures c.if-not-next_text.false) (sym c.as_str-6.ensures.value ∙ c.is_one-6.ensures c.if-is_one-6.true)
+    c.rest_of_read.ensures
+
+pub returns-then-is_one-7-clause-told : goal.returns-then-is_one-7-clause-told
+returns-then-is_one-7-clause-told c =
+    some_read c.args.reader.now c.take_begin_object.new.self c.take_key.new.self c.next_text.new.self (codes "join") c.next_text.new.into.bytes
+    c.rest_of_join.result (c.take_begin_object.ensures.yes c.if-not-take_begin_object.false)
+    (c.take_key.ensures.yes c.if-not-take_key.false)
+    (c.next_text.ensures c.if-not-next_text.false) (sym c.as_str-7.ensures.value ∙ c.is_one-7.ensures c.if-is_one-7.true)
+    c.rest_of_join.ensures
+
+pub returns-then-is_one-8-clause-told : goal.returns-then-is_one-8-clause-told
+returns-then-is_one-8-clause-told c =
+    some_read c.args.reader.now c.take_begin_object.new.self c.take_key.new.self c.next_text.new.self (codes "leave") c.next_text.new.into.bytes
+    c.rest_of_leave.result (c.take_begin_object.ensures.yes c.if-not-take_begin_object.false)
+    (c.take_key.ensures.yes c.if-not-take_key.false)
+    (c.next_text.ensures c.if-not-next_text.false) (sym c.as_str-8.ensures.value ∙ c.is_one-8.ensures c.if-is_one-8.true)
+    c.rest_of_leave.ensures
