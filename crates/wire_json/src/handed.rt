@@ -5,15 +5,16 @@ ghost use Rattle.wire_json.specs.Handed.{ReadsOps, ReadsRest};
 
 use crate::items::{behind_first, unfold_run};
 use crate::plain::{MAX_TEXT, PlainReader};
+use crate::reading::MAX_REQUEST_BYTES;
 use crate::spelled::{is_closed, rest_of_item};
 use arrayvec::ArrayString;
 use causal_clock::Op;
-use opid::{MAX_COUNT, Refusal};
+use opid::Refusal;
 use room::{Call, Operations};
 use std::alloc::Global;
 
-// What a `put` has behind its kind: at most 64 operation objects and run objects, each spelled as `rest_of_item` reads it.
-// The call has at most the first 65 of their operations.
+// What a `put` has behind its kind: operation objects and run objects, each spelled as `rest_of_item` reads it. The call has at most
+// the first 65 of their operations.
 pub(crate) fn rest_of_put(
     alloc: Global,
     reader: &mut PlainReader<'_>,
@@ -34,7 +35,7 @@ pub(crate) fn rest_of_put(
     Ok(Some(Call::Put(Operations::new(ops))))
 }
 
-// The operations of the next value, a list of at most 64 objects: at most the first 65 of them.
+// The operations of the next value, a list of objects, of which no request has as many as it may have bytes: at most the first 65.
 fn next_ops(
     alloc: Global,
     reader: &mut PlainReader<'_>,
@@ -47,7 +48,7 @@ fn next_ops(
         return Ok(None);
     }
     let mut ops = Vec::new(alloc);
-    for _ in 0..=MAX_COUNT {
+    for _ in 0..MAX_REQUEST_BYTES {
         if reader.take_end_array() {
             return Ok(Some(ops));
         }

@@ -188,15 +188,27 @@ pub(crate) fn unfold_run(ops: &mut Vec<Op>, first: Op, more: &str) -> Result<(),
     if ops.len() >= MOST {
         return Ok(());
     }
-    ops.push(first)?;
+    push_kept(ops, first)?;
     let mut last = first;
     for ch in more.chars() {
         if ops.len() >= MOST {
             return Ok(());
         }
         last = next_op(&last, ch);
-        ops.push(last)?;
+        push_kept(ops, last)?;
     }
+    Ok(())
+}
+
+// Adds an operation. The last that is kept gets room for itself alone, since a call that hands over too many is recorded too.
+fn push_kept(ops: &mut Vec<Op>, op: Op) -> Result<(), Refusal>
+    ensures items { OnOk result (ops.new.items ≡ ops.old.items ++ op ∷ []) }
+    ensures memory { IfErr result (λ e. e ≡ Memory) }
+{
+    if ops.len() + 1 == MOST {
+        ops.reserve_exact(1)?;
+    }
+    ops.push(op)?;
     Ok(())
 }
 

@@ -10,11 +10,11 @@ use Rattle.wire_json.proofs.items.unfold_run.Goals as goal
 
 pub loop-ch-init : goal.loop-ch-init
 loop-ch-init c = record {
-  whole = ap (λ items. items ++ typed_behind c.args.first (chars c.args.more.now)) c.in_ok-push.ensures.items
+  whole = ap (λ items. items ++ typed_behind c.args.first (chars c.args.more.now)) c.in_ok-push_kept.ensures.items
       ∙ append_assoc c.args.ops.now.items (c.args.first ∷ []) (typed_behind c.args.first (chars c.args.more.now));
   kept =
       let size : vec_len c.args.ops.now ≡ length c.args.ops.now.items = search rules in
-      one_kept c.args.ops.now.items c.args.first c.push.new.self.items c.in_ok-push.ensures.items
+      one_kept c.args.ops.now.items c.args.first c.push_kept.new.ops.items c.in_ok-push_kept.ensures.items
       (omega (arith, c.if-len-ge-MOST.false, c.len.ensures, size));
   few = c.requires.sum;
 }
@@ -33,12 +33,12 @@ loop-ch-preserved c =
     let i = length c.loop-ch.yielded in
     let size : vec_len c.loop-ch.ops ≡ length c.loop-ch.ops.items = search rules in
     record {
-      whole = ap (λ n. c.push-in-loop-ch.new.self.items ++ typed_behind c.next_op-last.result (drop n more))
+      whole = ap (λ n. c.push_kept-in-loop-ch.new.ops.items ++ typed_behind c.next_op-last.result (drop n more))
           (length_push c.loop-ch.yielded c.in-Some.ch)
-          ∙ ap (λ items. items ++ typed_behind c.next_op-last.result (drop (i + 1) more)) c.in_ok-push-2.ensures.items
+          ∙ ap (λ items. items ++ typed_behind c.next_op-last.result (drop (i + 1) more)) c.in_ok-push_kept-2.ensures.items
           ∙ ap (λ x. (c.loop-ch.ops.items ++ x ∷ []) ++ typed_behind x (drop (i + 1) more)) c.next_op-last.ensures.value
           ∙ follows_more c.loop-ch.last c.loop-ch.ops.items more i c.in-Some.ch _ t.0 t.1 c.loop-ch.invariant.whole;
-      kept = one_kept c.loop-ch.ops.items c.next_op-last.result c.push-in-loop-ch.new.self.items c.in_ok-push-2.ensures.items
+      kept = one_kept c.loop-ch.ops.items c.next_op-last.result c.push_kept-in-loop-ch.new.ops.items c.in_ok-push_kept-2.ensures.items
           (omega (arith, c.if-len-ge-MOST-2.false, c.len-in-loop-ch.ensures, size));
       few = omega (
         arith,
