@@ -176,10 +176,19 @@ fn number_at(bytes: &[u8], at: usize) -> Option<(u32, usize)>
     if count == 0 || !is_word_end(bytes, end) {
         return None;
     }
-    if count > 1 && bytes[at] == b'0' {
+    if begins_with_zero(bytes, at, count) {
         return None;
     }
     Some((n, end))
+}
+
+// Whether the first of several digits is a zero: then they write no number.
+#[inline(always)]
+fn begins_with_zero(bytes: &[u8], at: usize, count: usize) -> bool
+    requires { at + count ≤ length bytes.now }
+    ensures { result ≡ false → 1 < count → (slice_index bytes.now at == 48) ≡ false }
+{
+    count > 1 && bytes[at] == b'0'
 }
 
 // Whether what ends a value comes next, behind spaces.

@@ -1,13 +1,10 @@
 use Rattle.std.proofs.Common.{◌≡◌, ◌<◌, ◌-◌, ◌^◌, ◌==◌, false, List, ℕ, ap, ◌∙◌, subst, take, drop, length, slice_index, arith, rules}
 use Rattle.std.proofs.Common.{length-drop}
-use Rattle.std.proofs.lemmas.Bool.{ne_eqb}
 use Rattle.std.proofs.lemmas.List.{take_all}
 use Rattle.std.specs.Str.Parse.{AllDigits, digits_value}
 use Rattle.wire_json.proofs.Digits.{digit_more, few}
 use Rattle.wire_json.proofs.Plainly.{number_written}
 use Rattle.wire_json.proofs.plain.number_at.Goals as goal
-use Rattle.wire_json.proofs.plain.number_at.Goals.{else-count-gt1-via-then-count-gt1+else-bytes-at-eq48}
-use Rattle.wire_json.proofs.plain.number_at.Goals.{else-count-gt1-via-else-count-gt1}
 
 pub overflow_mul-n : goal.overflow_mul-n
 overflow_mul-n c =
@@ -40,14 +37,10 @@ returns c =
     let count = c.loop-count.count in
     let rest : List ℕ = take (length bytes - at) (drop at bytes) in
     let whole : rest ≡ drop at bytes = take_all (length bytes - at) (drop at bytes) (omega (arith, length-drop at bytes)) in
-    let first : 1 < count → (slice_index bytes at == 48) ≡ false =
-    elim c.else-count-gt1.branch [
-      | else-count-gt1-via-then-count-gt1+else-bytes-at-eq48 w ↦ λ long. ne_eqb (slice_index bytes at) 48 w.if-bytes-at-eq48.false
-      | else-count-gt1-via-else-count-gt1 w ↦ λ long. absurd (omega (arith, long, w.if-count-gt1.false))
-    ] in
     number_written bytes at count c.loop-count.n
     (omega (arith, c.loop-count.invariant.within, c.min-most.ensures, ap length whole, length-drop at bytes, c.requires))
     (omega (arith, c.if-count-eq0.false)) (omega (arith, c.loop-count.invariant.within, c.min-most.ensures))
     (subst (λ r. AllDigits 10 (take count r)) whole c.loop-count.invariant.digits)
-    (c.loop-count.invariant.value ∙ ap (λ r. digits_value 10 (take count r)) whole) first
+    (c.loop-count.invariant.value ∙ ap (λ r. digits_value 10 (take count r)) whole)
+    (c.begins_with_zero.ensures c.if-begins_with_zero.false)
     (c.is_word_end.ensures c.if-not-is_word_end.false)
