@@ -1,6 +1,7 @@
 -- A number that digits alone write.
 use Rattle.std.proofs.Common.{◌≡◌, ℕ, ◌+◌, ◌-◌, ◌<◌, ◌^◌, List, [], ◌∷◌, ◌++◌, Some, Bool, true, false, ◌&&◌, ◌==◌, length, take}
 use Rattle.std.proofs.Common.{refl, sym, ap, ◌∙◌, subst, arith, slice_index, get_or, append-nil, eqb-true}
+use Rattle.std.proofs.lemmas.Bool.{and_parts}
 use Rattle.std.proofs.lemmas.Grind.{common_steps}
 use Rattle.std.proofs.Common.{◌*◌, ◌≤◌, lit<}
 use Rattle.std.proofs.Math.Nat.{pow-le-pow_right}
@@ -19,15 +20,11 @@ use Rattle.serde_json.specs.Data.{unsigned}
 use Rattle.serde_json.specs.Read.{number_of}
 use Rattle.wire_json.proofs.FlatObjects.{whole_number}
 
-all_prefix : (s : List ℕ) → all_ascii_digits s ≡ true → prefix_len is_ascii_digit s ≡ length s
+pub all_prefix : (s : List ℕ) → all_ascii_digits s ≡ true → prefix_len is_ascii_digit s ≡ length s
 all_prefix [] h = refl
-all_prefix (c ∷ s) h = go (is_ascii_digit c) refl h (all_prefix s)
-  where
-    go : (t : Bool) → is_ascii_digit c ≡ t → t && all_ascii_digits s ≡ true
-        → (all_ascii_digits s ≡ true → prefix_len is_ascii_digit s ≡ length s)
-        → prefix_len is_ascii_digit (c ∷ s) ≡ length (c ∷ s)
-    go true is h more = rw is (omega (arith, more h))
-    go false is h more = cc
+all_prefix (c ∷ s) h =
+    let here = and_parts (is_ascii_digit c) (all_ascii_digits s) h in
+    rw here.0 (omega (arith, all_prefix s here.1))
 
 beyond : (s : List ℕ) → get_or s (length s) 0 ≡ 0
 beyond s = grind (arith, common_steps)

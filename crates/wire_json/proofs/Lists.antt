@@ -29,13 +29,6 @@ bracketed f xs old opened here new first all last =
     ∙ ap (λ ts. ts ++ items_tokens (items_outline (each_data f xs))) first
     ∙ append_assoc old (begin_array ∷ []) (items_tokens (items_outline (each_data f xs)))
 
--- the same at the end of a loop
-pub closed : {A : Type 0} (f : A → Data) (xs : List A) (i : ℕ) (old opened here new : List Token) → length xs ≤ i
-    → opened ≡ old ++ begin_array ∷ [] → here ≡ opened ++ each_tokens f (take i xs) → new ≡ here ++ end_array ∷ []
-    → new ≡ old ++ tokens_of (array (each_data f xs))
-closed f xs i old opened here new h first so_far last =
-    bracketed f xs old opened here new first (so_far ∙ ap (λ ys. opened ++ each_tokens f ys) (take_all i xs h)) last
-
 -- what holds of the items so far holds with one more
 pub all_more : {A : Type 0} (P : A → Type 0) (xs : List A) (i : ℕ) (x : A) → i < length xs → AllByRecursion P (take i xs)
     → P (get_or xs i x) → AllByRecursion P (take (i + 1) xs)

@@ -12,7 +12,7 @@ use Rattle.std.specs.Str.Parse.{AllDigits, digits_value}
 use Rattle.std.proofs.Common.{◌^◌}
 use Rattle.std.proofs.lemmas.Str.Parse.{numerals_by_value, tells_all_ascii_digits}
 use Rattle.std.proofs.lemmas.List.{get_or-take, length-take-le}
-use Rattle.wire_json.proofs.Digits.{digits_number, few}
+use Rattle.wire_json.proofs.Digits.{all_prefix, digits_number, few}
 use Rattle.std.specs.List.{prefix_len}
 use Rattle.json.specs.Print.{IsNumber}
 use Rattle.json.specs.Lex.{Place, fresh, after_value, after_comma, after_key, Lexeme, token, colon}
@@ -63,10 +63,6 @@ close_brace after_key r h = cc
 pub past_comma : (r : List ℕ) → tokens_behind after_value (44 ∷ r) ≡ tokens_behind after_comma r
 unfolding lex punctuate
 past_comma r = refl
-
-pub past_space : (p : Place) (r : List ℕ) → tokens_behind p (32 ∷ r) ≡ tokens_behind p r
-unfolding lex
-past_space p r = refl
 
 pub nothing_left : tokens_behind after_value [] ≡ []
 unfolding lex punctuate
@@ -158,10 +154,6 @@ placed_text after_value s ls h e = cc
 placed_text after_comma s ls h e = rw e refl
 placed_text after_key s ls h e = cc
 
-pub text_first : (p : Place) (s r : List ℕ) → may_begin p ≡ true → list_all is_plain s ≡ true → begins_colon (lex between r) ≡ false
-    → tokens_behind p (34 ∷ (s ++ 34 ∷ r)) ≡ string s ∷ tokens_behind after_value r
-text_first p s r h plainly e = ap (punctuate p) (quoted s r plainly) ∙ placed_text p s (lex between r) h e
-
 pub no_colon_comma : (r : List ℕ) → begins_colon (lex between (44 ∷ r)) ≡ false
 unfolding lex
 no_colon_comma r = refl
@@ -244,12 +236,6 @@ comma_passed bytes at end new before here behind =
 
 -- ---- numbers
 
-all_digits : (s : List ℕ) → all_ascii_digits s ≡ true → prefix_len is_ascii_digit s ≡ length s
-all_digits [] h = refl
-all_digits (c ∷ s) h =
-    let here = and_parts (is_ascii_digit c) (all_ascii_digits s) h in
-    rw here.0 (omega (arith, all_digits s here.1))
-
 is_other_than : (c d : ℕ) (s : List ℕ) → all_ascii_digits (c ∷ s) ≡ true → is_ascii_digit d ≡ false → (c == d) ≡ false
 is_other_than c d s h e = go (c == d) refl
   where
@@ -264,7 +250,7 @@ whole_passed : (c : ℕ) (s : List ℕ) (t : Bool) → (c == 48) ≡ t → all_a
     → after_whole (c ∷ s) ≡ Some []
 whole_passed c s true e h alone = rw e (ap Some (alone refl))
 whole_passed c s false e h alone =
-    rw e (rw (all_digits (c ∷ s) h) (rw (ne_eqb (suc (length s)) 0 (λ z. omega arith)) (ap Some (drop_all (length s) s (omega arith)))))
+    rw e (rw (all_prefix (c ∷ s) h) (rw (ne_eqb (suc (length s)) 0 (λ z. omega arith)) (ap Some (drop_all (length s) s (omega arith)))))
 
 only_zero : (c : ℕ) (s : List ℕ) → (1 < length (c ∷ s) → (c == 48) ≡ false) → (c == 48) ≡ true → s ≡ []
 only_zero c [] first e = refl

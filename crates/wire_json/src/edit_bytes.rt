@@ -1,4 +1,5 @@
-//! The text of an edit, put together from its end in a few bytes, so that it is copied once.
+//! The text of an edit, put together from its end in a few bytes, so that it is copied once, but for a character above ASCII, which
+//! is appended by itself.
 ghost use Rattle.std.specs.Prelude.{◌≡◌, ◌+◌, ◌<◌, ◌≤◌, ◌≢◌, ◌∷◌, [], ◌++◌, drop, OnOk};
 ghost use Rattle.std.specs.Char.{digit_char};
 ghost use Rattle.json.specs.Print.{escape_letter};

@@ -144,7 +144,7 @@ fn character_of(op: &Op) -> char
     }
 }
 
-// Appends an operation, or a run of an insertion and those that put in more characters behind it.
+// Appends the bytes of an operation, or of a run of an insertion and those that put in more characters behind it.
 fn push_item(out: &mut Vec<u8>, first: &Op, more: &[char]) -> Result<(), AllocError>
     ensures { OnOk result (out.new.items ≡ out.old.items ++ item_text (record { first = first.now; more = more.now })) }
 {
@@ -166,6 +166,7 @@ pub fn write_item(alloc: Global, item: &Item) -> Result<String, Refusal>
     Ok(text_of(out))
 }
 
+// Appends the tokens of an item.
 fn append_item(alloc: Global, out: &mut Writer, item: &Item) -> Result<(), AllocError>
     ensures before { out.new.before ≡ out.old.before }
     ensures tokens { OnOk result (out.new.tokens ≡ out.old.tokens ++ tokens_of (item_data item.now)) }

@@ -1,5 +1,5 @@
-//! The texts of what most requests get: an `ok`, edits, operations or outcomes. What has a bound, a number or an
-//! edit, is put from its end into a few bytes, and copied once.
+//! The texts of what most requests get, put together as bytes, with no tokens: an `ok`, edits, operations or outcomes. What has a
+//! bound is put from its end into a few bytes first, so that one copy appends it.
 ghost use Rattle.std.specs.Prelude.{◌≡◌, ◌++◌, map, IfOk, OnOk, string_bytes};
 ghost use Rattle.std.specs.List.{AllByRecursion};
 ghost use Rattle.room.specs.declared.reply.Reply.TheVariants as replies;

@@ -1,4 +1,4 @@
-//! Writing JSON token by token into one buffer.
+//! Writing JSON token by token into one buffer, and the text that such a buffer, or one of bytes, becomes.
 ghost use Rattle.std.specs.Prelude.{◌≡◌, [], ◌∷◌, ◌++◌, decimal, IfOk, OnOk, string_bytes};
 ghost use Rattle.std.specs.Str.{IsUtf8};
 ghost use Rattle.json.specs.Token.{key, string, number};
