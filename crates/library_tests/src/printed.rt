@@ -21,9 +21,15 @@ fn are_alike(alloc: Global, op: &causal_clock::Op, derived: &Op) -> Result<bool,
 
 /// Whether an operation of the site is printed as its fields are.
 fn is_printed_so(alloc: Global, site: Site, kind: OpKind) -> Result<bool, Refusal> {
-    let clock = Clock::from_pairs(&[(site, 4_096 * u32::from(site.number()) + 1)])?;
+    let count = 4_096 * u32::from(site.number()) + 1;
+    let clock = Clock::from_pairs(&[(site, count)])?;
     let op = causal_clock::Op::new(site, clock, kind)?;
-    are_alike(alloc, &op, &Op { site, clock, kind })
+    let derived = Op {
+        site: op.site(),
+        clock: op.clock(),
+        kind: op.kind(),
+    };
+    are_alike(alloc, &op, &derived)
 }
 
 /// Whether each kind of operation of the site is.
