@@ -11,7 +11,7 @@ use Rattle.room.specs.declared.call.Call.{Call}
 use Rattle.room.specs.declared.call.Call.TheVariants.{Ins, Del, Pull, Ops, Read, Join, Leave}
 use Rattle.wire_json.specs.Flat.{lone_value, value_of_tokens}
 use Rattle.wire_json.specs.Coming.{Comes, put_entries}
-use Rattle.wire_json.specs.Handed.{ReadsField, ReadsPlace, ReadsRest, ReadsCall, AsksFor}
+use Rattle.wire_json.specs.Handed.{ReadsField, ReadsPlace, ReadsRest, ReadsKind, ReadsCall, AsksFor}
 use Rattle.wire_json.proofs.Come.{object_comes}
 use Rattle.wire_json.proofs.Steps.{json_read}
 
@@ -155,17 +155,27 @@ leave_rest old a s f last = record {
 
 -- ---- what a reader tells of a kind's rest, it tells of the whole
 
-pub some_read : (all a b c : List Token) (kind text : List ℕ) (r : Option Call) → all ≡ begin_object ∷ a → a ≡ key (codes "t") ∷ b
-    → Comes 1 b (string text) c → text ≡ kind → IfSome r (λ call. ReadsRest kind c call) → IfSome r (λ call. ReadsCall all call)
-some_read all a b c kind text None opened first told is h = h
-some_read all a b c kind text (Some call) opened first told is h =
-    call_read all a b c kind call opened first (subst (λ s. Comes 1 b (string s) c) is told) h
+pub some_read : (old same rest : List Token) (kind : List ℕ) (r : Option Call) → same ≡ old → Comes 1 same (string kind) rest
+    → IfSome r (λ call. ReadsRest kind rest call) → IfSome r (λ call. ReadsKind old call)
+some_read old same rest kind None is first h = h
+some_read old same rest kind (Some call) is first h =
+    record { kind = kind; rest = rest; first = subst (λ ts. Comes 1 ts (string kind) rest) is first; asks = h }
 
-pub ok_read : (all a b c : List Token) (kind text : List ℕ) (r : Result (Option Call) Refusal) → all ≡ begin_object ∷ a
-    → a ≡ key (codes "t") ∷ b → Comes 1 b (string text) c → text ≡ kind → IfOk r (λ o. IfSome o (λ call. ReadsRest kind c call))
-    → IfOk r (λ o. IfSome o (λ call. ReadsCall all call))
-ok_read all a b c kind text (Ok o) opened first told is h = some_read all a b c kind text o opened first told is h
-ok_read all a b c kind text (Err e) opened first told is h = h
+pub ok_read : (old same rest : List Token) (kind : List ℕ) (r : Result (Option Call) Refusal) → same ≡ old
+    → Comes 1 same (string kind) rest → IfOk r (λ o. IfSome o (λ call. ReadsRest kind rest call))
+    → IfOk r (λ o. IfSome o (λ call. ReadsKind old call))
+ok_read old same rest kind (Ok o) is first h = some_read old same rest kind o is first h
+ok_read old same rest kind (Err e) is first h = h
+
+some_whole : (all a b : List Token) (r : Option Call) → all ≡ begin_object ∷ a → a ≡ key (codes "t") ∷ b
+    → IfSome r (λ call. ReadsKind b call) → IfSome r (λ call. ReadsCall all call)
+some_whole all a b None opened first h = h
+some_whole all a b (Some call) opened first h = call_read all a b h.rest h.kind call opened first h.first h.asks
+
+pub whole_read : (all a b : List Token) (r : Result (Option Call) Refusal) → all ≡ begin_object ∷ a → a ≡ key (codes "t") ∷ b
+    → IfOk r (λ o. IfSome o (λ call. ReadsKind b call)) → IfOk r (λ o. IfSome o (λ call. ReadsCall all call))
+whole_read all a b (Ok o) opened first h = some_whole all a b o opened first h
+whole_read all a b (Err e) opened first h = h
 
 some_asked : (bytes : List ℕ) (ts : List Token) (r : Option Call) → IsUtf8 bytes → ts ≡ tokens bytes
     → IfSome r (λ call. ReadsCall ts call) → IfSome r (λ call. AsksFor bytes call)

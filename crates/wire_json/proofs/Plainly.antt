@@ -154,6 +154,10 @@ placed_text after_value s ls h e = cc
 placed_text after_comma s ls h e = rw e refl
 placed_text after_key s ls h e = cc
 
+text_first : (p : Place) (s r : List ℕ) → may_begin p ≡ true → list_all is_plain s ≡ true → begins_colon (lex between r) ≡ false
+    → tokens_behind p (34 ∷ (s ++ 34 ∷ r)) ≡ string s ∷ tokens_behind after_value r
+text_first p s r h plainly e = ap (punctuate p) (quoted s r plainly) ∙ placed_text p s (lex between r) h e
+
 pub no_colon_comma : (r : List ℕ) → begins_colon (lex between (44 ∷ r)) ≡ false
 unfolding lex
 no_colon_comma r = refl
@@ -233,66 +237,6 @@ pub comma_passed : (bytes : List ℕ) (at end new : ℕ) → lex between (drop e
 comma_passed bytes at end new before here behind =
     ap (punctuate after_comma) behind ∙ sym (past_comma (drop (end + 1) bytes))
     ∙ ap (tokens_behind after_value) (sym (peeked bytes end 44 here (omega arith)).1) ∙ ap (punctuate after_value) before
-
--- ---- numbers
-
-is_other_than : (c d : ℕ) (s : List ℕ) → all_ascii_digits (c ∷ s) ≡ true → is_ascii_digit d ≡ false → (c == d) ≡ false
-is_other_than c d s h e = go (c == d) refl
-  where
-    go : (t : Bool) → (c == d) ≡ t → t ≡ false
-    go true is =
-        let here = and_parts (is_ascii_digit c) (all_ascii_digits s) h in
-        let same : is_ascii_digit d ≡ true = subst (λ x. is_ascii_digit x ≡ true) (eqb-true c d is) here.0 in
-        cc
-    go false is = refl
-
-whole_passed : (c : ℕ) (s : List ℕ) (t : Bool) → (c == 48) ≡ t → all_ascii_digits (c ∷ s) ≡ true → (t ≡ true → s ≡ [])
-    → after_whole (c ∷ s) ≡ Some []
-whole_passed c s true e h alone = rw e (ap Some (alone refl))
-whole_passed c s false e h alone =
-    rw e (rw (all_prefix (c ∷ s) h) (rw (ne_eqb (suc (length s)) 0 (λ z. omega arith)) (ap Some (drop_all (length s) s (omega arith)))))
-
-only_zero : (c : ℕ) (s : List ℕ) → (1 < length (c ∷ s) → (c == 48) ≡ false) → (c == 48) ≡ true → s ≡ []
-only_zero c [] first e = refl
-only_zero c (d ∷ s) first e = let other : (c == 48) ≡ false = first (omega arith) in cc
-
-pub digits_alone : (s : List ℕ) → all_ascii_digits s ≡ true → 0 < length s → (1 < length s → (slice_index s 0 == 48) ≡ false) → IsNumber s
-unfolding after_number
-digits_alone [] h some first = absurd (omega (arith, some))
-digits_alone (c ∷ s) h some first =
-    rw (is_other_than c 45 s h refl)
-    (ap (λ o. option_and_then after_exponent (option_and_then after_fraction o))
-    (whole_passed c s (c == 48) refl h (only_zero c s first)))
-
-pub number_passed : (bytes : List ℕ) (at count : ℕ) → IsNumber (take count (drop at bytes)) → ends_word (drop (at + count) bytes) ≡ true
-    → (p : Place) → may_begin p ≡ true
-    → tokens_behind p (drop at bytes) ≡ number (take count (drop at bytes)) ∷ tokens_behind after_value (drop (at + count) bytes)
-number_passed bytes at count is ended p h =
-    let s : List ℕ = take count (drop at bytes) in
-    let behind : drop count (drop at bytes) ≡ drop (at + count) bytes = drop-drop count at bytes ∙ ap (λ n. drop n bytes) (omega arith) in
-    let split : drop at bytes ≡ s ++ drop (at + count) bytes = sym (take-append-drop count (drop at bytes)) ∙ ap (λ r. s ++ r) behind in
-    ap (tokens_behind p) split ∙ number_first p s (drop (at + count) bytes) h is ended
-
-pub number_written : (bytes : List ℕ) (at count n : ℕ) → at + count ≤ length bytes → 0 < count → count ≤ 9
-    → AllDigits 10 (take count (drop at bytes)) → n ≡ digits_value 10 (take count (drop at bytes))
-    → (1 < count → (slice_index bytes at == 48) ≡ false) → ends_word (drop (at + count) bytes) ≡ true
-    → WritesNumber bytes at n (at + count)
-number_written bytes at count n within some most all is first ended =
-    let s : List ℕ = take count (drop at bytes) in
-    let size : length s ≡ count = length-take-le count (drop at bytes) (omega (arith, length-drop at bytes, within)) in
-    let ascii = (numerals_by_value (λ ds. all_ascii_digits ds ≡ true) tells_all_ascii_digits).from s all in
-    let small : n < 10 ^ 9 = few (drop at bytes) count 9 n most all is in
-    let here : slice_index s 0 ≡ slice_index bytes at =
-    get_or-take count (drop at bytes) 0 0 some ∙ get_or-drop at bytes 0 0 ∙ ap (λ k. get_or bytes k 0) (omega arith) in
-    record {
-      text = s;
-      first =
-          number_passed bytes at count (digits_alone s ascii (omega (arith, size, some))
-          (λ long. ap (λ x. x == 48) here ∙ first (omega (arith, size, long)))) ended;
-      value = digits_number s n ascii (omega (arith, size, some)) (omega (arith, small)) is;
-      small = omega (arith, small);
-      within = within;
-    }
 
 pub split_at : (bytes : List ℕ) (at end : ℕ) → at ≤ end → drop at bytes ≡ take (end - at) (drop at bytes) ++ drop end bytes
 split_at bytes at end order =
@@ -385,6 +329,22 @@ key_taken bytes text name at end new p same h here order is plainly quote colons
     subst (λ bs. tokens_behind p (drop at bs) ≡ key name ∷ tokens_behind fresh (drop new bs)) same
     (ap (tokens_behind p) (front ∙ ap (λ r. 34 ∷ r) (middle ∙ ap (λ r. name ++ r) last))
     ∙ key_first p name (drop (end + 1 + 1) bytes) h plainly ∙ ap (λ ls. key name ∷ punctuate fresh ls) (sym behind))
+
+pub name_taken : (bytes text name : List ℕ) (at end new : ℕ) (p q : Place) → bytes ≡ text → may_begin p ≡ true
+    → slice_index bytes at ≡ 34 → at + 1 ≤ end → take (end - (at + 1)) (drop (at + 1) bytes) ≡ name → list_all is_plain name ≡ true
+    → slice_index bytes end ≡ 34 → begins_colon (lex between (drop (end + 1) bytes)) ≡ false
+    → tokens_behind q (drop new bytes) ≡ tokens_behind after_value (drop (end + 1) bytes)
+    → Comes 1 (tokens_behind p (drop at text)) (tree.string name) (tokens_behind q (drop new text))
+name_taken bytes text name at end new p q same h here order is plainly quote alone behind =
+    let front = (peeked bytes at 34 here (omega arith)).1 in
+    let middle = split_at bytes (at + 1) end order ∙ ap (λ s. s ++ drop end bytes) is in
+    let last = (peeked bytes end 34 quote (omega arith)).1 in
+    let first : tokens_behind p (drop at bytes) ≡ string name ∷ tokens_behind after_value (drop (end + 1) bytes) =
+    ap (tokens_behind p) (front ∙ ap (λ r. 34 ∷ r) (middle ∙ ap (λ r. name ++ r) last))
+    ∙ text_first p name (drop (end + 1) bytes) h plainly alone in
+    subst (λ bs. Comes 1 (tokens_behind p (drop at bs)) (tree.string name) (tokens_behind q (drop new bs))) same
+    (subst (λ ts. Comes 1 ts (tree.string name) (tokens_behind q (drop new bytes)))
+    (sym (first ∙ ap (λ ts. string name ∷ ts) (sym behind))) (string_comes name (tokens_behind q (drop new bytes))))
 
 pub null_taken : (bytes text : List ℕ) (at new : ℕ) (p q : Place) → bytes ≡ text → may_begin p ≡ true → slice_index bytes at ≡ 110
     → drop (at + 1) bytes ≡ 117 ∷ 108 ∷ 108 ∷ drop (at + 4) bytes → ends_word (drop (at + 4) bytes) ≡ true

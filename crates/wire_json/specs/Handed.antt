@@ -52,6 +52,13 @@ pub record ReadsRest (kind : List ℕ) (all : List Token) (call : Call) : Type 0
   pub told : TellsEntries 5 all entries (end_object ∷ [])
   pub asks : call_in (object (put_entries ((codes "t", string kind) ∷ entries) no_members)) ≡ Ok call
 
+-- the tokens are what an object has behind the key `t`, its kind first, and the whole asks for this call
+pub record ReadsKind (all : List Token) (call : Call) : Type 0 where
+  pub kind : List ℕ
+  pub rest : List Token
+  pub first : Comes 1 all (string kind) rest
+  pub asks : ReadsRest kind rest call
+
 -- the tokens are a value that asks for this call
 pub record ReadsCall (all : List Token) (call : Call) : Type 0 where
   pub value : Data

@@ -4,15 +4,32 @@ ghost use Rattle.std.specs.Prelude.{◌≡◌, true, codes, IfOk, IfErr, IfSome}
 ghost use Rattle.std.specs.List.{list_all};
 ghost use Rattle.opid.specs.declared.refusal.Refusal.TheVariants.{Memory};
 ghost use Rattle.wire_json.specs.Plain.{is_plain};
-ghost use Rattle.wire_json.specs.Handed.{ReadsField, ReadsPlace, ReadsRest, ReadsCall, AsksFor};
+ghost use Rattle.wire_json.specs.Handed.{ReadsField, ReadsPlace, ReadsRest, ReadsKind, ReadsCall, AsksFor};
 
 use crate::handed::rest_of_put;
 use crate::plain::{MAX_TEXT, PlainReader};
-use crate::spelled::{is_closed, is_one};
+use crate::spelled::is_closed;
 use arrayvec::ArrayString;
 use opid::Refusal;
 use room::{Call, Characters};
 use std::alloc::Global;
+
+/// Whether bytes may be read so, by the first of them, since what gives up later is begun twice: `{"t":`, with a blank behind it or
+/// none, and a letter with which a kind begins, or a bracket with a space behind it, as in a request with a member a line.
+#[inline(always)]
+pub(crate) fn may_be_read(bytes: &[u8]) -> bool {
+    if bytes.len() < 8 || bytes[0] != b'{' {
+        return false;
+    }
+    if bytes[1] != b'"' {
+        return bytes[1] <= b' ';
+    }
+    if bytes[2] != b't' || bytes[3] != b'"' || bytes[4] != b':' {
+        return false;
+    }
+    let letter = if bytes[5] == b'"' { bytes[6] } else { bytes[7] };
+    matches!(letter, b'd' | b'i' | b'j' | b'l' | b'o' | b'p' | b'r')
+}
 
 /// The call that the text asks for, where it is an object whose first key is `t` and whose others come in the order of the
 /// protocol's page, its numbers of at most nine digits and its texts of at most 256 bytes; the operations of a `put` are spelled as
@@ -33,32 +50,36 @@ fn read_object(alloc: Global, reader: &mut PlainReader<'_>) -> Result<Option<Cal
     if !reader.take_begin_object() || !reader.take_key("t") {
         return Ok(None);
     }
-    let mut text = ArrayString::new();
-    if !reader.next_text(&mut text) {
-        return Ok(None);
+    read_kind(alloc, reader)
+}
+
+// The call that the rest of the one object asks for, from its kind on.
+fn read_kind(alloc: Global, reader: &mut PlainReader<'_>) -> Result<Option<Call>, Refusal>
+    ensures told { IfOk result (λ r. IfSome r (λ call. ReadsKind reader.old call)) }
+    ensures memory { IfErr result (λ e. e ≡ Memory) }
+{
+    if reader.take_text("ins") {
+        return rest_of_ins(alloc, reader);
     }
-    if is_one(text.as_str(), "ins") {
-        return rest_of_ins(alloc, reader, &mut text);
-    }
-    if is_one(text.as_str(), "pull") {
+    if reader.take_text("pull") {
         return Ok(rest_of_pull(reader));
     }
-    if is_one(text.as_str(), "del") {
+    if reader.take_text("del") {
         return Ok(rest_of_del(reader));
     }
-    if is_one(text.as_str(), "put") {
-        return rest_of_put(alloc, reader, &mut text);
+    if reader.take_text("put") {
+        return rest_of_put(alloc, reader);
     }
-    if is_one(text.as_str(), "ops") {
+    if reader.take_text("ops") {
         return Ok(rest_of_part(reader));
     }
-    if is_one(text.as_str(), "read") {
+    if reader.take_text("read") {
         return Ok(rest_of_read(reader));
     }
-    if is_one(text.as_str(), "join") {
+    if reader.take_text("join") {
         return Ok(rest_of_join(reader));
     }
-    if is_one(text.as_str(), "leave") {
+    if reader.take_text("leave") {
         return Ok(rest_of_leave(reader));
     }
     Ok(None)
@@ -77,18 +98,15 @@ fn next_field(reader: &mut PlainReader<'_>, name: &str) -> Option<u32>
 }
 
 // What an insertion has behind its kind.
-fn rest_of_ins(
-    alloc: Global,
-    reader: &mut PlainReader<'_>,
-    text: &mut ArrayString<MAX_TEXT>,
-) -> Result<Option<Call>, Refusal>
+fn rest_of_ins(alloc: Global, reader: &mut PlainReader<'_>) -> Result<Option<Call>, Refusal>
     ensures told { IfOk result (λ r. IfSome r (λ call. ReadsRest (codes "ins") reader.old call)) }
     ensures memory { IfErr result (λ e. e ≡ Memory) }
 {
     let Some((s, n, v, k)) = next_place(reader) else {
         return Ok(None);
     };
-    if !reader.take_key("x") || !reader.next_text(text) || !is_closed(reader) {
+    let mut text: ArrayString<MAX_TEXT> = ArrayString::new();
+    if !reader.take_key("x") || !reader.next_text(&mut text) || !is_closed(reader) {
         return Ok(None);
     }
     let x = Characters::from_str(alloc, text.as_str())?;

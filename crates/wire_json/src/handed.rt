@@ -18,7 +18,6 @@ use std::alloc::Global;
 pub(crate) fn rest_of_put(
     alloc: Global,
     reader: &mut PlainReader<'_>,
-    text: &mut ArrayString<MAX_TEXT>,
 ) -> Result<Option<Call>, Refusal>
     ensures told { IfOk result (λ r. IfSome r (λ call. ReadsRest (codes "put") reader.old call)) }
     ensures memory { IfErr result (λ e. e ≡ Memory) }
@@ -26,7 +25,7 @@ pub(crate) fn rest_of_put(
     if !reader.take_key("ops") {
         return Ok(None);
     }
-    let Some(ops) = next_ops(alloc, reader, text)? else {
+    let Some(ops) = next_ops(alloc, reader)? else {
         return Ok(None);
     };
     if !is_closed(reader) {
@@ -36,17 +35,14 @@ pub(crate) fn rest_of_put(
 }
 
 // The operations of the next value, a list of objects, of which no request has as many as it may have bytes: at most the first 65.
-fn next_ops(
-    alloc: Global,
-    reader: &mut PlainReader<'_>,
-    text: &mut ArrayString<MAX_TEXT>,
-) -> Result<Option<Vec<Op>>, Refusal>
+fn next_ops(alloc: Global, reader: &mut PlainReader<'_>) -> Result<Option<Vec<Op>>, Refusal>
     ensures told { IfOk result (λ r. IfSome r (λ ops. ReadsOps reader.old ops.items reader.new)) }
     ensures memory { IfErr result (λ e. e ≡ Memory) }
 {
     if !reader.take_begin_array() {
         return Ok(None);
     }
+    let mut text: ArrayString<MAX_TEXT> = ArrayString::new();
     let mut ops = Vec::new(alloc);
     for _ in 0..MAX_REQUEST_BYTES {
         if reader.take_end_array() {
@@ -55,7 +51,7 @@ fn next_ops(
         if !reader.take_begin_object() {
             return Ok(None);
         }
-        let Some(item) = rest_of_item(reader, text) else {
+        let Some(item) = rest_of_item(reader, &mut text) else {
             return Ok(None);
         };
         unfold_run(&mut ops, item.first, behind_first(text.as_str()))?;

@@ -201,6 +201,7 @@ pub(crate) fn unfold_run(ops: &mut Vec<Op>, first: Op, more: &str) -> Result<(),
 }
 
 // Adds an operation. The last that is kept gets room for itself alone, since a call that hands over too many is recorded too.
+#[inline(always)]
 fn push_kept(ops: &mut Vec<Op>, op: Op) -> Result<(), Refusal>
     ensures items { OnOk result (ops.new.items ≡ ops.old.items ++ op ∷ []) }
     ensures memory { IfErr result (λ e. e ≡ Memory) }

@@ -19,6 +19,7 @@ mod outcome_bytes;
 mod packing;
 mod pieces;
 mod plain;
+mod plain_number;
 mod plain_text;
 mod reading;
 mod spelled;

@@ -13,7 +13,7 @@ ghost use Rattle.serde_json.specs.Data.{unsigned};
 ghost use Rattle.wire_json.specs.Coming.{Comes};
 ghost use Rattle.wire_json.specs.Plain.{tokens_behind, spot_of, is_plain, WritesNumber, WritesText};
 
-use crate::flat::MOST_DIGITS;
+use crate::plain_number::{is_word_end, number_at};
 use crate::plain_text::text_at;
 use arrayvec::ArrayString;
 use std::marker::Model;
@@ -147,48 +147,6 @@ fn behind_spaced_value(bytes: &[u8], at: usize) -> (usize, Place)
     } else {
         (end, Place::AfterValue)
     }
-}
-
-// Whether a word ends at the place.
-#[inline(always)]
-fn is_word_end(bytes: &[u8], at: usize) -> bool
-    requires { at ≤ length bytes.now }
-    ensures { result ≡ true → ends_word (drop at bytes.now) ≡ true }
-{
-    at == bytes.len() || matches!(bytes[at], b',' | b']' | b'}' | b' ' | b'\n' | b'\r' | b'\t')
-}
-
-// The number of at most nine digits that is written from a place on, and the place behind it.
-#[inline(always)]
-fn number_at(bytes: &[u8], at: usize) -> Option<(u32, usize)>
-    requires { at ≤ length bytes.now }
-    ensures { IfSome result (λ p. WritesNumber bytes.now at p.0 p.1) }
-{
-    let rest = &bytes[at..];
-    let most = rest.len().min(MOST_DIGITS);
-    let mut n: u32 = 0;
-    let mut count = 0;
-    while count < most && rest[count] >= b'0' && rest[count] <= b'9' {
-        n = n * 10 + u32::from(rest[count] - b'0');
-        count += 1;
-    }
-    let end = at + count;
-    if count == 0 || !is_word_end(bytes, end) {
-        return None;
-    }
-    if begins_with_zero(bytes, at, count) {
-        return None;
-    }
-    Some((n, end))
-}
-
-// Whether the first of several digits is a zero: then they write no number.
-#[inline(always)]
-fn begins_with_zero(bytes: &[u8], at: usize, count: usize) -> bool
-    requires { at + count ≤ length bytes.now }
-    ensures { result ≡ false → 1 < count → (slice_index bytes.now at == 48) ≡ false }
-{
-    count > 1 && bytes[at] == b'0'
 }
 
 // Whether what ends a value comes next, behind spaces.
@@ -344,6 +302,35 @@ impl<'a> PlainReader<'a> {
         }
         self.at = behind_spaces(bytes, end + 2);
         self.place = Place::Fresh;
+        true
+    }
+
+    /// Takes the text, if it is next, with no escapes, and a comma or a closing bracket comes behind it. Passes what stands between it
+    /// and what is next.
+    #[inline(always)]
+    pub(crate) fn take_text(&mut self, name: &str) -> bool
+        requires { list_all is_plain name.now ≡ true }
+        ensures yes { result ≡ true → Comes 1 self.old (tree.string name.now) self.new }
+        ensures no { result ≡ false → self.new ≡ self.old }
+    {
+        let bytes = self.text.as_bytes();
+        if !self.place.may_begin()
+            || peek(bytes, self.at) != b'"'
+            || name.len() >= bytes.len() - self.at
+        {
+            return false;
+        }
+        let end = self.at + 1 + name.len();
+        if end == bytes.len()
+            || !is_same(&bytes[self.at + 1..end], name.as_bytes())
+            || bytes[end] != b'"'
+            || !is_value_end(bytes, end + 1)
+        {
+            return false;
+        }
+        let (at, place) = behind_value(bytes, end + 1);
+        self.at = at;
+        self.place = place;
         true
     }
 

@@ -3,8 +3,8 @@ use Rattle.std.proofs.Common.{length-drop}
 use Rattle.std.proofs.lemmas.List.{take_all}
 use Rattle.std.specs.Str.Parse.{AllDigits, digits_value}
 use Rattle.wire_json.proofs.Digits.{digit_more, few}
-use Rattle.wire_json.proofs.Plainly.{number_written}
-use Rattle.wire_json.proofs.plain.number_at.Goals as goal
+use Rattle.wire_json.proofs.PlainNumber.{number_written}
+use Rattle.wire_json.proofs.plain_number.number_at.Goals as goal
 
 pub overflow_mul-n : goal.overflow_mul-n
 overflow_mul-n c =

@@ -1,7 +1,7 @@
 -- What was passed are digits, and the number so far is theirs.
 use Rattle.std.proofs.Common.{◌≡◌, ◌≤◌, ◌-◌, take}
 use Rattle.std.specs.Str.Parse.{AllDigits, digits_value}
-use Rattle.wire_json.proofs.plain.number_at.Given as goal
+use Rattle.wire_json.proofs.plain_number.number_at.Given as goal
 
 abbrev pub decreases-loop-count : goal.decreases-loop-count
 decreases-loop-count l = l.most - l.count
