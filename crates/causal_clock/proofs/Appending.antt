@@ -211,8 +211,8 @@ width-latest es ms rows ops clocks lasts numbers s place before p l e b = b ∙ 
 -- the row names the clock before, or goes back
 goes-back : (ms : List (ℕ × ℕ)) (rows : List Row) (ops : List Operation) (clocks : List (List ℕ)) (lasts numbers : List ℕ) (x : Operation)
     (r : Row) → IsSite rows ops clocks lasts numbers x.site
-    → (is_marked (get_or numbers x.site 0) ≡ true → base_of ms r ≡ latest ops x.site)
-    → (is_marked (get_or numbers x.site 0) ≡ false → base_of ms r ≡ clock_of [])
+    → (is_marked (get_or numbers x.site 0) ≡ true → fill (base_of ms r) (entries_of ops x) ≡ x.clock)
+    → (is_marked (get_or numbers x.site 0) ≡ false → latest ops x.site ≡ clock_of [] → fill (base_of ms r) (entries_of ops x) ≡ x.clock)
     → (is_marked (get_or numbers x.site 0) ≡ false → r.prev ≡ get_or lasts x.site 0)
     → (is_marked (get_or numbers x.site 0) ≡ true → r.back ≡ 0) → (get_or numbers x.site 0 + 1 ≤ 1 → r.back ≡ 0)
     → (is_marked (get_or numbers x.site 0) ≡ false → 1 < get_or numbers x.site 0 + 1
@@ -226,7 +226,7 @@ goes-back ms rows ops clocks lasts numbers x r own b d e h f g = go (is_marked (
         inl (h m, b m)
     go false zero q c =
         let m : is_marked (get_or numbers x.site 0) ≡ false = ap is_marked own.number ∙ q in
-        inl (f (omega (arith, own.number, c)), d m ∙ sym (own.none c))
+        inl (f (omega (arith, own.number, c)), d m (own.none c))
     go false (suc n) q c =
         let m : is_marked (get_or numbers x.site 0) ≡ false = ap is_marked own.number ∙ q in
         inr (omega (arith, c), q, e m, g m (omega (arith, own.number, c)))
@@ -249,22 +249,41 @@ marked_within : (ms : List (ℕ × ℕ)) (t : Bool) (before : List ℕ) (p m las
 marked_within ms true before p m last e f l = omega (arith, e, f, length-append ms (marks_of true before))
 marked_within ms false before p m last e f l = absurd (omega (arith, f, l))
 
+-- so the entries make the clock over it, or by themselves
+base_read : (ms : List (ℕ × ℕ)) (t w : Bool) (before clock : List ℕ) (r : Row) (last : ℕ) → length before ≡ 32 → length clock ≡ 32
+    → r.prev ≡ cond t (length ms) last → r.mark ≡ length (marks_of t before)
+    → (t ≡ false → fill (clock_of []) (changes w before clock 32) ≡ clock)
+    → fill (base_of (ms ++ marks_of t before) r) (changes w before clock 32) ≡ clock
+base_read ms true w before clock r last wb wc p m h =
+    let base = marked_at ms true before r wb p m refl in
+    fill-changes w before clock (base_of (ms ++ marks_of true before) r) 32 (ap length base ∙ wb) wc (λ _. base)
+base_read ms false w before clock r last wb wc p m h =
+    ap (λ b. fill b (changes w before clock 32)) (unmarked_at (ms ++ []) false before r m refl) ∙ h refl
+
+unneeded : (t m : Bool) → (t ≡ true → m ≡ true) → m ≡ false → t ≡ false
+unneeded true m h e = sym (h refl) ∙ e
+unneeded false m h e = refl
+
 pub appended_read : (es fs ms ns : List (ℕ × ℕ)) (rows lines : List Row) (clocks : List (List ℕ)) (lasts numbers : List ℕ)
-    (r : Row) (x : Operation) (place : ℕ) (before clock : List ℕ)
+    (r : Row) (x : Operation) (place : ℕ) (before clock : List ℕ) (needs : Bool)
     → IsPacked es ms rows (logged es rows) clocks lasts numbers → IsOperation x
     → length clocks ≡ 32 → length lasts ≡ 32 → length numbers ≡ 32
     → place ≡ x.site → clock ≡ x.clock → before ≡ get_or clocks place [] → length before ≡ 32
     → fs ≡ es ++ changes (is_whole (get_or numbers place 0)) before clock 32
-    → ns ≡ ms ++ marks_of (is_marked (get_or numbers place 0)) before → lines ≡ rows ++ r ∷ []
+    → (needs ≡ true → is_marked (get_or numbers place 0) ≡ true)
+    → (is_marked (get_or numbers place 0) ≡ true → needs ≡ false
+    → fill (clock_of []) (changes (is_whole (get_or numbers place 0)) before clock 32) ≡ clock)
+    → ns ≡ ms ++ marks_of needs before → lines ≡ rows ++ r ∷ []
     → r.site ≡ x.site → r.kind ≡ x.kind → r.from ≡ length es
     → r.count ≡ length (changes (is_whole (get_or numbers place 0)) before clock 32)
-    → r.mark ≡ length (marks_of (is_marked (get_or numbers place 0)) before)
-    → r.prev ≡ cond (is_marked (get_or numbers place 0)) (length ms) (get_or lasts place 0)
+    → r.mark ≡ length (marks_of needs before)
+    → r.prev ≡ cond needs (length ms) (get_or lasts place 0)
     → (is_marked (get_or numbers place 0) ≡ true → r.back ≡ 0) → (get_or numbers place 0 + 1 ≤ 1 → r.back ≡ 0)
     → (is_marked (get_or numbers place 0) ≡ false → 1 < get_or numbers place 0 + 1 → r.back ≡ (row_at rows (get_or lasts place 0)).back + 1)
     → IsPacked fs ns lines (logged fs lines) (set clocks place clock) (set lasts place (length rows))
     (set numbers place (get_or numbers place 0 + 1)) × (logged fs lines ≡ logged es rows ++ x ∷ [])
-appended_read es fs ms ns rows lines clocks lasts numbers r x place before clock p v wc wl wn s c b wb ef em el rs rk rf rn rm rp h f g =
+appended_read es fs ms ns rows lines clocks lasts numbers r x place before clock needs p v wc wl wn s c b wb ef k a em el rs rk rf rn rm rp
+    h f g =
     let own : IsSite rows (logged es rows) clocks lasts numbers x.site = p.sites x.site v.site in
     let old : before ≡ latest (logged es rows) x.site =
     width-latest es ms rows (logged es rows) clocks lasts numbers x.site place before p v.site s b in
@@ -274,28 +293,32 @@ appended_read es fs ms ns rows lines clocks lasts numbers r x place before clock
     (λ (a d : List ℕ). changes (is_whole (count_of (logged es rows) x.site)) a d 32) old c in
     let at : get_or numbers x.site 0 ≡ get_or numbers place 0 = ap (λ k. get_or numbers k 0) (sym s) in
     let there : get_or lasts place 0 ≡ get_or lasts x.site 0 = ap (λ k. get_or lasts k 0) s in
-    let fresh : List (ℕ × ℕ) = marks_of (is_marked (get_or numbers place 0)) before in
+    let fresh : List (ℕ × ℕ) = marks_of needs before in
+    let wide : length clock ≡ 32 = ap length c ∙ v.width in
+    let made : (needs ≡ false → fill (clock_of []) (changes (is_whole (get_or numbers place 0)) before clock 32) ≡ clock)
+    → fill (base_of (ms ++ fresh) r) (entries_of (logged es rows) x) ≡ x.clock =
+    λ alone. ap (λ m. fill (base_of (ms ++ fresh) r) m) (sym same)
+    ∙ base_read ms needs (is_whole (get_or numbers place 0)) before clock r (get_or lasts place 0) wb wide rp rm alone ∙ c in
     let tells : Tells es (ms ++ fresh) rows (logged es rows) lasts x r = record {
       valid = v;
       site = rs;
       kind = rk;
       from = rf;
       count = rn ∙ ap length same;
-      mark = marked_within ms (is_marked (get_or numbers place 0)) before r.prev r.mark (get_or lasts place 0) rp rm;
+      mark = marked_within ms needs before r.prev r.mark (get_or lasts place 0) rp rm;
       back = goes-back (ms ++ fresh) rows (logged es rows) clocks lasts numbers x r own
+          (λ q. made (a (ap is_marked (sym at) ∙ q)))
+          (λ q e. made (λ _. fill-changes (is_whole (get_or numbers place 0)) before clock (clock_of []) 32 (length-clock_of []) wide
+          (λ _. sym (old ∙ e))))
           (λ q.
-          let m : is_marked (get_or numbers place 0) ≡ true = ap is_marked (sym at) ∙ q in
-          marked_at ms (is_marked (get_or numbers place 0)) before r wb (rp ∙ cond-true _ _ _ m) rm m ∙ old)
-          (λ q. unmarked_at (ms ++ fresh) (is_marked (get_or numbers place 0)) before r rm (ap is_marked (sym at) ∙ q))
-          (λ q.
-          let m : is_marked (get_or numbers place 0) ≡ false = ap is_marked (sym at) ∙ q in
+          let m : needs ≡ false = unneeded needs (is_marked (get_or numbers place 0)) k (ap is_marked (sym at) ∙ q) in
           rp ∙ cond-false _ _ _ m ∙ there)
           (λ q. h (ap is_marked (sym at) ∙ q)) (λ q. f (omega (arith, q, at)))
           (λ q w. g (ap is_marked (sym at) ∙ q) (omega (arith, w, at)) ∙ ap (λ k. (row_at rows k).back + 1) there);
     } in
     let all = appended es fs ms fresh ns rows lines clocks lasts numbers r x (get_or numbers place 0 + 1) (ef ∙ ap (λ m. es ++ m) same) em
     el wc wl wn (ap (λ n. n + 1) (sym at)) (sym (ap length old) ∙ wb)
-    (subst (λ n. length fresh + 4 * ((n + 1) % 8) ≤ 4 * (n % 8 + 1)) (sym at) (one_each (get_or numbers place 0) before)) p tells in (
+    (subst (λ n. length fresh + 4 * ((n + 1) % 8) ≤ 4 * (n % 8 + 1)) (sym at) (one_each (get_or numbers place 0) needs before k)) p tells in (
       subst (λ (k : ℕ). IsPacked fs ns lines (logged fs lines) (set clocks k clock) (set lasts k (length rows))
           (set numbers k (get_or numbers place 0 + 1))) (sym s)
           (subst (λ (d : List ℕ). IsPacked fs ns lines (logged fs lines) (set clocks x.site d) (set lasts x.site (length rows))

@@ -1,15 +1,21 @@
 -- The bits of a comparison name the entries that an operation tells, and the lowest bit names the next one.
 use Rattle.std.proofs.Common.{◌≡◌, ℕ, zero, suc, ◌<◌, ◌≤◌, ◌*◌, ◌^◌, ◌%◌, ◌⊎◌, inl, inr, Bool, true, false, cond, not, ◌||◌, eqb, List, []}
-use Rattle.std.proofs.Common.{◌∷◌, ◌++◌, length, get_or, refl, ap, ◌∙◌, sym, subst, arith, w64, bit_and}
+use Rattle.std.proofs.Common.{◌∷◌, ◌++◌, length, get_or, min, refl, ap, ◌∙◌, sym, subst, arith, w64, bit_and}
 use mathlib.Core.Path.{ap₂}
 use lib.Lanes.{mask_l, zip2}
 use Rattle.std.specs.Int.{bit_at, bit_not, trailing_zeros}
 use Rattle.std.proofs.lemmas.Bool.{cases_eq, cases_lt}
 use Rattle.std.proofs.lemmas.Nat.{and_le_l}
-use Rattle.std.proofs.lemmas.Nat.Bits.{bit_at-trailing_zeros, bit_at_clear_same, bit_at_clear_other, bit_at_above, bit_at_ones}
+use Rattle.std.proofs.lemmas.Nat.Bits.{bit_at-trailing_zeros, bit_at_and, bit_at_clear_same, bit_at_clear_other, bit_at_above}
+use Rattle.std.proofs.lemmas.Nat.Bits.{bit_at_ones}
 use Rattle.std.proofs.lemmas.Simd.{length-zip2, get_or-zip2, mask_l-lt, mask_l-mod, bit_mask_l}
 use Rattle.causal_clock.specs.Stored.{changes}
 use Rattle.causal_clock.specs.Told.{AreTold, picked}
+use Rattle.opid.specs.Delivery.{clock_of}
+use Rattle.opid.proofs.Counts.{length-clock_of}
+use Rattle.causal_clock.specs.Packed.{fill}
+use Rattle.causal_clock.proofs.Changing.{fill-others}
+use Rattle.causal_clock.proofs.Raising.{same_lane}
 
 -- a comparison of 32 counts tells which differ
 pub compared : (before clock : List ℕ) (m : ℕ) → length before ≡ 32 → length clock ≡ 32
@@ -28,6 +34,16 @@ compared before clock m lb lc e =
 -- all bits tell all entries
 pub all_told : (before clock : List ℕ) → AreTold true before clock 4294967295
 all_told before clock = record { sites = λ n l. bit_at_ones 32 n l; few = omega arith }
+
+-- where all counts but those of 0 are told, the entries make the clock by themselves
+pub made_alone : (w : Bool) (before clock : List ℕ) (n t : ℕ) → length clock ≡ 32 → AreTold false (clock_of []) clock n
+    → AreTold w before clock t → bit_and n t ≡ n → fill (clock_of []) (changes w before clock 32) ≡ clock
+made_alone w before clock n t lc counted told e =
+    fill-others w before clock (clock_of []) 32 (length-clock_of []) lc (λ k l f.
+    let untold : bit_at t k ≡ 0 = told.sites k l ∙ ap (λ b. cond b 1 0) f in
+    let both : bit_at n k ≡ min (bit_at n k) (bit_at t k) = ap (λ m. bit_at m k) (sym e) ∙ bit_at_and n t k in
+    let none : bit_at n k ≡ 0 = omega (arith, untold, both) in
+    same_lane (get_or (clock_of []) k 0) (get_or clock k 0) (sym (counted.sites k l) ∙ none))
 
 -- the entries whose bits are set are those that are told
 picked_if : (t : Bool) (b : ℕ) (x : ℕ × ℕ) → b ≡ cond t 1 0 → cond (eqb b 1) (x ∷ []) [] ≡ cond t (x ∷ []) []

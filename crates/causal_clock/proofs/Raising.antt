@@ -16,7 +16,7 @@ use Rattle.causal_clock.specs.Told.{AreTold}
 abbrev bit_of : Bool → ℕ
 bit_of t = cond t 1 0
 
-same_lane : (a b : ℕ) → bit_of (not (eqb a b)) ≡ 0 → a ≡ b
+pub same_lane : (a b : ℕ) → bit_of (not (eqb a b)) ≡ 0 → a ≡ b
 same_lane a b h = go (eqb a b) refl h
   where
     go : (t : Bool) → eqb a b ≡ t → bit_of (not t) ≡ 0 → a ≡ b

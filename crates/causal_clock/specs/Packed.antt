@@ -69,7 +69,7 @@ pub record IsLastBefore (ops : List Operation) (site end place : ℕ) : Type 0 w
   pub own : (operation_at ops place).site ≡ site
   pub last : (j : ℕ) → place < j → j < end → (operation_at ops j).site ≡ site → ⊥
 
--- a site's 8th, 16th .. operation, after so many, has a mark: the clock of the site's operation before it, without the counts of 0
+-- a site's 8th, 16th .. operation, after so many, may have a mark: the clock of the site's operation before it, without the counts of 0
 abbrev pub is_marked : ℕ → Bool
 is_marked count = (count + 1) % 8 == 0
 

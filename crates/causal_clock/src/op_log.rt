@@ -27,7 +27,7 @@ const MAX_ROWS: usize = 67_108_864;
 /// Each operation of a site that has a number of this multiple keeps its whole clock as entries.
 const WHOLE: u32 = 64;
 
-/// Each operation of a site that has a number of this multiple has a mark.
+/// Each operation of a site that has a number of this multiple has a mark, where it needs one.
 const MARK: u32 = 8;
 
 /// So many entries of a mark each of these operations has for its part.
@@ -38,7 +38,8 @@ const SINCE: usize = SITES * (MARK as usize - 1);
 
 /// A log of operations. Of each operation it keeps the entries of its clock that differ from those of its site's
 /// operation before, and of each 64th operation of a site all 32. Beside them each 8th operation of a site has a mark,
-/// the counts of its site's operation before it, those of 0 apart, so that what is asked for is near one.
+/// the counts of its site's operation before it, those of 0 apart, so that what is asked for is near one; but where its
+/// own entries make its clock it needs none.
 #[derive(Drop)]
 pub struct OpLog {
     rows: Vec<Row>,
@@ -97,8 +98,8 @@ impl OpLog {
     }
 
     /// The operation at the place. Takes no memory, and reads what is kept of at most 8 operations: itself, and those of
-    /// its site before it back to one that has a mark, or to its first. It sets 32 counts, and puts in the entries of that mark and of
-    /// each of them.
+    /// its site before it back to its 8th, 16th .. one, or to its first. It sets 32 counts, and puts in the entries of that one's mark
+    /// and of each of them.
     pub fn get<L: Ledger>(&self, i: usize, steps: &mut Reads<L>) -> Op
         requires { i < length self.now.ops }
         ensures value { slice_get self.now.ops i ≡ Some result }
@@ -127,7 +128,7 @@ impl OpLog {
     }
 
     /// Reserves memory for the next `n` operations, so that they aren't refused with `Memory`: for each 20 bytes,
-    /// 128 for the 32 entries that it may have, and 16 for its part of a mark, which each 8th operation of a site has, with as many
+    /// 128 for the 32 entries that it may have, and 16 for its part of a mark, which each 8th operation of a site may have, with as many
     /// entries; and 3,584 for the marks that are next in turn. Constant time; nothing grows where so many are reserved already.
     /// Refused with `Memory`, only where fewer are: for want of it, or above 67,108,864 operations.
     pub fn reserve(&mut self, n: usize) -> Result<(), Refusal>
@@ -215,7 +216,7 @@ fn reserve_each(
     Ok(())
 }
 
-/// The counts into which a row's entries are put: those that it names, or those of the clock of its site's operation before.
+/// The counts into which a row's entries are put: those of its mark, zeros, or those of the clock of its site's operation before.
 /// Reads as many operations as the row goes back.
 pub(crate) fn counts_before<L: Ledger>(
     rows: &[Row],
@@ -328,6 +329,18 @@ fn push_changes(entries: &mut Vec<Changed>, whole: bool, before: &[u32; SITES], 
     (entries.len() - from) as u8
 }
 
+/// Whether an operation that is to have a mark needs one: not where its own entries make its clock, as each other count is 0.
+fn needs_mark(marked: bool, whole: bool, before: &[u32; SITES], counts: &[u32; SITES]) -> bool
+    ensures marked { result ≡ true → marked ≡ true }
+    ensures alone { marked ≡ true → result ≡ false → fill (clock_of []) (changes whole before.now counts.now 32) ≡ counts.now }
+{
+    if !marked {
+        return false;
+    }
+    let counted = differing(&[0; SITES], counts);
+    counted & told_sites(whole, before, counts) != counted
+}
+
 /// Keeps the counts, those of 0 apart, as the mark of an operation that has one, and tells where it begins, or else the place that is
 /// given; and how many they are.
 fn push_mark(marks: &mut Vec<Changed>, marked: bool, before: &Clock, last: u32) -> (u32, u8)
@@ -345,7 +358,7 @@ fn push_mark(marks: &mut Vec<Changed>, marked: bool, before: &Clock, last: u32) 
     (place, push_changes(marks, false, &[0; SITES], before))
 }
 
-/// How many operations of its site a site's operation of this number has to go back to one that has a mark, or is its first.
+/// How many operations of its site a site's operation of this number has to go back to one that is to have a mark, or is its first.
 fn back_of(rows: &[Row], marked: bool, number: u32, last: u32) -> u8
     requires { marked ≡ false → 1 < number → (last < length rows.now) × ((row_at rows.now last).back < 8) }
     ensures marked { marked ≡ true → result ≡ 0 }
@@ -398,7 +411,8 @@ fn append(
     let count = push_changes(entries, whole, before.counts(), clock);
     let last = lasts[place];
     let back = back_of(rows.as_slice(), marked, number, last);
-    let (prev, mark) = push_mark(marks, marked, before, last);
+    let needs = needs_mark(marked, whole, before.counts(), clock.counts());
+    let (prev, mark) = push_mark(marks, needs, before, last);
     lasts[place] = rows.len() as u32;
     numbers[place] = number;
     clocks[place] = *clock;

@@ -17,7 +17,7 @@ pub(crate) struct Row {
     /// The first entry of its mark, in the vector of marks, or else the place of its site's operation before it, where there is one.
     pub(crate) prev: u32,
     pub(crate) site: Site,
-    /// How many operations of its site one has to go back to one that has a mark, or is its first.
+    /// How many operations of its site one has to go back to one whose entries make its clock, over its mark or over zeros.
     pub(crate) back: u8,
     /// How many entries it has.
     pub(crate) count: u8,
