@@ -1,6 +1,8 @@
 //! A worked tree, and a random one beside a scan of all elements.
 mod hidings;
+mod made;
 mod plain;
+mod recursive;
 
 ghost use Rattle.std.specs.Prelude.{◌<◌, ◌≤◌, ◌^◌};
 
