@@ -1,4 +1,4 @@
--- How much stands before a new entry.
+-- How much stands before an entry, one that a path leads to or a new one.
 use Rattle.std.proofs.Common.{◌≡◌, ℕ, ◌+◌, ◌*◌, ◌<◌, ◌≤◌, cond, true, false, List, [], ◌∷◌}
 use Rattle.std.proofs.Common.{length, refl, sym, ap, ◌∙◌, subst, arith, length-append, eq-eqb}
 use Rattle.std.proofs.Math.Dec.{eqb}
@@ -11,13 +11,37 @@ use Rattle.counted_tree.specs.Entry.{items_of}
 use Rattle.counted_tree.specs.Size.{through, IsSizeOf}
 use Rattle.counted_tree.specs.Tree.{Tree, entries}
 use Rattle.counted_tree.specs.Tree.Tree.{Fork}
-use Rattle.counted_tree.specs.Along.{inserted_at}
+use Rattle.counted_tree.specs.Along.{inserted_at, before_at}
 use Rattle.counted_tree.specs.Changed.{before}
 use Rattle.counted_tree.specs.Table.{AreOwn}
 use Rattle.counted_tree.proofs.Gains.{gains_left, gains_right, gains_first, gains_inserted}
+use Rattle.counted_tree.proofs.Paths.{no_items, length-before_at-le}
 use Rattle.counted_tree.proofs.Sizes.{size_few, through_lists, through_small}
 use Rattle.counted_tree.proofs.Splits.{alone, before_it}
 use Rattle.counted_tree.proofs.Tables.{own_split}
+
+-- the path ends at the top, so the left side stands before the entry
+pub before_here : (s : Size) (t l r : Tree) (x : Entry) (path : List Side) → t ≡ Fork l x r → length path ≡ 0 → IsSizeOf s (entries l)
+    → IsSizeOf s (before_at t path)
+before_here s t l r x path whole none size = let way = no_items path none in rw (whole, way) size
+
+-- it goes to the right, past the left side and the top's entry
+pub before_right : (s left more : Size) (t l r : Tree) (x : Entry) (path down : List Side) → t ≡ Fork l x r → path ≡ Right ∷ down
+    → s ≡ through left x more → IsSizeOf left (entries l) → IsSizeOf more (before_at r down) → IsSizeOf s (before_at t path)
+before_right s left more t l r x path down whole way e size rest =
+    rw (whole, way) (through_lists s left more (entries l) (before_at r down) x e size rest)
+
+pub before_small : (left more : Size) (t l r : Tree) (x : Entry) (down : List Side) → t ≡ Fork l x r → length (entries t) ≤ 131072
+    → IsSizeOf left (entries l) → IsSizeOf more (before_at r down)
+    → (left.shown + length (items_of false x) + more.shown < 2 ^ 32) × (left.units + length (items_of true x) + more.units < 2 ^ 32)
+before_small left more t l r x down whole few size rest =
+    through_small left more (entries l) (before_at r down) x size rest (omega (
+      arith,
+      ap (λ u. length (entries u)) whole,
+      few,
+      length-append (entries l) (x ∷ entries r),
+      length-before_at-le r down,
+    ))
 
 -- it is nowhere else in the list, so what stands before it is what stood before its place
 before_new : (n : ℕ) (t : Tree) (path : List Side) (new : Entry) → AreOwn n (inserted_at t path new)

@@ -268,8 +268,7 @@ impl VersionTree {
         rank
     }
 
-    /// Adds a version with an element hidden. Takes memory from the reserve alone. Climbs from the element, and reads and makes
-    /// nodes, of either a number logarithmic in that of the elements: how many it makes is promised, how many it reads isn't.
+    /// Adds a version with an element hidden. Takes memory from the reserve alone. Costs what `hide_ranked` costs.
     pub fn hide(&mut self, elem: u32)
         requires room { 1 ≤ self.old.room }
         requires shown { Shows elem (newest_list self.old) }
@@ -278,12 +277,13 @@ impl VersionTree {
         ensures at_most { self.new.nodes ≤ self.old.nodes + 40 }
         ensures room { self.new.room + 1 ≡ self.old.room }
     {
-        let _rank = self.hide_ranked(elem);
+        let mut steps = Steps::new();
+        let _rank = self.hide_ranked(elem, &mut steps);
     }
 
-    /// The same, and tells how many shown elements stand before it, and how many units these have, as `ranks` would before. Costs
-    /// what `hide` costs.
-    pub fn hide_ranked(&mut self, elem: u32) -> Size
+    /// The same, and tells how many shown elements stand before it, and how many units these have, as `ranks` would before. Climbs
+    /// from the element, looks at nodes for at most as many steps as `ranks` may, and copies each that it looks at.
+    pub fn hide_ranked(&mut self, elem: u32, steps: &mut Steps) -> Size
         requires room { 1 ≤ self.old.room }
         requires shown { Shows elem (newest_list self.old) }
         ensures lists { self.new.lists ≡ self.old.lists ++ hidden elem (newest_list self.old) ∷ [] }
@@ -293,9 +293,16 @@ impl VersionTree {
         ensures shown { result.shown ≡ length (visible (entries_before elem (newest_list self.old))) }
         ensures units { result.units ≡ length (units (entries_before elem (newest_list self.old))) }
         ensures few { (result.shown ≤ 131072) × (result.units ≤ 2 * 131072) }
+        ensures cost { steps.new ≤ steps.old + 2 * digits (length (newest_list self.old)) }
     {
         let root = last_root(self.roots.as_slice());
-        let hidden = hide(&mut self.nodes, self.table.as_slice(), root.link, elem);
+        let hidden = hide(
+            &mut self.nodes,
+            self.table.as_slice(),
+            root.link,
+            elem,
+            steps,
+        );
         self.room -= 1;
         self.roots.push_reserved(PackedRoot::new(Root {
             link: Some(hidden.top),

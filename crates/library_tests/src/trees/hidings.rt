@@ -1,6 +1,7 @@
 //! Hidings that tell the ranks of their element, beside a scan of all elements.
 
 use crate::dice::Dice;
+use crate::trees::made::looks;
 use crate::trees::plain::Plain;
 use crate::trees::{OPERATIONS, below, find_the_same, of_empty_ones, put_in_both, rank_the_same};
 use counted_tree::{Steps, VersionTree};
@@ -8,7 +9,7 @@ use std::alloc::AllocError;
 use std::test::Fail;
 
 /// Hides the element at the place of the newest version, if there is one, in the tree and in the scan. Whether the tree tells that as
-/// much stands before it as in the scan.
+/// much stands before it as in the scan, and looks at as many nodes as where it is asked for the ranks alone.
 fn hide_in_both(tree: &mut VersionTree, plain: &mut Plain, k: usize) -> bool {
     if tree.room() == 0 {
         return true;
@@ -18,8 +19,11 @@ fn hide_in_both(tree: &mut VersionTree, plain: &mut Plain, k: usize) -> bool {
     let Some(e) = tree.find(before, k, &mut steps) else {
         return true;
     };
-    let ranks = tree.hide_ranked(e);
-    let same = (ranks.shown as usize, ranks.units as usize) == plain.ranks(before, e);
+    let asked = looks(tree, e);
+    let mut looked = Steps::new();
+    let ranks = tree.hide_ranked(e, &mut looked);
+    let same = (ranks.shown as usize, ranks.units as usize) == plain.ranks(before, e)
+        && asked == Some(looked.count());
     plain.hide(e, tree.newest());
     same
 }
