@@ -149,12 +149,6 @@ is_shown-order nodes first rows k t list b e =
     go true s = s ∙ sym (some s (order_of nodes first) (list.linked.covers k b))
     go false s = s ∙ sym (none s (order_of nodes first) (order-within nodes first list.linked))
 
--- where the element of a deletion is
-pub target-within : (nodes : List Node) (first : Option ℕ) (rows : List SiteIds) (t : Stamp) (k : ℕ) (xs : List Entry)
-    → IsList nodes first rows
-    → entries_of nodes first ≡ xs → elem_of t xs ≡ Some k → k < length nodes
-target-within nodes first rows t k xs list shows e = (elem_of-found nodes first rows t k list (ap (elem_of t) shows ∙ e)).0
-
 -- What the deletion leaves, for what the code has read and written.
 pub deleted : (nodes : List Node) (first : Option ℕ) (rows : List SiteIds) (t : Stamp) (k : ℕ) (n : Node) (xs : List Entry)
     → IsList nodes first rows → entries_of nodes first ≡ xs → elem_of t xs ≡ Some k → n ≡ get_or nodes k n
