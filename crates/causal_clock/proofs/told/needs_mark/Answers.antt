@@ -3,7 +3,7 @@ use Rattle.opid.specs.Clocks.{sites}
 use Rattle.opid.specs.Delivery.{clock_of}
 use Rattle.causal_clock.specs.Told.{AreTold}
 use Rattle.causal_clock.proofs.Picking.{made_alone}
-use Rattle.causal_clock.proofs.op_log.needs_mark.Goals as goal
+use Rattle.causal_clock.proofs.told.needs_mark.Goals as goal
 
 zeros : replicate 32 0 ≡ clock_of []
 unfolding sites

@@ -1,7 +1,7 @@
 use Rattle.std.proofs.Common.{sym, subst}
 use Rattle.causal_clock.specs.Told.{AreTold}
 use Rattle.causal_clock.proofs.Picking.{all_told}
-use Rattle.causal_clock.proofs.op_log.told_sites.Goals as goal
+use Rattle.causal_clock.proofs.told.told_sites.Goals as goal
 
 pub returns-then-whole : goal.returns-then-whole
 returns-then-whole c =
