@@ -1,6 +1,7 @@
 -- The parts of a log of one operation more.
 use Rattle.std.proofs.Common.{◌≡◌, ℕ, zero, suc, ◌+◌, ◌*◌, ◌%◌, ◌<◌, ◌≤◌, ◌⊎◌, inl, inr, Bool, true, false, eqb, List, [], ◌∷◌, ◌++◌}
-use Rattle.std.proofs.Common.{length, set, get_or, take, drop, cond, refl, ap, ◌∙◌, sym, subst, arith, length-append, get_or-set_other, get_or-set_same}
+use Rattle.std.proofs.Common.{length, set, get_or, take, drop, cond, refl, ap, ◌∙◌, sym, subst, arith, length-append}
+use Rattle.std.proofs.Common.{get_or-set_other, get_or-set_same}
 use mathlib.Core.Path.{ap₂}
 use Rattle.std.proofs.lemmas.Bool.{cases_eq, cond-true, cond-false, eq-eqb, eqb-true, false_from_ne_true}
 use Rattle.std.proofs.lemmas.List.{get_or_append_left, get_or_push, length_push}
@@ -318,7 +319,8 @@ appended_read es fs ms ns rows lines clocks lasts numbers r x place before clock
     } in
     let all = appended es fs ms fresh ns rows lines clocks lasts numbers r x (get_or numbers place 0 + 1) (ef ∙ ap (λ m. es ++ m) same) em
     el wc wl wn (ap (λ n. n + 1) (sym at)) (sym (ap length old) ∙ wb)
-    (subst (λ n. length fresh + 4 * ((n + 1) % 8) ≤ 4 * (n % 8 + 1)) (sym at) (one_each (get_or numbers place 0) needs before k)) p tells in (
+    (subst (λ n. length fresh + 4 * ((n + 1) % 8) ≤ 4 * (n % 8 + 1)) (sym at)
+    (one_each (get_or numbers place 0) needs before k)) p tells in (
       subst (λ (k : ℕ). IsPacked fs ns lines (logged fs lines) (set clocks k clock) (set lasts k (length rows))
           (set numbers k (get_or numbers place 0 + 1))) (sym s)
           (subst (λ (d : List ℕ). IsPacked fs ns lines (logged fs lines) (set clocks x.site d) (set lasts x.site (length rows))

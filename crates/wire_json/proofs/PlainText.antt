@@ -85,7 +85,8 @@ pub unit_spelled : (a b c d p q r s : ℕ) → is_digit a 16 ≡ true → is_dig
 unfolding code_unit
 unit_spelled a b c d p q r s ha hb hc hd ea eb ec ed = rw (ha, hb, hc, hd, ea, eb, ec, ed) refl
 
-unit_passed : (bytes : List ℕ) (at unit : ℕ) → WritesUnit bytes at unit → lex in_string (drop at bytes) ≡ lex in_string (drop (at + 4) bytes)
+unit_passed : (bytes : List ℕ) (at unit : ℕ) → WritesUnit bytes at unit
+    → lex in_string (drop at bytes) ≡ lex in_string (drop (at + 4) bytes)
 unit_passed bytes at unit w =
     ap (lex in_string) (sym (take-append-drop 4 (drop at bytes)))
     ∙ stretch_passed (take 4 (drop at bytes)) (drop 4 (drop at bytes)) w.plainly
@@ -99,8 +100,8 @@ halves : (high low : ℕ) → 55296 ≤ high → high < 56320 → 56320 ≤ low 
     → (is_high_surrogate high ≡ true) × (is_low_surrogate low ≡ true)
 halves high low a b c d = (grind (arith, nat_tests), grind (arith, nat_tests))
 
-pub one_unit : (bytes : List ℕ) (at unit ch : ℕ) → WritesUnit bytes at unit → (unit < 55296) ⊎ (56320 ≤ unit) → InScalarRange unit → ch ≡ unit
-    → WritesCharacter after_u in_string bytes at ch (at + 4)
+pub one_unit : (bytes : List ℕ) (at unit ch : ℕ) → WritesUnit bytes at unit → (unit < 55296) ⊎ (56320 ≤ unit) → InScalarRange unit
+    → ch ≡ unit → WritesCharacter after_u in_string bytes at ch (at + 4)
 unfolding content
 one_unit bytes at unit ch w apart in_range same =
     let last : at + 4 - 1 ≡ at + 3 = omega arith in

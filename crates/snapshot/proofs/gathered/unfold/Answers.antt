@@ -43,4 +43,5 @@ returns-clause-told c =
     c.in-None.is c.next.ensures.steps in
     let more = c.args.item.now.more in
     follows_all c.loop-ch.last c.loop-ch.ops.items more (length c.loop-ch.yielded) _
-    (omega (arith, t.1, ap (length {A = ℕ}) c.as_str.ensures.value, ap (λ (g : Item). length g.more) c.item.view_is)) c.loop-ch.invariant.whole
+    (omega (arith, t.1, ap (length {A = ℕ}) c.as_str.ensures.value, ap (λ (g : Item). length g.more) c.item.view_is))
+    c.loop-ch.invariant.whole
