@@ -1,10 +1,10 @@
 -- Which token comes first of bytes that write a number of a few digits.
-use Rattle.std.proofs.Common.{zero, ◌+◌, ◌-◌, take, drop, slice_index}
-use Rattle.std.proofs.Common.{option_and_then, Option, None, append_assoc, append-nil, length-drop, get_or}
+use Rattle.std.proofs.Common.{◌+◌, take, drop, slice_index}
+use Rattle.std.proofs.Common.{option_and_then, length-drop, get_or}
 use Rattle.std.proofs.lemmas.List.{drop-drop, drop_all, take-append-drop, get_or-drop}
-use Rattle.std.proofs.Common.{◌≡◌, ℕ, suc, ◌<◌, ◌≤◌, List, [], ◌∷◌, ◌++◌, Bool, true, false, cond, ◌==◌, ◌⊎◌, inl, inr, length}
+use Rattle.std.proofs.Common.{◌≡◌, ℕ, suc, ◌<◌, ◌≤◌, List, [], ◌∷◌, ◌++◌, Bool, true, false, ◌==◌, length}
 use Rattle.std.proofs.Common.{refl, sym, ap, ◌∙◌, subst, arith, eqb-true, Some}
-use Rattle.json.specs.Token.{begin_object, end_object, begin_array, end_array, key, string, number, null, bad}
+use Rattle.json.specs.Token.{number}
 use Rattle.json.specs.Word.{ends_word, after_number, after_whole, after_fraction, after_exponent}
 use Rattle.std.specs.Char.{is_ascii_digit}
 use Rattle.std.specs.Str.{all_ascii_digits}
@@ -13,25 +13,12 @@ use Rattle.std.proofs.Common.{◌^◌}
 use Rattle.std.proofs.lemmas.Str.Parse.{numerals_by_value, tells_all_ascii_digits}
 use Rattle.std.proofs.lemmas.List.{get_or-take, length-take-le}
 use Rattle.wire_json.proofs.Digits.{all_prefix, digits_number, few}
-use Rattle.std.specs.List.{prefix_len}
 use Rattle.json.specs.Print.{IsNumber}
-use Rattle.json.specs.Lex.{Place, fresh, after_value, after_comma, after_key, Lexeme, token, colon}
-use Rattle.json.specs.Lex.{Mode, between, in_string, lex, punctuate, may_begin, may_close, begins_colon}
-use Rattle.json.specs.Text.{content, plain, prepend, short_escape}
-use Rattle.json.specs.Lex.{lex_byte, operator, space, other, string_token}
-use Rattle.json.specs.Word.{is_operator, is_space, word}
-use Rattle.std.specs.Prelude.{nat_lt}
-use Rattle.std.specs.List.{list_all}
+use Rattle.json.specs.Lex.{Place, after_value}
+use Rattle.json.specs.Lex.{may_begin}
 use Rattle.std.proofs.lemmas.Bool.{and_parts, ne_eqb}
-use Rattle.std.proofs.lemmas.Bool.Decides.{nat_tests}
-use mathlib.Core.Path.{ap₂}
-use Rattle.json.proofs.Printed.Numbers.{lex-number, in_word-ended}
-use Rattle.serde_json.specs.Data as tree
-use Rattle.serde_json.specs.Data.{unsigned}
-use Rattle.wire_json.specs.Coming.{Comes}
-use Rattle.wire_json.proofs.Come.{number_comes, string_comes}
 use Rattle.wire_json.proofs.Plainly.{number_first}
-use Rattle.wire_json.specs.Plain.{tokens_behind, is_plain, WritesNumber, WritesText}
+use Rattle.wire_json.specs.Plain.{tokens_behind, WritesNumber}
 
 is_other_than : (c d : ℕ) (s : List ℕ) → all_ascii_digits (c ∷ s) ≡ true → is_ascii_digit d ≡ false → (c == d) ≡ false
 is_other_than c d s h e = go (c == d) refl

@@ -1,6 +1,6 @@
 -- The content of a text that is read byte by byte: stretches that stand for themselves, and escapes between them.
 use Rattle.std.proofs.Common.{◌≡◌, ℕ, zero, suc, ◌+◌, ◌-◌, ◌*◌, ◌<◌, ◌≤◌, ◌⊎◌, List, [], ◌∷◌, ◌++◌, length, take, drop, get_or}
-use Rattle.std.proofs.Common.{slice_index, Option, Some, None, IfSome, Bool, true, false, ◌==◌, ◌&&◌, cond, option_and_then}
+use Rattle.std.proofs.Common.{slice_index, Option, Some, None, IfSome, true, false, ◌==◌}
 use Rattle.std.proofs.Common.{refl, sym, ap, ◌∙◌, subst, arith, append_assoc, append-nil, length-drop}
 use Rattle.std.proofs.lemmas.Bool.{and_parts}
 use Rattle.std.proofs.lemmas.Bool.Decides.{nat_tests}

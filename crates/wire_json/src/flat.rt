@@ -1,6 +1,5 @@
 //! JSON objects whose members are whole numbers and texts, read token by token, with no tree.
-ghost use Rattle.std.specs.Str.{all_ascii_digits};
-ghost use Rattle.std.specs.Prelude.{◌≡◌, ◌≤◌, ◌<◌, ◌^◌, ◌∷◌, [], length, true, Some, Ok, IfSome, slice_index, ◌==◌};
+ghost use Rattle.std.specs.Prelude.{◌≡◌, ◌≤◌, ◌∷◌, [], length, true, Some, Ok, IfSome, slice_index, ◌==◌};
 ghost use Rattle.serde_json.specs.Data.{unsigned};
 ghost use Rattle.serde_json.specs.Read.{number_of};
 ghost use Rattle.json.specs.Token.{begin_object};
@@ -150,10 +149,7 @@ fn whole_number(text: &str) -> Option<u64>
 // The number that one to nine digits write, and nothing else, as nearly all numbers are written.
 #[inline(always)]
 fn few_digits(bytes: &[u8]) -> Option<u64>
-    ensures value { IfSome result (λ n. number_of bytes.now ≡ Some (unsigned n)) }
-    ensures digits { IfSome result (λ n. all_ascii_digits bytes.now ≡ true) }
-    ensures some { IfSome result (λ n. 0 < length bytes.now) }
-    ensures small { IfSome result (λ n. n < 2 ^ 32) }
+    ensures { IfSome result (λ n. number_of bytes.now ≡ Some (unsigned n)) }
 {
     if bytes.is_empty() || bytes.len() > MOST_DIGITS {
         return None;

@@ -1,4 +1,4 @@
-use Rattle.std.proofs.Common.{◌≡◌, true, length, ◌-◌, ◌≤◌, take, drop}
+use Rattle.std.proofs.Common.{◌≡◌, true, ◌-◌, ◌≤◌, take, drop}
 use Rattle.std.specs.List.{list_all}
 use Rattle.wire_json.specs.Plain.{is_plain}
 use Rattle.wire_json.proofs.plain_text.behind_plain.Given as goal
