@@ -41,8 +41,8 @@ pub fn load(alloc: Global, bytes: &[u8], site: Site) -> Result<Replica, Refusal>
 /// Refused with `BadSnapshot` exactly where they stand for none, and with `Memory` in the place of any answer. Takes time in
 /// proportion to the bytes, and the steps of `Doc::integrate` for each operation: a logarithmic number. Nothing is integrated before
 /// the whole text is read. One that is spelled as `save` and `write_op` spell, but for spaces and escapes, is read byte by byte, and
-/// each of its objects is kept in some 200 bytes till it is integrated; any other is read as a JSON value, which is in memory as a
-/// whole.
+/// each of its objects is kept until all are integrated, in some 200 bytes and a copy of its text above 16 bytes; any other is read
+/// as a JSON value, which is in memory as a whole.
 pub fn load_doc(alloc: Global, bytes: &[u8]) -> Result<Doc, Refusal>
     ensures stands { IfOk result (λ doc. StandsFor bytes.now doc.log) }
     ensures unreserved { IfOk result (λ doc. doc.room ≡ 0) }

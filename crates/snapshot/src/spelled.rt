@@ -15,8 +15,9 @@ use versions::{Doc, MAX_OPERATIONS};
 use wire_json::{PlainReader, behind_first, is_closed, rest_of_item};
 
 /// The document over the log that the bytes stand for, where `format` comes before `ops`, and each object is spelled as
-/// `rest_of_item` reads it. Nothing is integrated before the whole text is read. None where it is spelled otherwise. Refused with
-/// `BadSnapshot` where the operations are no log, and with `Memory`.
+/// `rest_of_item` reads it, and there are at most 131,072. Nothing is integrated before the whole text is read. None where it is
+/// spelled otherwise, has more objects, or a run in format 1. Refused with `BadSnapshot` where the operations are no log, and with
+/// `Memory`.
 pub(crate) fn read_spelled(alloc: Global, bytes: &[u8]) -> Result<Option<Doc>, Refusal>
     ensures stands { IfOk result (λ r. IfSome r (λ doc. StandsFor bytes.now doc.log)) }
     ensures unreserved { IfOk result (λ r. IfSome r (λ doc. doc.room ≡ 0)) }
@@ -45,7 +46,7 @@ pub(crate) fn read_spelled(alloc: Global, bytes: &[u8]) -> Result<Option<Doc>, R
 // The bytes in which a snapshot's format stands and the opening bracket of its list, with some spaces.
 const HEAD: usize = 48;
 
-// Whether the first bytes are those of a snapshot that is read here. Where they aren't, the rest isn't looked at.
+// Whether the first bytes are those of a snapshot that is read here. Where they aren't, the rest isn't looked at here.
 fn begins_as_log(bytes: &[u8]) -> bool {
     match str::from_utf8(&bytes[..bytes.len().min(HEAD)]) {
         Ok(head) => next_head(&mut PlainReader::new(head)).is_some(),
@@ -113,7 +114,7 @@ fn rest_of_log(
         if reader.take_end_array() {
             return Ok(Some(items));
         }
-        if !reader.take_begin_object() {
+        if items.len() >= MAX_OPERATIONS || !reader.take_begin_object() {
             return Ok(None);
         }
         let Some(item) = rest_of_item(reader, &mut text) else {
