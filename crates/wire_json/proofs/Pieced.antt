@@ -1,4 +1,4 @@
--- A character in quotes, byte by byte.
+-- A character in quotes, byte by byte, and that the texts of replies, put together from such pieces, are UTF-8.
 use Rattle.std.proofs.Common.{◌≡◌, ℕ, ◌<◌, ◌≤◌, ◌/◌, ◌%◌, zero, suc, List, [], ◌∷◌, ◌++◌, length, get_or, refl, sym, ap}
 use Rattle.std.proofs.Common.{◌∙◌, arith, lt-ltb, subst, inl, inr}
 use Rattle.std.proofs.lemmas.Bool.{cases_lt}
@@ -86,8 +86,6 @@ pub number_quote : (c : ℕ) → c < 32 → escape_letter c ≡ 0
 unfolding escape_byte
 number_quote c h e =
     ap (λ bs. 34 ∷ (escape bs ++ 34 ∷ [])) (lone c (omega arith)) ∙ rw e (rw (lt-ltb c 32 h) refl)
-
--- ---- texts with commas between them
 
 pub ascii_quote : (c : ℕ) → c < 128 → 32 ≤ c → (c ≡ 34 → ⊥) → (c ≡ 92 → ⊥) → quote (c ∷ []) ≡ 34 ∷ c ∷ 34 ∷ []
 ascii_quote c l h q b =
