@@ -45,7 +45,8 @@ def of_file(path, heading="# ", words="lines"):
 
 def all_of_them():
     """Every conversation of the repository."""
-    pages = [*of_file(TOP / "docs" / "PROTOCOL.md", "## "), *of_file(TOP / "docs" / "SCRIPTS.md", words="world")]
+    protocol = of_file(TOP / "docs" / "PROTOCOL.md", "## ")
+    pages = [*of_file(TOP / "README.md", "### "), *protocol, *of_file(TOP / "docs" / "SCRIPTS.md", words="world")]
     return pages + [it for file in sorted((TOP / "conversations").glob("*.txt")) for it in of_file(file)]
 
 
