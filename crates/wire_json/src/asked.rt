@@ -15,10 +15,10 @@ use room::{Call, Characters};
 use std::alloc::Global;
 
 /// Whether bytes may be read so, by the first of them, since what gives up later is begun twice: `{"t":`, with a blank behind it or
-/// none, and a letter with which a kind begins, or a bracket with a space behind it, as in a request with a member a line.
+/// none, and two letters with which a kind begins, or a bracket with a space behind it, as in a request with a member a line.
 #[inline(always)]
 pub(crate) fn may_be_read(bytes: &[u8]) -> bool {
-    if bytes.len() < 8 || bytes[0] != b'{' {
+    if bytes.len() < 9 || bytes[0] != b'{' {
         return false;
     }
     if bytes[1] != b'"' {
@@ -27,8 +27,17 @@ pub(crate) fn may_be_read(bytes: &[u8]) -> bool {
     if bytes[2] != b't' || bytes[3] != b'"' || bytes[4] != b':' {
         return false;
     }
-    let letter = if bytes[5] == b'"' { bytes[6] } else { bytes[7] };
-    matches!(letter, b'd' | b'i' | b'j' | b'l' | b'o' | b'p' | b'r')
+    let kind = if bytes[5] == b'"' { 6 } else { 7 };
+    matches!(
+        (bytes[kind], bytes[kind + 1]),
+        (b'd', b'e')
+            | (b'i', b'n')
+            | (b'j', b'o')
+            | (b'l', b'e')
+            | (b'o', b'p')
+            | (b'p', b'u')
+            | (b'r', b'e')
+    )
 }
 
 /// The call that the text asks for, where it is an object whose first key is `t` and whose others come in the order of the
