@@ -15,9 +15,8 @@ use Rattle.wire_json.specs.Coming.{Comes, ReadsItem, items_of, put_entries}
 use Rattle.wire_json.proofs.Come.{array_comes, object_comes, one_more_item}
 use Rattle.wire_json.proofs.Spelt.{told_back}
 use Rattle.wire_json.proofs.Calling.{five_deep, whole}
-use Rattle.wire_json.specs.Request.{json_of}
 use Rattle.wire_json.proofs.Steps.{json_read}
-use Rattle.snapshot.specs.Snapshot.{StandsFor, StandsForNone, ops_told, told_by, told_in}
+use Rattle.snapshot.specs.Snapshot.{StandsForNone, ops_told, told_by, told_in}
 use Rattle.snapshot.specs.Values.{value_told}
 use Rattle.snapshot.specs.Coming.{ReadsFormat, OpensLog, TellsLog, ReadsLog}
 use Rattle.snapshot.proofs.Loaded.{then, first_told, only_ok}
@@ -100,11 +99,3 @@ log_read all e f runs log o t last =
 -- where the bytes' tokens tell this log, the bytes do
 pub bytes_told : (bytes : List ℕ) (log : List Operation) → IsUtf8 bytes → ReadsLog (tokens bytes) log → told_in bytes ≡ Ok log
 bytes_told bytes log utf8 read = ap (λ r. r >>= told_by) (json_read bytes read.value utf8 read.is) ∙ read.tells
-
--- no other log than that which they tell
-pub none_but : (bytes : List ℕ) (log : List Operation) → told_in bytes ≡ Ok log → (IsLawful log → length log ≤ 131072 → ⊥)
-    → StandsForNone bytes
-none_but bytes log told not other stands =
-    let theirs : told_in bytes ≡ Ok other = stands.told in
-    let same : other ≡ log = cc in
-    not (subst IsLawful same stands.lawful) (subst (λ (l : List Operation). length l ≤ 131072) same stands.few)

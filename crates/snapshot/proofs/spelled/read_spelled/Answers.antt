@@ -1,4 +1,4 @@
-use Rattle.std.proofs.Common.{◌≡◌, ◌⊎◌, Ok, Option, Vec, Global, ◌∙◌, List, ap, subst, sym, inl, inr, length, ◌≤◌}
+use Rattle.std.proofs.Common.{◌≡◌, Ok, Option, Vec, Global, ◌∙◌, List, ap, subst, sym}
 use Rattle.std.specs.Prelude.{IfSome}
 use Rattle.json.specs.Token.{Token}
 use Rattle.json.specs.Lex.{tokens}
@@ -7,7 +7,7 @@ use Rattle.wire_json.specs.Packing.{unfolded_all}
 use Rattle.snapshot.specs.declared.gathered.Gathered.{Gathered}
 use Rattle.snapshot.specs.Snapshot.{told_in}
 use Rattle.snapshot.specs.Coming.{ReadsLog}
-use Rattle.snapshot.proofs.Telling.{bytes_told, none_but}
+use Rattle.snapshot.proofs.Telling.{bytes_told}
 use Rattle.snapshot.proofs.spelled.read_spelled.Goals as goal
 
 pub returns-in-Ok-integrate_gathered-clause-stands :
