@@ -45,8 +45,8 @@ def of_file(path, heading="# ", words="lines"):
 
 def all_of_them():
     """Every conversation of the repository."""
-    protocol = of_file(TOP / "docs" / "PROTOCOL.md", "## ")
-    pages = [*of_file(TOP / "README.md", "### "), *protocol, *of_file(TOP / "docs" / "SCRIPTS.md", words="world")]
+    requests = [it for page in ("PROTOCOL.md", "EXCHANGE.md") for it in of_file(TOP / "docs" / page, "## ")]
+    pages = [*of_file(TOP / "README.md", "### "), *requests, *of_file(TOP / "docs" / "SCRIPTS.md", words="world")]
     return pages + [it for file in sorted((TOP / "conversations").glob("*.txt")) for it in of_file(file)]
 
 
