@@ -3,8 +3,8 @@ and what they read at last.
 
 Each answer is computed anew from the list of a room's operations: the order of the elements is the preorder of the tree
 of insertions, a version is a beginning of the log, an edit is where the element stands before or after its operation.
-Nothing is kept beside the log, what waits, and the sessions. The rules are those of docs/PROTOCOL.md and
-docs/SCRIPTS.md; the tree is that of Attiya and others (2016)."""
+Nothing is kept beside the log, what waits, and the sessions. The rules are those of docs/PROTOCOL.md,
+docs/EXCHANGE.md and docs/SCRIPTS.md; the tree is that of Attiya and others (2016)."""
 import collections
 
 SITES, LIMIT, MOST_HELD, MOST_SESSIONS = 32, 131_072, 1_024, 64

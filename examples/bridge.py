@@ -1,5 +1,5 @@
 #!/usr/bin/env python3
-"""Keeps one room of several rgatext servers in step, by `ops` and `put` (docs/PROTOCOL.md).
+"""Keeps one room of several rgatext servers in step, by `ops` and `put` (docs/EXCHANGE.md).
 
     bridge.py ws://127.0.0.1:7878 notes [redis://127.0.0.1:6379]
     bridge.py --direct ws://127.0.0.1:7878 ws://127.0.0.1:7879 notes
