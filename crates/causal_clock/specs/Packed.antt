@@ -69,10 +69,6 @@ pub record IsLastBefore (ops : List Operation) (site end place : ℕ) : Type 0 w
   pub own : (operation_at ops place).site ≡ site
   pub last : (j : ℕ) → place < j → j < end → (operation_at ops j).site ≡ site → ⊥
 
--- a site's 8th, 16th .. operation, after so many, may have a mark: the clock of the site's operation before it, without the counts of 0
-abbrev pub is_marked : ℕ → Bool
-is_marked count = (count + 1) % 8 == 0
-
 -- the entries of the mark that is added with an operation
 abbrev pub marks_of : Bool → List ℕ → List (ℕ × ℕ)
 marks_of true before = changes false (clock_of []) before 32

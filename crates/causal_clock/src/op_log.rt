@@ -1,10 +1,10 @@
 //! A log of operations that keeps of each clock the entries that changed.
-ghost use Rattle.std.specs.Prelude.{◌≡◌, ◌==◌, ◌+◌, ◌-◌, ◌*◌, ◌<◌, ◌≤◌, ◌++◌, [], ◌∷◌, ℕ, Bool, Some, max, length, drop};
+ghost use Rattle.std.specs.Prelude.{◌≡◌, ◌==◌, ◌+◌, ◌-◌, ◌*◌, ◌<◌, ◌≤◌, ◌++◌, [], ◌∷◌, ℕ, Some, max, length, drop};
 ghost use Rattle.std.specs.Prelude.{slice_get, OnOk, OnErr, IfErr, vec_len, vec_capacity, true, false, if◌then◌else◌};
 ghost use Rattle.opid.specs.declared.refusal.Refusal.TheVariants.{Memory};
-ghost use Rattle.opid.specs.Delivery.{clock_of};
+ghost use Rattle.opid.specs.Delivery.{clock_of, count_of};
 ghost use Rattle.causal_clock.specs.Kinds.{IsOperation};
-ghost use Rattle.causal_clock.specs.Stored.{entries_of, stored};
+ghost use Rattle.causal_clock.specs.Stored.{entries_of, is_marked, stored};
 ghost use Rattle.causal_clock.specs.Packed.{AreReserved, AreRows, IsPacked, changes_of, fill, mark_of, marks_of, operation_at};
 ghost use Rattle.causal_clock.specs.Packed.{row_at, logged, unmarked};
 
@@ -52,14 +52,19 @@ pub struct OpLog {
 }
 
 impl Model for OpLog {
-    ghost use Rattle.std.specs.Prelude.{vec_len, vec_capacity};
+    ghost use Rattle.std.specs.Prelude.{length, vec_len, vec_capacity};
     ghost use Rattle.causal_clock.specs.Logged.{Logged};
 
     ghost Value = { Logged };
 
     ghost use Rattle.causal_clock.specs.Packed.{IsPacked, AreReserved, logged, unmarked};
 
-    ghost view = { λ l. record { ops = logged l.entries.items l.rows.items; room = l.room } };
+    ghost view = { λ l. record {
+      ops = logged l.entries.items l.rows.items;
+      room = l.room;
+      entries = length l.entries.items;
+      marks = length l.marks.items;
+    } };
 
     ghost invariant = { λ l. IsPacked l.entries.items l.marks.items l.rows.items (logged l.entries.items l.rows.items) l.clocks l.lasts
         l.numbers
@@ -70,7 +75,7 @@ impl Model for OpLog {
 impl OpLog {
     /// The log of no operations. Constant time: it sets 32 counts for each of 32 sites. Takes no memory.
     pub fn new(alloc: Global) -> OpLog
-        ensures { result ≡ record { ops = []; room = 0 } }
+        ensures { result ≡ record { ops = []; room = 0; entries = 0; marks = 0 } }
     {
         OpLog {
             rows: Vec::new(alloc),
@@ -92,7 +97,8 @@ impl OpLog {
 
     /// How many entries are stored. Constant time.
     pub fn stored(&self) -> usize
-        ensures { result ≡ length (stored self.now.ops) }
+        ensures value { result ≡ length (stored self.now.ops) }
+        ensures kept { result ≡ self.now.entries }
     {
         self.entries.len()
     }
@@ -144,13 +150,16 @@ impl OpLog {
     }
 
     /// Adds an operation. Compares the counts of all sites at once, and takes a step for each entry that is stored, and for each 8th
-    /// operation of a site one for each of its mark. Refused with `Memory`, only where nothing is reserved, also above 67,108,864
-    /// operations.
+    /// operation of a site one for each of its mark. Where nothing is reserved it asks for memory as `reserve` does, the first time
+    /// 3,584 bytes for marks among it. Refused with `Memory`, only there, also above 67,108,864 operations.
     pub fn push(&mut self, op: Op) -> Result<(), Refusal>
-        ensures ok { OnOk result (self.new ≡ record { ops = self.old.ops ++ op ∷ []; room = self.old.room - 1 }) }
+        ensures ok { OnOk result ((self.new.ops ≡ self.old.ops ++ op ∷ []) × (self.new.room ≡ self.old.room - 1)) }
 
-        // The entries that are stored grow by those that the operation tells.
+        // The entries that are stored grow by those that the operation tells, and what is kept beside them by at most one whole clock
+        // for eight operations of a site.
         ensures stored { OnOk result (length (stored self.new.ops) ≡ length (stored self.old.ops) + length (entries_of self.old.ops op)) }
+        ensures entries { OnOk result (self.new.entries ≡ self.old.entries + length (entries_of self.old.ops op)) }
+        ensures marks { OnOk result (self.new.marks ≤ self.old.marks + (if is_marked (count_of self.old.ops op.site) then 32 else 0)) }
         ensures err { OnErr result (self.new ≡ self.old) }
         ensures memory { IfErr result (λ e. (e ≡ Memory) × (self.old.room ≡ 0)) }
     {
@@ -161,11 +170,14 @@ impl OpLog {
     /// of a site the counts of the one before are kept once more, those of 0 apart. Takes the steps of `push`. Refused with `Memory`,
     /// only where nothing is reserved, also above 67,108,864 operations.
     pub fn push_copy(&mut self, op: &Op) -> Result<(), Refusal>
-        ensures ok { OnOk result (self.new ≡ record { ops = self.old.ops ++ op.now ∷ []; room = self.old.room - 1 }) }
+        ensures ok { OnOk result ((self.new.ops ≡ self.old.ops ++ op.now ∷ []) × (self.new.room ≡ self.old.room - 1)) }
 
-        // The entries that are stored grow by those that the operation tells.
+        // What is kept of clocks grows as with `push`.
         ensures stored { OnOk result
             (length (stored self.new.ops) ≡ length (stored self.old.ops) + length (entries_of self.old.ops op.now)) }
+        ensures entries { OnOk result (self.new.entries ≡ self.old.entries + length (entries_of self.old.ops op.now)) }
+        ensures marks { OnOk result
+            (self.new.marks ≤ self.old.marks + (if is_marked (count_of self.old.ops op.now.site) then 32 else 0)) }
         ensures err { OnErr result (self.new ≡ self.old) }
         ensures memory { IfErr result (λ e. (e ≡ Memory) × (self.old.room ≡ 0)) }
     {
@@ -355,6 +367,8 @@ fn append(
     ensures rows { vec_len rows.new ≡ vec_len rows.old + 1 }
     ensures entries { vec_len entries.new ≤ vec_len entries.old + 32 }
     ensures marks { vec_len marks.new + 4 * unmarked numbers.new ≤ vec_len marks.old + 4 * (unmarked numbers.old + 1) }
+    ensures one_for_eight { length marks.new.items ≤ length marks.old.items
+        + (if is_marked (count_of (logged entries.old.items rows.old.items) op.now.site) then 32 else 0) }
     ensures row_capacity { vec_capacity rows.old ≤ vec_capacity rows.new }
     ensures entry_capacity { vec_capacity entries.old ≤ vec_capacity entries.new }
     ensures mark_capacity { vec_capacity marks.old ≤ vec_capacity marks.new }
