@@ -141,9 +141,9 @@ impl Doc {
         self.sums[usize::from(site.number())]
     }
 
-    /// Reserves memory for the next `n` operations, so that they aren't refused with `Memory`: for each 8 bytes for its edit, what
-    /// `OpLog::reserve` and `VersionTree::reserve` take, some 560 with these, and what `Rga::reserve` takes for an insertion by any of
-    /// 32 sites. Constant time; nothing grows where so many are reserved already. Refused with `Memory`, only where fewer are.
+    /// Reserves memory for the next `n` operations, so that they aren't refused with `Memory`: for each that the log can still take 8
+    /// bytes for its edit, what `OpLog::reserve` and `VersionTree::reserve` take, some 560 with these, and what `Rga::reserve` takes for
+    /// an insertion by any of 32 sites. Constant time; nothing grows where so many are reserved already. Refused with `Memory`, only where fewer are.
     pub fn reserve(&mut self, n: usize) -> Result<(), Refusal>
         ensures ok { OnOk result (self.new ≡ record self.old { room = max self.old.room n }) }
         ensures err { OnErr result (self.new ≡ self.old) }
