@@ -26,8 +26,8 @@ use Rattle.session_outbox.specs.Answers.{submission_of}
 use Rattle.room.specs.declared.call.Call.{Call}
 use Rattle.room.specs.declared.call.Call.TheVariants.{Join, Ins, Del, Pull, Leave, Ops, Put, Read}
 use Rattle.room.specs.Deliveries.{hand_over}
-use Rattle.room.specs.Machine.{State, Finding, room_over, counts_units, check, accepted_next, found_next, recorded_next, counted, may_record}
-use Rattle.room.specs.Machine.{next}
+use Rattle.room.specs.Machine.{State, Finding, room_over, counts_units, check, accepted_next, found_next, recorded_next, counted}
+use Rattle.room.specs.Machine.{may_record, next}
 use Rattle.room.specs.History.{state_of, IsLegal, HandsOperations, replayed, IsConsistent}
 use Rattle.room.proofs.Accepted.{first_accepted, at_most}
 use Rattle.room.proofs.Intentions.{none-place}

@@ -75,28 +75,29 @@ replies_to s S [] = []
 replies_to s S (e ∷ es) =
     if is_session s (given_to e.1 (answer S e.1)) then answer S e.1 ∷ replies_to s (next S e.1) es else replies_to s (next S e.1) es
 
--- a pull of session s names the version of this editor
-abbrev pub NamesVersion : ℕ → Option Editor → Call → Type 0
-NamesVersion s E (Join units) = Unit {0}
-NamesVersion s E (Ins t n v k x) = Unit {0}
-NamesVersion s E (Del t n v k c) = Unit {0}
-NamesVersion s E (Pull t have max) = t ≡ s → option_map (λ F. F.version) E ≡ Some have
-NamesVersion s E (Leave t) = Unit {0}
-NamesVersion s E (Ops after most) = Unit {0}
-NamesVersion s E (Put ops) = Unit {0}
-NamesVersion s E Read = Unit {0}
+-- in this state a pull of session s, while that is there, names the version of this editor
+abbrev pub NamesVersion : ℕ → State → Option Editor → Call → Type 0
+NamesVersion s S E (Join units) = Unit {0}
+NamesVersion s S E (Ins t n v k x) = Unit {0}
+NamesVersion s S E (Del t n v k c) = Unit {0}
+NamesVersion s S E (Pull t have max) =
+    t ≡ s → (w : Session) → session_with s S.outbox.sessions ≡ Some w → option_map (λ F. F.version) E ≡ Some have
+NamesVersion s S E (Leave t) = Unit {0}
+NamesVersion s S E (Ops after most) = Unit {0}
+NamesVersion s S E (Put ops) = Unit {0}
+NamesVersion s S E Read = Unit {0}
 
 -- the editor after a call: its reply is given to session s, or not
 abbrev pub after_call : Bool → ℕ → State → Call → Option Editor → Option Editor
 after_call units s S c E = if is_session s (given_to c (answer S c)) then option_and_then (with_reply_in units (answer S c)) E else E
 
--- each pull of session s names the version that its editor then has, which is given each reply at once
+-- each pull of session s, from its joining on, names the version that its editor then has, which is given each reply at once
 abbrev pub PullsInStep : Bool → ℕ → State → List (ℕ × Call) → Option Editor → Type 0
 PullsInStep units s S [] E = Unit {0}
-PullsInStep units s S (e ∷ es) E = NamesVersion s E e.1 × PullsInStep units s (next S e.1) es (after_call units s S e.1 E)
+PullsInStep units s S (e ∷ es) E = NamesVersion s S E e.1 × PullsInStep units s (next S e.1) es (after_call units s S e.1 E)
 
--- An editor that counts as its session does, is given each of the session's replies once, in order, and whose pulls name
--- the version that it then has, has the session's sent version.
+-- An editor that counts as its session does, is given each of the session's replies once, in order, and whose pulls from its
+-- joining on name the version that it then has, has the session's sent version.
 abbrev pub EditorsKeepUp : Account → Type 0
 EditorsKeepUp room = (s : ℕ) → MatchOption (last_known s room.opening room.history None) (Unit {0})
     (λ w. PullsInStep w.units s room.opening room.history (Some empty_editor)

@@ -9,6 +9,7 @@ mod calls;
 mod desk;
 mod editor;
 mod edits;
+pub mod laws;
 mod machine;
 mod operations;
 mod outcome;

@@ -95,6 +95,13 @@ impl Room {
         self.mark
     }
 
+    /// Whether a further call is recorded: 1,048,576 are at most. Where it isn't, each call is answered `HistoryFull`. Constant time.
+    pub fn may_record(&self) -> bool
+        ensures { result ≡ may_record self.now.state }
+    {
+        self.machine.may_record()
+    }
+
     /// Answers a call, and records it under its ticket, refused or not; only where 1,048,576 calls are recorded it
     /// answers `HistoryFull` and records nothing. An error is for want of memory, where the call would have been
     /// recorded, and changes nothing. The refusals of each call, in their order, and its cost are told at `Call`;
