@@ -1,5 +1,5 @@
 -- What holds of a log's parts; no public clause cites these.
-use Rattle.std.specs.Prelude.{◌≡◌, ℕ, ◌+◌, ◌*◌, ◌%◌, ◌<◌, ◌≤◌, ◌==◌, Bool, true, false, List, [], ◌∷◌, length, take, drop}
+use Rattle.std.specs.Prelude.{◌≡◌, ℕ, ◌+◌, ◌*◌, ◌%◌, ◌<◌, ◌≤◌, Bool, true, false, List, [], ◌∷◌, length, take, drop}
 use Rattle.std.specs.Prelude.{replicate, get_or, slice_set}
 use Rattle.std.specs.List.{sum_by}
 use Rattle.opid.specs.declared.kind.OpKind.{OpKind}
