@@ -1,16 +1,18 @@
 //! The world: rooms of several sites, one event after another.
-ghost use Rattle.std.specs.Prelude.{◌≡◌, ℕ, List, ◌+◌, ◌^◌, ◌⊎◌, ◌<◌, ◌≤◌, [], ◌∷◌, Some, None, length, take, slice_get, slice_set, IfOk};
+ghost use Rattle.std.specs.Prelude.{◌≡◌, ◌≢◌, true, false, ℕ, List, ◌+◌, ◌^◌, ◌⊎◌, ◌<◌, ◌≤◌, [], ◌∷◌, Some, None, length, take, slice_get, slice_set, IfOk};
 ghost use Rattle.std.specs.Prelude.{OnOk, OnErr, IfSome, IfNone, IsSome, is_some, option_and_then, option_map, IfErr, ◌++◌};
 ghost use Rattle.opid.specs.Lawful.{IsLawful};
-ghost use Rattle.opid.specs.declared.refusal.Refusal.TheVariants.{NoRoom, Memory};
+ghost use Rattle.opid.specs.declared.refusal.Refusal.TheVariants.{NoRoom, Memory, HistoryFull};
 ghost use Rattle.opid.specs.Reading.{reading};
+ghost use Rattle.room.specs.declared.call.Call.{Call};
 ghost use Rattle.room.specs.declared.call.Call.TheVariants as calls;
+ghost use Rattle.room.specs.declared.reply.Reply.TheVariants as replies;
 ghost use Rattle.room.specs.Machine.{answer, room_over};
 ghost use Rattle.room.specs.History.{Account, mark, called, account_over};
 ghost use Rattle.replica_world.specs.declared.event.Event.TheVariants as events;
 ghost use Rattle.replica_world.specs.declared.event.WorldReply.{WorldReply};
 ghost use Rattle.replica_world.specs.declared.event.WorldReply.TheVariants as worlds;
-ghost use Rattle.replica_world.specs.World.{room_of, puts, empty_rooms, call_of, fork_of, step, Runs, IsPlaceOf};
+ghost use Rattle.replica_world.specs.World.{room_of, puts, empty_rooms, call_of, fork_of, step, NeedsMemory, Runs, IsPlaceOf};
 ghost use Rattle.replica_world.specs.Carried.{LosesNothing, NothingLost};
 ghost use Rattle.replica_world.specs.Kept.{IsWorld, Converges};
 
@@ -18,7 +20,7 @@ use crate::event::{Event, WorldReply};
 use causal_clock::Op;
 use opid::{Refusal, Site};
 use replica::Replica;
-use room::{Call, Characters, Operations, Room};
+use room::{Call, Characters, Operations, Reply, Room};
 use std::alloc::{AllocError, Global};
 use std::marker::Model;
 use versions::Doc;
@@ -69,7 +71,8 @@ impl World {
         prove!(self.rooms.len() == self.rooms.as_slice().len());
     }
 
-    /// One thing happens. An error is for want of memory, and changes nothing.
+    /// One thing happens. An error is for want of memory, comes only where the event isn't refused by the world or with `HistoryFull`,
+    /// and changes nothing.
     ///
     /// At most 32 steps find each site. A call then takes what `Room::call` takes; what is carried, one look-up in the log
     /// of its source, which goes at most 7 steps back, and what a `put` of one operation takes; a fork, a walk over the
@@ -79,6 +82,7 @@ impl World {
         ensures reply { IfOk result (λ r. r ≡ (step self.old event).reply) }
         ensures next { OnOk result (self.new ≡ (step self.old event).world) }
         ensures err { OnErr result (self.new ≡ self.old) }
+        ensures memory { OnErr result (NeedsMemory (step self.old event).reply) }
         ensures nothing_lost { IfOk result (λ r. LosesNothing event r) }
         ensures converges { Converges self.new }
     {
@@ -148,6 +152,7 @@ impl World {
         ensures reply { IfOk result (λ r. r ≡ (step self.old event).reply) }
         ensures next { OnOk result (self.new ≡ (step self.old event).world) }
         ensures err { OnErr result (self.new ≡ self.old) }
+        ensures memory { OnErr result (NeedsMemory (step self.old event).reply) }
     {
         match event {
             Event::Call(site, call) => self.call(site, call),
@@ -161,6 +166,7 @@ impl World {
         ensures reply { IfOk result (λ r. r ≡ (step self.old (events.Call site call)).reply) }
         ensures next { OnOk result (self.new ≡ (step self.old (events.Call site call)).world) }
         ensures err { OnErr result (self.new ≡ self.old) }
+        ensures memory { OnErr result (NeedsMemory (step self.old (events.Call site call)).reply) }
     {
         if is_put(&call) {
             return Ok(WorldReply::No(Refusal::UnknownKind));
@@ -176,6 +182,7 @@ impl World {
         ensures reply { IfOk result (λ r. r ≡ (step self.old (events.Carry from n to)).reply) }
         ensures next { OnOk result (self.new ≡ (step self.old (events.Carry from n to)).world) }
         ensures err { OnErr result (self.new ≡ self.old) }
+        ensures memory { OnErr result (NeedsMemory (step self.old (events.Carry from n to)).reply) }
     {
         let Some(source) = self.place_of(from) else {
             return Ok(WorldReply::No(Refusal::NoRoom));
@@ -186,8 +193,23 @@ impl World {
         let Some(op) = self.op_from(from, source, n) else {
             return Ok(WorldReply::No(Refusal::BadRange));
         };
+        self.put_at(to, place, op)
+    }
+
+    /// An operation is put at the room at the place.
+    fn put_at(&mut self, site: Site, place: usize, op: Op) -> Result<WorldReply, AllocError>
+        requires place { IsPlaceOf site self.old place }
+        requires keeps { IsWorld (call_of site (room_of site self.old) (calls.Put (op ∷ [])) self.old).world }
+        ensures reply { IfOk result (λ r. r ≡ (call_of site (room_of site self.old) (calls.Put (op ∷ [])) self.old).reply) }
+        ensures next { OnOk result (self.new ≡ (call_of site (room_of site self.old) (calls.Put (op ∷ [])) self.old).world) }
+        ensures err { OnErr result (self.new ≡ self.old) }
+        ensures memory { OnErr result (NeedsMemory (call_of site (room_of site self.old) (calls.Put (op ∷ [])) self.old).reply) }
+    {
+        if !self.rooms[place].may_record() {
+            return Ok(WorldReply::Room(Reply::No(Refusal::HistoryFull)));
+        }
         let call = put_of(self.alloc, op)?;
-        self.call_at(to, place, call)
+        self.call_at(site, place, call)
     }
 
     /// An unused site opens over a beginning of a log.
@@ -195,6 +217,7 @@ impl World {
         ensures reply { IfOk result (λ r. r ≡ (step self.old (events.Fork new from n)).reply) }
         ensures next { OnOk result (self.new ≡ (step self.old (events.Fork new from n)).world) }
         ensures err { OnErr result (self.new ≡ self.old) }
+        ensures memory { OnErr result (NeedsMemory (step self.old (events.Fork new from n)).reply) }
     {
         prove!(new.number() < 32);
         match self.place_of(new) {
@@ -220,6 +243,7 @@ impl World {
         ensures reply { IfOk result (λ r. r ≡ (fork_of new (room_of from self.old) n self.old).reply) }
         ensures next { OnOk result (self.new ≡ (fork_of new (room_of from self.old) n self.old).world) }
         ensures err { OnErr result (self.new ≡ self.old) }
+        ensures memory { OnErr result (NeedsMemory (fork_of new (room_of from self.old) n self.old).reply) }
     {
         let doc = self.rooms[source].replica().doc();
         if n > doc.version() {
@@ -260,6 +284,7 @@ impl World {
         ensures reply { IfOk result (λ r. r ≡ (call_of site (room_of site self.old) call self.old).reply) }
         ensures next { OnOk result (self.new ≡ (call_of site (room_of site self.old) call self.old).world) }
         ensures err { OnErr result (self.new ≡ self.old) }
+        ensures memory { OnErr result (NeedsMemory (call_of site (room_of site self.old) call self.old).reply) }
     {
         call_room(&mut self.rooms[place], call)
     }
@@ -303,6 +328,7 @@ fn call_room(room: &mut Room, call: Call) -> Result<WorldReply, AllocError>
     ensures reply { IfOk result (λ r. r ≡ worlds.Room (answer room.old.state call)) }
     ensures next { OnOk result (room.new ≡ called room.old (mark room.old.history) call) }
     ensures err { OnErr result (room.new ≡ room.old) }
+    ensures memory { OnErr result (answer room.old.state call ≢ replies.No HistoryFull) }
     ensures either { (room.new ≡ room.old) ⊎ (room.new ≡ called room.old (mark room.old.history) call) }
 {
     prove!(room.history().len() < 1 << 62);
