@@ -14,8 +14,8 @@ use Rattle.shared_room.specs.declared.kept.Item.{Item}
 use Rattle.shared_room.specs.declared.kept.Item.TheVariants.{Opened, Made}
 use Rattle.shared_room.specs.Trails.{made, trail_of, calls_of, opening_in}
 use Rattle.room.specs.Desks.{Owns}
+use Rattle.room.specs.Desks.{AreDistinct}
 use Rattle.room.specs.DeskLaws.{one_place}
-use Rattle.shared_room.specs.Views.{AreDistinct}
 
 pub calls_made : (h : List (ℕ × Call)) → calls_of (map made h) ≡ h
 calls_made [] = refl

@@ -7,7 +7,7 @@ use Rattle.room.specs.declared.desk.DeskFault.{DeskFault}
 use Rattle.room.specs.declared.desk.DeskFault.TheVariants as Fault
 use Rattle.room.specs.Machine.{State}
 use Rattle.room.specs.History.{IsLegal, state_of}
-use Rattle.room.specs.Desks.{Sight, Owns, IsSight, IsAnswered, IsPassedOver}
+use Rattle.room.specs.Desks.{Sight, Owns, AreDistinct, IsSight, IsAnswered, IsPassedOver}
 use Rattle.history_lock.proofs.Prefixes.{prefix_self}
 use Rattle.shared_room.specs.Views.{View}
 use Rattle.shared_room.specs.Turns.{Answers, FaultsPass}
@@ -17,9 +17,9 @@ abbrev pub sight_through : State → View → Sight
 sight_through opening v = record { opening = opening; seen = v.seen; mine = v.mine }
 
 -- what a pass has seen, between two calls, is what a desk has
-pub pass_sight : (o : State) (v : View) → IsLegal v.seen → Owns v.mine v.seen
+pub pass_sight : (o : State) (v : View) → IsLegal v.seen → Owns v.mine v.seen → AreDistinct v.mine
     → length (state_of o v.seen).log ≤ 131072 → IsSight (sight_through o v)
-pass_sight o v legal owns short = record { legal = legal; owns = owns; short = short }
+pass_sight o v legal owns distinct short = record { legal = legal; owns = owns; distinct = distinct; short = short }
 
 -- a call of a pass is a desk's step
 pub pass_answers : (o o' : State) (v w : View) (c : Call) (r : Reply) → o' ≡ o → Answers o v w c r

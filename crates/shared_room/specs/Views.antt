@@ -3,7 +3,7 @@ use Rattle.std.specs.Prelude.{◌≡◌, ◌≤◌, ℕ, List, length, Some, sli
 use Rattle.room.specs.declared.call.Call.{Call}
 use Rattle.room.specs.Machine.{State}
 use Rattle.room.specs.History.{IsLegal, state_of}
-use Rattle.room.specs.Desks.{Owns}
+use Rattle.room.specs.Desks.{Owns, AreDistinct}
 use Rattle.history_lock.specs.declared.pass.Sight.{Sight}
 use Rattle.history_lock.specs.Locks as locks
 use Rattle.shared_room.specs.declared.kept.Item.{Item}
@@ -49,11 +49,6 @@ left p = (view p).left
 -- how the room was opened
 abbrev pub opening : SharedRoom → State
 opening room = opening_in (locks.opening_of (λ (kept : KeptRoom). trail_of kept.room.value) room.lock)
-
--- no two of the calls have one ticket
-abbrev pub AreDistinct : List (ℕ × Call) → Type 0
-AreDistinct mine =
-    (k l : ℕ) (e f : ℕ × Call) → slice_get mine k ≡ Some e → slice_get mine l ≡ Some f → e.0 ≡ f.0 → k ≡ l
 
 -- it is a pass of this room, between two calls
 pub record IsPassOf (room : SharedRoom) (p : Pass) : Type 0 where

@@ -54,7 +54,7 @@ impl<'a, R: Wait> Desk for PassDesk<'a, R> {
     }
 
     ghost sees = { λ desk ok.
-        pass_sight (opening desk.room.now) (view desk.pass.now) ok.legal ok.owns ok.short };
+        pass_sight (opening desk.room.now) (view desk.pass.now) ok.legal ok.owns ok.distinct ok.short };
 
     ghost answers = { λ old call reply new _ did.
         pass_answers (opening old.room.now) (opening new.room.now) (view old.pass.now) (view new.pass.now)
