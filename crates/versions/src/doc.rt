@@ -143,7 +143,8 @@ impl Doc {
 
     /// Reserves memory for the next `n` operations, so that they aren't refused with `Memory`: for each that the log can still take 8
     /// bytes for its edit, what `OpLog::reserve` and `VersionTree::reserve` take, some 560 with these, and what `Rga::reserve` takes for
-    /// an insertion by any of 32 sites. Constant time; nothing grows where so many are reserved already. Refused with `Memory`, only where fewer are.
+    /// an insertion by any of 32 sites. Constant time; nothing grows where so many are reserved already. Refused with `Memory`, only
+    /// where fewer are.
     pub fn reserve(&mut self, n: usize) -> Result<(), Refusal>
         ensures ok { OnOk result (self.new ≡ record self.old { room = max self.old.room n }) }
         ensures err { OnErr result (self.new ≡ self.old) }
