@@ -1,6 +1,6 @@
 //! The world: rooms of several sites, one event after another.
-ghost use Rattle.std.specs.Prelude.{◌≡◌, ◌≢◌, ℕ, List, ◌+◌, ◌^◌, ◌⊎◌, ◌<◌, ◌≤◌, [], ◌∷◌, Some, None, length, take, slice_get, slice_set, IfOk};
-ghost use Rattle.std.specs.Prelude.{OnOk, OnErr, IfSome, IfNone, IsSome, is_some, option_and_then, option_map, IfErr, ◌++◌};
+ghost use Rattle.std.specs.Prelude.{◌≡◌, ◌≢◌, ℕ, List, ◌+◌, ◌^◌, ◌⊎◌, ◌<◌, ◌≤◌, [], ◌∷◌, Some, None, length, take, slice_get, slice_set};
+ghost use Rattle.std.specs.Prelude.{IfOk, OnOk, OnErr, IfSome, IfNone, IsSome, is_some, option_and_then, option_map, IfErr, ◌++◌};
 ghost use Rattle.opid.specs.Lawful.{IsLawful};
 ghost use Rattle.opid.specs.declared.refusal.Refusal.TheVariants.{NoRoom, Memory, HistoryFull};
 ghost use Rattle.opid.specs.Reading.{reading};
