@@ -2,7 +2,7 @@
 use Rattle.std.proofs.Common.{◌≡◌, ℕ, ◌≤◌, List, Option, None, Some, refl, sym, ap}
 use Rattle.std.proofs.Common.{◌∙◌, arith, codes, slice_index}
 use Rattle.clap.specs.Words.{Row, all_of, first_of}
-use Rattle.command_line.specs.declared.plans.Plan.TheVariants.{Lines, Text as TextOf, Serve, World}
+use Rattle.plans.specs.declared.plan.Plan.TheVariants.{Lines, Text as TextOf, Serve, World}
 use Rattle.command_line.specs.CommandLine.{AsksNothing, ReadsTo}
 
 -- texts whose first bytes differ are two

@@ -1,3 +1,1 @@
 pub mod CommandLine
-pub mod Endings
-pub mod Plays

@@ -3,12 +3,12 @@ ghost use Rattle.std.specs.Prelude.{◌≡◌, ◌≤◌, Some, Option, ℕ, fal
 ghost use Rattle.std.specs.Prelude.{codes};
 ghost use Rattle.clap.specs.Words.{app_of, found_of, rows_of, rule_of, all_of};
 ghost use Rattle.clap.specs.declared.builder.command.Command.TheViews.{out-Command};
-ghost use Rattle.command_line.specs.declared.plans.Plan.{Plan};
+ghost use Rattle.plans.specs.declared.plan.Plan.{Plan};
 ghost use Rattle.command_line.specs.CommandLine.{serve_command, port_option, conns_option, name_words, AsksIn, AsksNothing, ReadsTo};
 
-use crate::plans::Plan;
 use crate::words::{site_arg, site_in};
 use clap::{Arg, ArgAction, ArgMatches, Command, value_parser};
+use plans::Plan;
 use std::alloc::{AllocError, Global};
 
 // The subcommand as `clap` is told of it.

@@ -2,16 +2,15 @@
 ghost use Rattle.std.specs.Prelude.{◌≡◌, [], Some, None, Option, ℕ, ◌≤◌, false, IfOk, IfErr, IfSome, IfNone, map, option_map, string_bytes};
 ghost use Rattle.clap.specs.Words.{app_of, fault_of, found_of, kind_of, rows_of, rule_of, first_of, subcommand_of, subcommand_rows_of};
 ghost use Rattle.clap.specs.declared.builder.command.Command.TheViews.{out-Command};
-ghost use Rattle.command_line.specs.declared.plans.Plan.{Plan};
+ghost use Rattle.plans.specs.declared.plan.Plan.{Plan};
 ghost use Rattle.command_line.specs.CommandLine.{rgatext, lines_command, text_command, world_command, site_option, flag_option};
 ghost use Rattle.command_line.specs.CommandLine.{version_option, sites_option, AsksForPlan, AsksNothing, ReadsTo, Refuses, ToldBy, is_set};
 
-use crate::plans::{Plan, PlanFault};
 use crate::serve_words::{serve_command, serve_plan};
 use clap::error::ErrorKind;
 use clap::{Arg, ArgAction, ArgMatches, Command, value_parser};
-use commands::Sites;
 use opid::Site;
+use plans::{Plan, PlanFault, Sites};
 use std::alloc::{AllocError, Global};
 
 /// The plan that the words ask for, of which the first is the program's own name.

@@ -11,10 +11,10 @@ ghost use Rattle.json.specs.Print as print;
 
 use crate::scripts::Scripts;
 use crate::sending::send;
-use crate::sites::Sites;
 use crate::stop::Stop;
 use line_engine::{Counted, ServeFault, Source, Window, serve};
 use opid::Site;
+use plans::Sites;
 use replica_world::World;
 use serde_json::json;
 use std::alloc::{AllocError, Global};

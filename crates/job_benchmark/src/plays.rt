@@ -1,8 +1,9 @@
 //! Runs of the program's commands over bytes in memory.
 use crate::streams::{Digest, Given};
-use commands::{Sites, play_lines, play_text, play_world};
+use commands::{play_lines, play_text, play_world};
 use line_engine::Counted;
 use opid::Site;
+use plans::Sites;
 use std::alloc::Global;
 
 /// What all runs of a job answered.

@@ -1,14 +1,15 @@
 //! The program: it takes its words, does what they ask for, and tells how it ends.
 #![tactic(auto)]
 
-ghost use Rattle.command_line.specs.Plays.{IsPlayed};
+ghost use Rattle.commands.specs.Plays.{IsPlayed};
 
 mod host;
 
-use command_line::{Ending, Plan, PlanFault, plan, play};
-use commands::Stop;
+use command_line::plan;
+use commands::{Ending, Stop, play};
 use host::host;
 use line_engine::Counted;
+use plans::{Plan, PlanFault};
 use std::alloc::AllocError;
 use std::process::ExitCode;
 use std::{env, io};

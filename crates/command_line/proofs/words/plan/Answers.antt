@@ -6,8 +6,8 @@ use Rattle.clap.specs.Words.{App, HasKind, IsAmong, Kinds, Row, Text, fault_of, 
 use Rattle.clap.specs.Words.{subcommand_rows_of}
 use Rattle.clap.specs.declared.error.ErrorKind.{ErrorKind}
 use Rattle.clap.specs.declared.error.ErrorKind.TheVariants as kind
-use Rattle.command_line.specs.declared.plans.PlanFault.{PlanFault}
-use Rattle.command_line.specs.declared.plans.PlanFault.TheVariants.{Help, Words, Memory}
+use Rattle.plans.specs.declared.fault.PlanFault.{PlanFault}
+use Rattle.plans.specs.declared.fault.PlanFault.TheVariants.{Help, Words, Memory}
 use Rattle.command_line.specs.CommandLine.{rgatext, Refuses, ToldBy, shows_text, blames_words}
 use Rattle.command_line.proofs.words.plan.Goals as goal
 

@@ -1,9 +1,6 @@
-//! What the program is to do, or why it can do nothing.
-
-use commands::Sites;
+//! What the program is to do.
+use crate::sites::Sites;
 use opid::Site;
-use std::alloc::AllocError;
-use thiserror::Error;
 
 /// What the program is to do.
 #[derive(Debug, Drop, PartialEq, Eq)]
@@ -38,30 +35,4 @@ pub enum Plan {
         /// The names of the rooms.
         names: Vec<String>,
     },
-}
-
-/// Why there is no plan.
-#[derive(Debug, Drop, Error)]
-pub enum PlanFault {
-    /// Help was asked for: its text, for standard output.
-    #[error("{0}")]
-    Help(String),
-    /// The words ask for nothing that the program does: what is wrong with them, for standard error.
-    #[error("{0}")]
-    Words(String),
-    /// Memory was refused.
-    #[error("rgatext: fault memory\n")]
-    Memory,
-}
-
-impl From<AllocError> for PlanFault {
-    ghost use Rattle.std.specs.Prelude.{◌≡◌};
-    ghost use Rattle.command_line.specs.declared.plans.PlanFault.TheVariants.{Memory};
-
-    ghost from_gives = { λ _ e. e ≡ Memory };
-
-    /// `Memory`. Constant time.
-    fn from(_: AllocError) -> PlanFault {
-        PlanFault::Memory
-    }
 }

@@ -3,11 +3,14 @@ ghost use Rattle.std.specs.Prelude.{◌^◌, ◌<◌, ℕ, List, Result};
 ghost use Rattle.std.specs.Io.KnownBytes.{Appends, Consumes};
 ghost use Rattle.line_engine.specs.Counting.{Rises};
 ghost use Rattle.commands.specs.Played.{served_end};
-ghost use Rattle.command_line.specs.Plays.{Plays, IsPlayed};
+ghost use Rattle.commands.specs.Plays.{Plays, IsPlayed};
 
-use crate::plans::Plan;
-use commands::{Stop, play_lines, play_text, play_world};
+use crate::lines::play_lines;
+use crate::stop::Stop;
+use crate::text::play_text;
+use crate::world::play_world;
 use line_engine::{Counted, Source};
+use plans::Plan;
 use std::alloc::Global;
 use std::io::Write;
 

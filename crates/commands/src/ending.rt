@@ -1,7 +1,7 @@
 //! How the program ends: what it tells, on which stream, and with which status.
-use crate::plans::PlanFault;
-use commands::Stop;
+use crate::stop::Stop;
 use line_engine::ServeFault;
+use plans::PlanFault;
 use std::fmt;
 
 /// How the program ends.
@@ -17,7 +17,7 @@ pub enum Ending {
 
 impl Ending {
     ghost use Rattle.std.specs.Prelude.{◌≡◌};
-    ghost use Rattle.command_line.specs.Endings.{ending_of, once_printed, status_of, is_output};
+    ghost use Rattle.commands.specs.Endings.{ending_of, once_printed, status_of, is_output};
 
     /// How the run of a plan ends. Constant time.
     pub fn of(ran: Result<(), Stop>) -> Ending

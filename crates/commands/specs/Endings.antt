@@ -3,9 +3,9 @@ use Rattle.std.specs.Prelude.{ℕ, Bool, true, false, Result, Ok, Err}
 use Rattle.line_engine.specs.declared.fault.ServeFault.TheVariants.{Write}
 use Rattle.commands.specs.declared.stop.Stop.{Stop}
 use Rattle.commands.specs.declared.stop.Stop.TheVariants.{Fault}
-use Rattle.command_line.specs.declared.plans.PlanFault.TheVariants.{Help, Words, Memory}
-use Rattle.command_line.specs.declared.ending.Ending.{Ending}
-use Rattle.command_line.specs.declared.ending.Ending.TheVariants.{Done, Unplanned, Stopped}
+use Rattle.plans.specs.declared.fault.PlanFault.TheVariants.{Help, Words, Memory}
+use Rattle.commands.specs.declared.ending.Ending.{Ending}
+use Rattle.commands.specs.declared.ending.Ending.TheVariants.{Done, Unplanned, Stopped}
 
 -- how the run of a plan ends
 abbrev pub ending_of : Result (Unit {0}) Stop → Ending

@@ -2,8 +2,8 @@
 use Rattle.std.specs.Prelude.{ℕ, List, Option, Result}
 use Rattle.commands.specs.declared.stop.Stop.{Stop}
 use Rattle.commands.specs.Played.{PlaysLines, PlaysText, PlaysWorld}
-use Rattle.command_line.specs.declared.plans.Plan.{Plan}
-use Rattle.command_line.specs.declared.plans.Plan.TheVariants.{Lines, Text, World, Serve}
+use Rattle.plans.specs.declared.plan.Plan.{Plan}
+use Rattle.plans.specs.declared.plan.Plan.TheVariants.{Lines, Text, World, Serve}
 
 -- it runs from a reader to a writer, as all do but `serve`
 abbrev pub IsPlayed : Plan → Type 0
