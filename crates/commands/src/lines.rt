@@ -57,7 +57,7 @@ pub fn play_lines<R: Source, W: Write>(
 #[derive(Drop)]
 struct Opening {
     room: Room,
-    // The input ended behind the line that the room was opened over.
+    // The input ended behind the line that the room was opened over: it isn't read again (docs/decisions, P4).
     is_over: bool,
 }
 

@@ -12,7 +12,7 @@ use crate::source::Source;
 #[derive(Debug, Drop)]
 pub struct Counted<T> {
     inner: T,
-    // How often it was read. A read past 2^64 - 1 fails, so no reader is read for ever.
+    // How often it was read. A read past 2^64 - 1 fails, so no reader is read for ever (docs/decisions, P5).
     calls: u64,
     failures: u64,
 }

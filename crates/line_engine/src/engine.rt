@@ -22,7 +22,7 @@ use opid::Refusal;
 use room::Desk;
 use std::alloc::Global;
 
-// Answers one line and sends the answer.
+// Answers one line and sends the answer by one write (docs/decisions, P6).
 fn serve_line<P: Protocol, W: Sink>(
     alloc: Global,
     scratch: &mut P::Scratch,

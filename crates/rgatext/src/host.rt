@@ -63,7 +63,7 @@ fn accept(listener: &TcpListener) -> Result<TcpStream, Stop>
     let Ok((stream, _)) = listener.accept() else {
         return Err(Stop::Socket);
     };
-    // (Where this fails the other side has gone, as the first read will tell.)
+    // No answer waits for another (docs/decisions, P15). Where this fails the other side has gone, as the first read will tell.
     let _ = stream.set_nodelay(true);
     Ok(stream)
 }
@@ -85,7 +85,8 @@ fn listen<R: Net<Listener = TcpListener, Stream = TcpStream> + Print>(
 }
 
 // Serves so many connections, each by a thread, until all have ended. Once the last is accepted, or one can't be had,
-// nobody listens any more. A thread's handle is given up at once, so that a thread that has ended leaves nothing behind.
+// nobody listens any more (docs/decisions, P17). A thread's handle is given up at once, so that a thread that has ended leaves nothing
+// behind (docs/decisions, P16).
 fn serve_all<R: Net<Listener = TcpListener, Stream = TcpStream> + Threads + Wait + Sync>(
     rt: &R,
     alloc: Global,
