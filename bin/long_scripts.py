@@ -5,7 +5,7 @@ import collections
 import json
 import random
 
-from plain_world import LIMIT, Room, World, object_of, operation_of, packed, places
+from plain_world import LIMIT, MOST_HELD, SITES, Room, World, clock_of, edits_in_one_order, object_of, operation_of, packed, places
 
 ALPHABET = "abcdefghijklmnopqrstuvwxyz"
 CHARACTERS = ALPHABET + ' é\u20ac"\\' + 4 * "\U0001f600\U00010000\U0010ffff"
@@ -41,10 +41,13 @@ class Script:
 
 
 class Played:
-    """A script that grows event by event, each answered by the plain world."""
+    """A script that grows event by event, each answered by the plain world. The first session of each site joins at once: at even
+    sites it counts characters, at odd ones UTF-16 units."""
 
     def __init__(self, sites):
         self.script, self.world = Script(), World(sites)
+        for site in range(sites):
+            self.call(site, t="join", **({"u": 16} if site % 2 else {}))
 
     def call(self, site, **request):
         self.script.call(site, self.world.call(site, request), **request)
@@ -53,7 +56,19 @@ class Played:
         self.script.event(f"carry {source} {n} {target}", self.world.carry(source, n, target))
 
     def fork(self, new, source, n):
-        self.script.event(f"fork {new} {source} {n}", self.world.fork(new, source, n))
+        reply = self.world.fork(new, source, n)
+        self.script.event(f"fork {new} {source} {n}", reply)
+        if reply == {"r": "forked"}:
+            self.call(new, t="join", **({"u": 16} if new % 2 else {}))
+
+    def all_is_pulled(self):
+        """The first session of each site pulls all: edits that show each version in the one order of all sites' elements."""
+        rooms = self.world.rooms
+        by_count = [dict(zip(rooms, edits_in_one_order([room.log for room in rooms.values()], units))) for units in (False, True)]
+        for site, room in rooms.items():
+            for have in range(room.sessions[1].first, len(room.log), 64):
+                edits = by_count[site % 2][site][have : have + 64]
+                self.script.call(site, {"es": edits, "from": have, "r": "edits"}, t="pull", s=1, have=have, max=64)
 
 
 def random_event(dice, played):
@@ -71,11 +86,11 @@ def random_event(dice, played):
         return played.call(site, t="read")
     if kind == "ops":
         return played.call(site, t="ops", after=dice.randint(0, len(room.log) + 1), max=dice.choice([*range(5), 64, 65]))
-    if kind == "join" or not room.sessions:
+    if kind == "join":
         return played.call(site, t="join", **dice.choice([{}, {}, {"u": 16}, {"u": 16}, {"u": 8}]))
     s = dice.choice([*room.sessions])
     if kind == "leave":
-        return played.call(site, t="leave", s=s if len(room.sessions) > 1 else 99)
+        return played.call(site, t="leave", s=s if s > 1 else 99)
     session = room.sessions[s]
     some_version = dice.randint(session.first, session.sent)
     if kind == "pull":
@@ -105,8 +120,8 @@ def random_carry(dice, played, target):
 
 
 def random_script(sites, events):
-    """Random events at sites some of which fork, and then every site is carried every operation, some of them early. Gives
-    the script, and the texts that the sites then read by their definition."""
+    """Random events at sites some of which fork, and then every site is carried every operation, some of them early, and is asked
+    for what each of them did. Gives the script, and the texts that the sites then read by their definition."""
     dice = random.Random(15)
     played = Played(sites)
     for _ in range(events):
@@ -120,6 +135,7 @@ def random_script(sites, events):
             dice.shuffle(window)
             for _, source, at in window:
                 played.carry(source, at, target)
+    played.all_is_pulled()
     readings = played.world.readings()
     played.script.end(readings)
     return played.script, readings
@@ -164,33 +180,77 @@ def full_log():
     return script
 
 
+def forged(dice, room):
+    """An operation that nobody made: of one of the sites 3 to 29, or the room's, with a number that is used, the next or a later one,
+    a clock that knows of all, of something or of nothing, and a deed at the head, at an element, or at what is none."""
+    site = dice.choice([*range(3, 30)] + [room.site] * 5)
+    clock = dice.choice([clock_of(room.log), [0] * SITES, [*dice.choice(room.log + room.held).clock]])
+    clock[site] = max(1, clock_of(room.log)[site] + dice.choice([0, 1, 1, 1, 1, 2, 3]))
+    there = [it.stamp for it in room.log if it.kind == "i"]
+    place = dice.choice([None, (dice.randint(1, 99), 30), there[-1], dice.choice(there), dice.choice(there)])
+    if place and dice.random() < 0.3:
+        return operation_of(site, tuple(clock), "d", place)
+    return operation_of(site, tuple(clock), "i", place, dice.choice(CHARACTERS))
+
+
+def altered(dice, operation):
+    """Another operation with the same number: its clock counts one more of another site, or it is another insertion."""
+    clock = [*operation.clock]
+    clock[dice.choice([at for at in range(SITES) if at != operation.site])] += dice.randint(0, 1)
+    return operation_of(operation.site, tuple(clock), "i", operation.place, dice.choice("XYZ"))
+
+
+def flood(dice, room):
+    """More insertions of site 30 than may wait, the first of them last; each at the head or behind one of the eight before it, but
+    for the 700th, which stands behind what isn't there."""
+    clock, log, there = clock_of(room.log), [], []
+    for n in range(1, MOST_HELD + 20):
+        clock[30] = n
+        place = (1, 30) if n == 700 else dice.choice([None, *there[-8:]])
+        log.append(operation_of(30, tuple(clock), "i", place, dice.choice(CHARACTERS)))
+        there.append(log[-1].stamp)
+    return [*log[1:], log[0]]
+
+
 def handed_over(log):
     """A room of site 31, with a session of either count, is handed over a log of others, forty operations after forty: in their
-    order, in the other one or in any, ten that came before once more, in puts of any size. Now and then it is asked for a part
-    of its log and for edits, and at last for all."""
+    order, in the other one or in any, ten that came before once more, and twenty that were forged or altered, in puts of any size.
+    It is typed in meanwhile, and asked for a part of its log and for edits. Then come more operations than may wait, before the one
+    for which they wait, and at last it is asked for all. Gives the script, and which outcomes its operations had."""
     dice = random.Random(33)
-    script, room = Script(), Room(31)
+    script, room, outcomes = Script(), Room(31), collections.Counter()
     ask = lambda **request: script.event(compact(request), room.answer(request))
-    for counts in ({}, {"u": 16}):
-        ask(t="join", **counts)
-    have = 0
-    for first in range(0, len(log), 40):
-        window = log[first : first + 40]
-        dice.choice([lambda: None, window.reverse, lambda: dice.shuffle(window)])()
-        window += dice.sample(log[: first + 40], 10)
+
+    def hand_over(window):
         while window:
             size = dice.randint(1, 64)
             part, window = window[:size], window[size:]
-            request = {"t": "put", "ops": [object_of(run) for run in packed(part)]}
-            script.event(compact(request), {"os": [room.put(operation) for operation in part], "r": "put"})
+            told = [room.put(operation) for operation in part]
+            script.event(compact({"t": "put", "ops": [object_of(run) for run in packed(part)]}), {"os": told, "r": "put"})
+            outcomes.update(it[1] if it[0] == "no" else "dropped" if it[2:] > [0] else it[0] for it in told)
+
+    for counts in ({}, {"u": 16}):
+        ask(t="join", **counts)
+    have = 0
+    for n, first in enumerate(range(0, len(log), 40), 1):
+        ask(t="ins", s=1, n=n, v=have, k=0, x=dice.choice(CHARACTERS))
+        window = log[first : first + 40]
+        dice.choice([lambda: None, window.reverse, lambda: dice.shuffle(window)])()
+        window += dice.sample(log[: first + 40], 10)
+        for _ in range(20):
+            known = room.log + room.held if first < 0.8 * len(log) else window
+            fake = forged(dice, room) if dice.random() < 0.7 else altered(dice, dice.choice(known))
+            window.insert(dice.randint(0, len(window)), fake)
+        hand_over(window)
         ask(t="ops", after=dice.randint(0, len(room.log)), max=dice.randint(1, 64))
         for s in (1, 2):
             ask(t="pull", s=s, have=have, max=64)
         have = min(have + 64, len(room.log))
-    for after in range(0, len(log), 64):
+    hand_over(flood(dice, room))
+    for after in range(0, len(room.log), 64):
         ask(t="ops", after=after, max=64)
     ask(t="read")
-    return script
+    return script, outcomes
 
 
 def exchanged(count):

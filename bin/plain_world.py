@@ -5,6 +5,7 @@ Each answer is computed anew from the list of a room's operations: the order of 
 of insertions, a version is a beginning of the log, an edit is where the element stands before or after its operation.
 Nothing is kept beside the log, what waits, and the sessions. The rules are those of docs/PROTOCOL.md,
 docs/EXCHANGE.md and docs/SCRIPTS.md; the tree is that of Attiya and others (2016)."""
+import bisect
 import collections
 
 SITES, LIMIT, MOST_HELD, MOST_SESSIONS = 32, 131_072, 1_024, 64
@@ -44,10 +45,14 @@ def reading(operations):
     return "".join(char for _, char in visible(operations))
 
 
+def width(char, units):
+    """How many places a character takes: one, or as many as it has UTF-16 units."""
+    return len(char.encode("utf-16-le")) // 2 if units else 1
+
+
 def places(operations, units):
     """The visible elements as their places are counted: each once, or once for each of its UTF-16 units."""
-    width = lambda char: len(char.encode("utf-16-le")) // 2 if units else 1
-    return [element for element in visible(operations) for _ in range(width(element[1]))]
+    return [element for element in visible(operations) for _ in range(width(element[1], units))]
 
 
 def is_inside(shown, k):
@@ -64,6 +69,29 @@ def edit(log, i, units):
     if log[i].place not in before:
         return ["n"]
     return ["d", before.index(log[i].place)] + ([before.count(log[i].place)] if units else [])
+
+
+def edits_in_one_order(logs, units):
+    """What each operation of each log does, by the strong list: each version of a log shows the elements that it has and doesn't
+    delete in one order, that of the elements of all logs together."""
+    union = set().union(*logs)
+    assert len({operation.number for operation in union}) == len(union), "two operations have one number"
+    rank = {stamp: at for at, (stamp, _) in enumerate(elements(union))}
+    assert len(rank) == sum(operation.kind == "i" for operation in union), "an element isn't there, or stands twice"
+
+    def edits(log):
+        shown = []  # the ranks of what a version shows, rising: each once, or once for each of its units
+        for operation in log:
+            own = rank[operation.stamp if operation.kind == "i" else operation.place]
+            at, end = bisect.bisect_left(shown, own), bisect.bisect_right(shown, own)
+            if operation.kind == "i":
+                shown[at:end] = [own] * width(operation.char, units)
+                yield ["i", at, operation.char]
+            else:
+                del shown[at:end]
+                yield ["n"] if at == end else ["d", at] + ([end - at] if units else [])
+
+    return [list(edits(log)) for log in logs]
 
 
 def clock_of(log):
