@@ -2,10 +2,11 @@
 operations that are handed over or exchanged are answered by the plain world, those of a full log by what is known of a text that
 was typed from its end on. And a random log."""
 import collections
+import itertools
 import json
 import random
 
-from plain_world import LIMIT, MOST_HELD, SITES, Room, World, clock_of, edits_in_one_order, object_of, operation_of, packed, places
+from plain_world import LIMIT, MOST_HELD, SITES, Room, World, clock_of, edits_in_one_order, object_of, operation_of, packed, places, width
 
 ALPHABET = "abcdefghijklmnopqrstuvwxyz"
 CHARACTERS = ALPHABET + ' é\u20ac"\\' + 4 * "\U0001f600\U00010000\U0010ffff"
@@ -178,6 +179,173 @@ def full_log():
     beside = full[:62] + full[64:-64] + "->" + full[-64:]
     script.end([(0, LIMIT, full), (1, LIMIT, full), (2, LIMIT, beside), (3, LIMIT, full)])
     return script
+
+
+def all_sites():
+    """At each of 32 sites six characters, of some 16 bytes, are typed, and carried to every other, in any order."""
+    dice = random.Random(32)
+    played = Played(SITES)
+    for site in range(SITES):
+        played.call(site, t="ins", s=1, n=1, v=0, k=0, x="".join(dice.choices(CHARACTERS, k=5)) + ALPHABET[site % 26])
+    carried = [(source, n, target) for source in range(SITES) for n in range(6) for target in range(SITES) if source != target]
+    own = {site: room.log[:] for site, room in played.world.rooms.items()}
+    dice.shuffle(carried)
+    for source, n, target in carried:
+        played.carry(source, played.world.rooms[source].log.index(own[source][n]), target)
+    played.all_is_pulled()
+    played.script.end(played.world.readings())
+    return played.script
+
+
+def many_sessions():
+    """A room's 64 sessions of both counts put in, pull, delete what they put in, and leave, one after the other."""
+    script, room = Script(), Room(0)
+    ask = lambda **request: script.event(compact(request), room.answer(request))
+    for s in range(1, 66):
+        ask(t="join", **({"u": 16} if s % 2 else {}))
+    for s in range(1, 65):
+        ask(t="ins", s=s, n=1, v=0, k=0, x=CHARACTERS[-1 - s % 3] + ALPHABET[s % 26])
+    for s in range(1, 65):
+        for have in (0, 64):
+            ask(t="pull", s=s, have=have, max=64)
+        ask(t="del", s=s, n=2, v=2, k=0, c=2)
+        ask(t="ins", s=s, n=3, v=2, k=0, x=ALPHABET[s % 26])
+    for s in range(1, 65):
+        ask(t="leave", s=s)
+        ask(t="join", **({} if s % 2 else {"u": 16}))
+    ask(t="read")
+    return script
+
+
+def runs_of_all_lengths():
+    """Site 0 puts in runs of each length from 1 to 64, of characters of one to four bytes and of all of them, each at the head. It is
+    asked for each run, for its beginning, and for its end with what is behind it. And its room."""
+    script, room = Script(), Room(0)
+    ask = lambda **request: script.event(compact(request), room.answer(request))
+    ask(t="join")
+    for n, (chars, size) in enumerate(itertools.product(("ab", "\u00e9\u00df", "\u20ac\u2028", "\U0001f600\U00010000", CHARACTERS), range(1, 65)), 1):
+        first = len(room.log)
+        ask(t="ins", s=1, n=n, v=0, k=0, x=(chars * 65)[n % len(chars) :][:size])
+        for after, count in ((first, size), (first, 1 + size // 2), (max(0, first - 1), 64)):
+            ask(t="ops", after=after, max=count)
+    ask(t="read")
+    return script, room
+
+
+class Typed:
+    """The text of a room that one session types, and what each version did to it, by arithmetic: in characters and in units."""
+
+    def __init__(self):
+        self.shown, self.pairs = [], 0  # the characters, and how many of them have two units
+        self.edits = {False: [], True: []}
+
+    def place(self, at, units):
+        """The place of the character that is shown behind so many; the time is of those that are shown behind it."""
+        return at + (units and self.pairs - sum(width(char, True) - 1 for char in self.shown[at:]))
+
+    def insert(self, at, text):
+        for units, edits in self.edits.items():
+            widths = itertools.accumulate((width(char, units) for char in text), initial=self.place(at, units))
+            edits += [["i", place, char] for place, char in zip(widths, text)]
+        self.shown[at:at] = text
+        self.pairs += sum(width(char, True) - 1 for char in text)
+
+    def delete(self, at, count):
+        for units, edits in self.edits.items():
+            place = self.place(at, units)
+            edits += [["d", place] + ([width(char, True)] if units else []) for char in self.shown[at : at + count]]
+        self.pairs -= sum(width(char, True) - 1 for char in self.shown[at : at + count])
+        del self.shown[at : at + count]
+
+    def delete_again(self, count):
+        for edits in self.edits.values():
+            edits += [["n"]] * count
+
+    def version(self):
+        return len(self.edits[False])
+
+
+def typed_full(units):
+    """Session 1, which counts units or doesn't, types a log full, up to version 61,440 at the end of the text and from there on
+    within some 200 characters of it: it puts in and deletes at 1 to 64 places at a time, now and then twice in one version, and
+    pulls 1 to 64 edits at a time; meanwhile the text is read, and places are refused. Then it can only be read: session 2, which
+    counts the other way, pulls all that was done."""
+    dice, script, typed = random.Random(61), Script(), Typed()
+    (put_in, deleted, pulled), n, sent = (itertools.cycle(range(1, 65)) for _ in range(3)), 1, 0
+    ask = lambda reply, **request: script.event(compact(request), reply)
+    place = lambda at: typed.place(at, units)
+    text = lambda size: "".join(dice.choices(CHARACTERS, k=min(size, LIMIT - typed.version())))
+
+    def pull(s, have, most, units):
+        es = typed.edits[units][have : have + most]
+        ask({"es": es, "from": have, "r": "edits"}, t="pull", s=s, have=have, max=most)
+        return have + len(es)
+
+    def submit(edit, *what, **asked):
+        """A submission that names the version which was pulled, and what it does to the newest."""
+        nonlocal n
+        version = typed.version()
+        edit(*what)
+        ask({"from": version, "r": "ok", "to": typed.version()}, s=1, n=n, v=sent, **asked)
+        n += 1
+
+    def insert(at, text):
+        submit(typed.insert, at, text, t="ins", k=place(at), x=text)
+
+    def delete(at, size, again):
+        """Deletes as many characters as have so many places (at least one), and may ask for the same once more."""
+        ends = itertools.accumulate(width(char, units) for char in typed.shown[at : at + size])
+        count = max(1, sum(end <= size for end in ends))
+        asked = {"t": "del", "k": place(at), "c": place(at + count) - place(at)}
+        submit(typed.delete, at, count, **asked)
+        if again:
+            submit(typed.delete_again, count, **asked)
+
+    for s in (1, 2):
+        ask({"r": "joined", "s": s, "v": 0, "x": ""}, t="join", **({"u": 16} if units == (s == 1) else {}))
+    while typed.version() < 61_440:
+        insert(len(typed.shown), text(64))
+        sent = pull(1, sent, 64, units)
+    run = {"c": [[0, 61_001]], "k": "r", "p": [61_000, 0], "s": 0, "x": "".join(typed.shown[61_000:61_064])}
+    ask({"from": 61_000, "ops": [run], "r": "ops"}, t="ops", after=61_000, max=64)
+    while typed.version() < LIMIT:
+        what, at = dice.random(), len(typed.shown) - dice.randint(64, 128)
+        if what < 0.4 and typed.version() + 256 < LIMIT:
+            delete(at, next(deleted), what < 0.1)
+        else:
+            insert(at + dice.choice([0, 64]), text(next(put_in)))
+        if what > 0.2 and dice.random() < 0.3 and typed.version() + 256 < LIMIT:  # in the same version, before that
+            dice.choice([lambda: insert(at - dice.randint(0, 9), text(next(put_in))), lambda: delete(at - 64, next(deleted), False)])()
+        while sent < typed.version():
+            sent = pull(1, sent, next(pulled), units)
+        if what > 0.98:
+            ask({"r": "text", "v": sent, "x": "".join(typed.shown)}, t="read")
+            end = place(len(typed.shown))
+            ask(no(9), t="ins", s=1, n=n, v=sent, k=end + 1, x="a")
+            ask(no(9), t="del", s=1, n=n, v=sent, k=end - 63, c=64)
+            ask(no(8), t="ins", s=1, n=n, v=sent + 1, k=end, x="a")
+            ask(no(22), t="pull", s=1, have=sent + 1, max=1)
+            if units and typed.shown[at] > "\uffff":
+                ask(no(9), t="ins", s=1, n=n, v=sent, k=place(at) + 1, x="a")
+    ask(no(12), t="ins", s=1, n=n, v=sent, k=place(len(typed.shown)), x="a")
+    ask(no(12), t="del", s=1, n=n, v=sent, k=0, c=1 + (units and typed.shown[0] > "\uffff"))
+    for have in range(0, LIMIT, 64):
+        pull(2, have, 64, not units)
+    ask({"r": "joined", "s": 3, "v": LIMIT, "x": "".join(typed.shown)}, t="join")
+    ask({"r": "text", "v": LIMIT, "x": "".join(typed.shown)}, t="read")
+    return script
+
+
+def typed_one_by_one(place):
+    """A log that is typed full, each character at a place of those before it, which it is asked for, and pulled before the next: the
+    bytes of the lines, and of those that are wanted."""
+    given, wanted, text = ['{"t":"join"}'], ['{"r":"joined","s":1,"v":0,"x":""}'], bytearray()
+    for n in range(LIMIT):
+        k, char = place(n), ALPHABET[n * 7 % 26]
+        text.insert(k, ord(char))
+        given.append(f'{{"t":"ins","s":1,"n":{n + 1},"v":{n},"k":{k},"x":"{char}"}}\n{{"t":"pull","s":1,"have":{n},"max":64}}')
+        wanted.append(f'{{"from":{n},"r":"ok","to":{n + 1}}}\n{{"es":[["i",{k},"{char}"]],"from":{n},"r":"edits"}}')
+    return given + ['{"t":"read"}'], wanted + [compact({"r": "text", "v": LIMIT, "x": text.decode()})]
 
 
 def forged(dice, room):
