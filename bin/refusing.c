@@ -1,9 +1,10 @@
-/* Laid before the C library (LD_PRELOAD), it refuses one allocation of a program, or fails its reads and writes:
+/* Laid before the C library (LD_PRELOAD), it refuses one allocation of a program, or all from one on, or fails its reads and writes:
  *   REFUSE_ALLOCATION=N   the Nth call of malloc or realloc gives nothing
  *   FAIL_READ=N           the Nth read fails
  *   FAIL_WRITE=N          the Nth write fails; with WRITE_NOTHING set, it takes 0 bytes
+ *   REFUSE_ON             each later call of the same kind is refused, too
  *   SHORT_WRITES          every write that isn't refused takes one byte
- *   TELL=FILE             a file that gets a byte once something was refused
+ *   TELL=FILE             a file that gets a byte for each call that is refused
  * Reads and writes are those of descriptors 0 and 1. */
 #define _GNU_SOURCE
 #include <dlfcn.h>
@@ -25,18 +26,21 @@ static void tell(void)
 {
     UNDER(write);
     const char *file = getenv("TELL");
-    int to = file ? open(file, O_WRONLY) : -1;
+    int to = file ? open(file, O_WRONLY | O_APPEND) : -1;
     if (to >= 0) {
         under(to, "x", 1);
         close(to);
     }
 }
 
-/* Counts the call, and whether it is the one to refuse: that is told, and leaves the error. */
+/* Counts the call, and whether it is to be refused: that is told, and leaves the error. */
 static int is_refused(atomic_long *calls, const char *name, int error)
 {
     const char *number = getenv(name);
-    if (!number || atomic_fetch_add(calls, 1) + 1 != atol(number))
+    if (!number)
+        return 0;
+    long at = atomic_fetch_add(calls, 1) + 1, first = atol(number);
+    if (at < first || (at > first && !getenv("REFUSE_ON")))
         return 0;
     tell();
     errno = error;
