@@ -350,10 +350,10 @@ def typed_one_by_one(place):
 
 def forged(dice, room):
     """An operation that nobody made: of one of the sites 3 to 29, or the room's, with a number that is used, the next or a later one,
-    a clock that knows of all, of something or of nothing, and a deed at the head, at an element, or at what is none."""
-    site = dice.choice([*range(3, 30)] + [room.site] * 5)
-    clock = dice.choice([clock_of(room.log), [0] * SITES, [*dice.choice(room.log + room.held).clock]])
-    clock[site] = max(1, clock_of(room.log)[site] + dice.choice([0, 1, 1, 1, 1, 2, 3]))
+    and a deed at the head, at an element, or at what is none. Sites below 10 know of nothing, the others of all, or of something."""
+    site = dice.choice([*range(3, 10)] * 3 + [*range(10, 30)] + [room.site] * 7)
+    clock = [0] * SITES if site < 10 else dice.choice([clock_of(room.log), [*dice.choice(room.log + room.held).clock]])
+    clock[site] = max(1, clock_of(room.log)[site] + dice.choice([0, 1, 1, 1, 2, 2, 3]))
     there = [it.stamp for it in room.log if it.kind == "i"]
     place = dice.choice([None, (dice.randint(1, 99), 30), there[-1], dice.choice(there), dice.choice(there)])
     if place and dice.random() < 0.3:
@@ -395,7 +395,7 @@ def handed_over(log):
             part, window = window[:size], window[size:]
             told = [room.put(operation) for operation in part]
             script.event(compact({"t": "put", "ops": [object_of(run) for run in packed(part)]}), {"os": told, "r": "put"})
-            outcomes.update(it[1] if it[0] == "no" else "dropped" if it[2:] > [0] else it[0] for it in told)
+            outcomes.update(it[1] if it[0] == "no" else it[0] for it in told)
 
     for counts in ({}, {"u": 16}):
         ask(t="join", **counts)
@@ -418,6 +418,7 @@ def handed_over(log):
     for after in range(0, len(room.log), 64):
         ask(t="ops", after=after, max=64)
     ask(t="read")
+    outcomes.update(f"dropped by {why}" for why in room.dropped)
     return script, outcomes
 
 

@@ -147,10 +147,10 @@ def object_of(run):
 
 
 class Room:
-    """A site's log, what it holds back, and its sessions."""
+    """A site's log, what it holds back, and its sessions. And why operations that waited were dropped."""
 
     def __init__(self, site, log=()):
-        self.site, self.log, self.held = site, list(log), []
+        self.site, self.log, self.held, self.dropped = site, list(log), [], []
         self.sessions, self.next_session = {}, 1
 
     def answer(self, request):
@@ -272,19 +272,21 @@ class Room:
 
     def settle(self):
         """How many were taken, the first one included, and how many dropped."""
-        taken, dropped = 1, 0
+        taken, dropped = 1, []
         while len(self.log) < LIMIT:
             clock = clock_of(self.log)
             ready = next((at for at, operation in enumerate(self.held) if is_ready(clock, operation)), None)
             if ready is None:
                 break
             operation = self.held.pop(ready)
-            if refusal(self.log, operation):
-                dropped += 1
+            why = refusal(self.log, operation)
+            if why:
+                dropped.append(why)
             else:
                 self.log.append(operation)
                 taken += 1
-        return taken, dropped
+        self.dropped += dropped
+        return taken, len(dropped)
 
 
 class Refused(Exception):
