@@ -182,11 +182,11 @@ def full_log():
 
 
 def all_sites():
-    """At each of 32 sites six characters, of some 16 bytes, are typed, and carried to every other, in any order."""
+    """At each of 32 sites six characters, of 21 bytes, are put in, and carried to every other site, in any order."""
     dice = random.Random(32)
     played = Played(SITES)
     for site in range(SITES):
-        played.call(site, t="ins", s=1, n=1, v=0, k=0, x="".join(dice.choices(CHARACTERS, k=5)) + ALPHABET[site % 26])
+        played.call(site, t="ins", s=1, n=1, v=0, k=0, x="".join(dice.choices(CHARACTERS[-12:], k=5)) + ALPHABET[site % 26])
     carried = [(source, n, target) for source in range(SITES) for n in range(6) for target in range(SITES) if source != target]
     own = {site: room.log[:] for site, room in played.world.rooms.items()}
     dice.shuffle(carried)
@@ -198,7 +198,8 @@ def all_sites():
 
 
 def many_sessions():
-    """A room's 64 sessions of both counts put in, pull, delete what they put in, and leave, one after the other."""
+    """The 64 sessions that a room may have, of both counts in turn, put in, pull, delete what they put in (as many places, which are
+    one or two characters), put in again, and leave for another one."""
     script, room = Script(), Room(0)
     ask = lambda **request: script.event(compact(request), room.answer(request))
     for s in range(1, 66):
@@ -208,8 +209,8 @@ def many_sessions():
     for s in range(1, 65):
         for have in (0, 64):
             ask(t="pull", s=s, have=have, max=64)
-        ask(t="del", s=s, n=2, v=2, k=0, c=2)
-        ask(t="ins", s=s, n=3, v=2, k=0, x=ALPHABET[s % 26])
+        ask(t="del", s=s, n=2, v=2 * s, k=0, c=2)
+        ask(t="ins", s=s, n=3, v=2 * s, k=0, x=ALPHABET[s % 26])
     for s in range(1, 65):
         ask(t="leave", s=s)
         ask(t="join", **({} if s % 2 else {"u": 16}))
@@ -219,7 +220,7 @@ def many_sessions():
 
 def runs_of_all_lengths():
     """Site 0 puts in runs of each length from 1 to 64, of characters of one to four bytes and of all of them, each at the head. It is
-    asked for each run, for its beginning, and for its end with what is behind it. And its room."""
+    asked for each run, for its beginning, and from the operation before it on. Gives the script, and the room."""
     script, room = Script(), Room(0)
     ask = lambda **request: script.event(compact(request), room.answer(request))
     ask(t="join")
@@ -337,8 +338,8 @@ def typed_full(units):
 
 
 def typed_one_by_one(place):
-    """A log that is typed full, each character at a place of those before it, which it is asked for, and pulled before the next: the
-    bytes of the lines, and of those that are wanted."""
+    """A log that is typed full, each character by itself, at the place that is told for it, and pulled before the next: the lines, and
+    those that are wanted."""
     given, wanted, text = ['{"t":"join"}'], ['{"r":"joined","s":1,"v":0,"x":""}'], bytearray()
     for n in range(LIMIT):
         k, char = place(n), ALPHABET[n * 7 % 26]
