@@ -35,6 +35,14 @@ pub(crate) fn is_ok(reply: &Reply, versions: (u32, u32)) -> bool {
     }
 }
 
+/// Whether the reply opens that session at the version, with its text.
+pub(crate) fn is_joined(reply: &Reply, session: u32, version: u32, text: &str) -> bool {
+    match reply {
+        Reply::Joined { s, v, x } => *s == session && *v == version && x.as_str() == text,
+        _ => false,
+    }
+}
+
 /// Whether the reply tells the text of the version.
 pub(crate) fn is_text(reply: &Reply, version: u32, text: &str) -> bool {
     match reply {

@@ -19,4 +19,6 @@ mod replicas;
 #[cfg(test)]
 mod rooms;
 #[cfg(test)]
+mod turns;
+#[cfg(test)]
 mod worlds;

@@ -3,6 +3,7 @@ ghost use Rattle.std.specs.Prelude.{◌≤◌, ◌^◌};
 ghost use Rattle.room.specs.History.{mark};
 
 use crate::fixtures::{empty_room, insertion, is_ok, is_text};
+use crate::turns::{TURNS, Turn};
 use room::{Call, Reply, Room};
 use std::alloc::Global;
 use std::test::Fail;
@@ -48,5 +49,73 @@ fn runs_calls(alloc: Global) -> Result<bool, Fail> {
 #[test]
 fn a_list_of_calls(rt: HostRuntime) -> Result<(), Fail> {
     assert!(rt; runs_calls(rt.alloc())?);
+    Ok(())
+}
+
+/// The calls of each turn, with letters that are handed over behind it; then each session leaves.
+fn asks_in_turns(alloc: Global, calls: &mut Vec<Call>) -> Result<(), Fail> {
+    let mut turn = Turn::first();
+    for _ in 0..TURNS {
+        turn.asks(alloc, calls)?;
+        calls.push(turn.hands(alloc)?)?;
+        turn = turn.next(turn.size);
+    }
+    for s in 1..=TURNS {
+        calls.push(Call::Leave { s })?;
+    }
+    Ok(())
+}
+
+/// Whether these are the replies to a turn and to what was handed over behind it.
+fn is_turn_told(alloc: Global, turn: Turn, replies: &[Reply]) -> Result<bool, Fail> {
+    let before = turn.text(alloc)?;
+    let behind = turn.next(0).text(alloc)?;
+    let mut all = replies.len() == 8;
+    for (place, reply) in replies.iter().enumerate() {
+        all &= turn.is_told(place, reply, before.as_str(), behind.as_str());
+    }
+    Ok(all)
+}
+
+/// Whether these are the replies to the calls of all turns.
+fn are_turns_told(alloc: Global, replies: &[Reply]) -> Result<bool, Fail> {
+    let mut all = replies.len() == 9 * TURNS as usize;
+    let mut turn = Turn::first();
+    let mut rest = replies;
+    for _ in 0..TURNS {
+        let (told, later) = rest.split_at(rest.len().min(8));
+        all &= is_turn_told(alloc, turn, told)?;
+        turn = turn.next(turn.size);
+        rest = later;
+    }
+    Ok(all && rest.iter().all(|reply| matches!(reply, Reply::Left)))
+}
+
+/// Whether the calls of all turns are answered and recorded.
+fn runs_turns(
+    alloc: Global,
+    room: &mut Room,
+    calls: &[Call],
+    replies: &mut Vec<Reply>,
+) -> Result<bool, Fail>
+    requires { mark room.old.history ≤ 2 ^ 61 }
+{
+    room.run(calls, replies)?;
+    Ok(has_recorded(room, calls.len()) && are_turns_told(alloc, replies)?)
+}
+
+fn runs_turns_in_a_room(
+    alloc: Global,
+    calls: &mut Vec<Call>,
+    replies: &mut Vec<Reply>,
+) -> Result<bool, Fail> {
+    asks_in_turns(alloc, calls)?;
+    runs_turns(alloc, &mut empty_room(alloc, 0)?, calls, replies)
+}
+
+#[test]
+fn calls_of_every_kind_and_size(rt: HostRuntime) -> Result<(), Fail> {
+    let alloc = rt.alloc();
+    assert!(rt; runs_turns_in_a_room(alloc, &mut Vec::new(alloc), &mut Vec::new(alloc))?);
     Ok(())
 }
