@@ -1,5 +1,6 @@
 //! Editors of a room that fall behind and catch up, in either count of places.
 use crate::fixtures::{empty_room, insertion, shows};
+use crate::turns::{TURNS, Turn};
 use room::{Call, Desk, Editor, RoomDesk, UnitEditor};
 use std::alloc::Global;
 use std::test::Fail;
@@ -139,5 +140,91 @@ fn editors_of_both_counts(alloc: Global) -> Result<bool, Fail> {
 #[test]
 fn sessions_of_both_counts_type_at_once(rt: HostRuntime) -> Result<(), Fail> {
     assert!(rt; editors_of_both_counts(rt.alloc())?);
+    Ok(())
+}
+
+/// An editor of either count.
+#[derive(Drop)]
+struct Editors {
+    characters: Editor,
+    units: UnitEditor,
+}
+
+impl Editors {
+    /// The editor of the turn's count is given the reply.
+    fn follow(&mut self, desk: &mut RoomDesk, turn: Turn, call: Call) -> Result<(), Fail> {
+        if turn.counts_units() {
+            follows_units(desk, &mut self.units, call)
+        } else {
+            follows(desk, &mut self.characters, call)
+        }
+    }
+
+    /// Whether that one has the text at the version.
+    fn show(&self, turn: Turn, version: u32, text: &str) -> bool {
+        if turn.counts_units() {
+            self.units.version() == u64::from(version) && shows_units(&self.units, text)
+        } else {
+            self.characters.version() == u64::from(version) && shows(&self.characters, text)
+        }
+    }
+
+    /// Gives the replies to a turn's calls. Whether it begins with the text that the joined one tells.
+    fn follow_each(
+        &mut self,
+        desk: &mut RoomDesk,
+        turn: Turn,
+        calls: &[Call],
+        text: &str,
+    ) -> Result<bool, Fail> {
+        let mut all = true;
+        for (place, call) in calls.iter().enumerate() {
+            self.follow(desk, turn, call.clone()?)?;
+            all &= place > 1 || self.show(turn, turn.version, text);
+        }
+        Ok(all)
+    }
+
+    /// Gives the replies to a turn, and to what is handed over behind it. Whether the edits are played, too.
+    fn follow_turn(
+        &mut self,
+        alloc: Global,
+        desk: &mut RoomDesk,
+        turn: Turn,
+    ) -> Result<bool, Fail> {
+        let mut calls = Vec::new(alloc);
+        turn.asks(alloc, &mut calls)?;
+        calls.push(turn.hands(alloc)?)?;
+        let all = self.follow_each(desk, turn, &calls, turn.text(alloc)?.as_str())?;
+        Ok(all && self.show(turn, turn.erased(), turn.next(0).text(alloc)?.as_str()))
+    }
+}
+
+/// Gives the replies to all turns.
+fn follow_turns(alloc: Global, desk: &mut RoomDesk, editors: &mut Editors) -> Result<bool, Fail> {
+    let mut all = true;
+    let mut turn = Turn::first();
+    for _ in 0..TURNS {
+        all &= editors.follow_turn(alloc, desk, turn)?;
+        turn = turn.next(turn.size);
+    }
+    Ok(all)
+}
+
+fn follow_all(alloc: Global) -> Result<bool, Fail> {
+    let mut editors = Editors {
+        characters: Editor::new(alloc),
+        units: UnitEditor::new(alloc),
+    };
+    follow_turns(
+        alloc,
+        &mut RoomDesk::new(empty_room(alloc, 0)?),
+        &mut editors,
+    )
+}
+
+#[test]
+fn editors_follow_replies_of_every_kind_and_size(rt: HostRuntime) -> Result<(), Fail> {
+    assert!(rt; follow_all(rt.alloc())?);
     Ok(())
 }
