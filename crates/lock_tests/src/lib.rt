@@ -6,6 +6,10 @@
 #[cfg(test)]
 mod carried;
 #[cfg(test)]
+mod crowd;
+#[cfg(test)]
+mod lengths;
+#[cfg(test)]
 mod lines;
 #[cfg(test)]
 mod locks;
