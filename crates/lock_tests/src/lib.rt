@@ -6,7 +6,6 @@
 #[cfg(test)]
 mod carried;
 #[cfg(test)]
-mod crowd;
 #[cfg(test)]
 mod lengths;
 #[cfg(test)]
