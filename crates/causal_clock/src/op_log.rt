@@ -110,6 +110,7 @@ impl OpLog {
         requires { i < length self.now.ops }
         ensures value { slice_get self.now.ops i ≡ Some result }
         ensures cost { steps.new ≤ steps.old + 8 }
+        ensures counted { steps.old + 1 ≤ steps.new }
     {
         let rows = self.rows.as_slice();
         let entries = self.entries.as_slice();

@@ -90,6 +90,7 @@ impl<'a> Replay<'a> {
         ensures value { self.old.left ≡ result ∷ self.new.left }
         ensures passed { self.new.passed ≡ self.old.passed ++ result ∷ [] }
         ensures cost { steps.new ≤ steps.old + 8 }
+        ensures counted { steps.old + 1 ≤ steps.new }
         ensures next { 0 < count_of self.old.passed result.site → steps.new ≡ steps.old + 1 }
     {
         let at = self.place;
@@ -152,6 +153,7 @@ fn op_after<L: Ledger>(
     ensures kept { (counts : List ℕ) × (seen.new ≡ slice_set seen.old result.site (Some counts)) }
     ensures site { result.site < length seen.old }
     ensures cost { steps.new ≤ steps.old + 8 }
+    ensures counted { steps.old + 1 ≤ steps.new }
     ensures next { (counts : List ℕ) → get_or seen.old result.site None ≡ Some counts → steps.new ≡ steps.old + 1 }
 {
     let (row, changes) = read(rows, entries, at, steps);
@@ -178,6 +180,7 @@ fn counts_after<L: Ledger>(
     ensures counts { (k : ℕ) → k < length rows.now → row_at rows.now k ≡ row.now
         → fill result (changes_of entries.now row.now) ≡ (operation_at (logged entries.now rows.now) k).clock }
     ensures cost { steps.new ≤ steps.old + row.now.back }
+    ensures rises { steps.old ≤ steps.new }
     ensures next { (counts : List ℕ) → kept ≡ Some counts → steps.new ≡ steps.old }
 {
     match kept {

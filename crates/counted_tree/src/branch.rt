@@ -1,15 +1,16 @@
 //! A tree beside what a node over it has to know.
-ghost use Rattle.std.specs.Prelude.{◌≡◌, length, None};
+ghost use Rattle.std.specs.Prelude.{◌≡◌, ◌+◌, ◌≤◌, length, None};
 ghost use Rattle.counted_tree.specs.Arena.{IsLinkBelow, AreSound};
 ghost use Rattle.counted_tree.specs.Branch.{IsBranchOf, IsBranch};
 ghost use Rattle.counted_tree.specs.Change.{tree_in};
 ghost use Rattle.counted_tree.specs.Table.{HasRow};
 ghost use Rattle.counted_tree.specs.Tree.Tree.{Leaf};
 
-use crate::build::open;
+use crate::build::look;
 use crate::entry::KEYS;
 use crate::nodes::Nodes;
 use crate::packed_row::PackedRow;
+use crate::steps::Steps;
 
 /// A tree by its link, and what a node over it and the newest tree's table take from it, so that the tree is looked at once.
 #[derive(Clone, Copy)]
@@ -39,17 +40,23 @@ impl Branch {
 
 /// The part of the newest tree that a link names, of which the table has a row. Reads one node, or none where the tree is
 /// empty.
-pub fn branch_of(nodes: &Nodes, table: &[PackedRow], link: Option<u32>) -> Branch
+pub fn branch_of(
+    nodes: &Nodes,
+    table: &[PackedRow],
+    link: Option<u32>,
+    steps: &mut Steps,
+) -> Branch
     requires sound { AreSound nodes.now.nodes }
     requires link { IsLinkBelow (length nodes.now.nodes) link }
     requires row { HasRow table.now (tree_in nodes.now link) }
     ensures link { result.link ≡ link }
     ensures branch { IsBranch nodes.now result }
+    ensures cost { steps.new ≤ steps.old + 1 }
 {
     let Some(at) = link else {
         return Branch::empty();
     };
-    let elem = open(nodes, at).entry.elem;
+    let elem = look(nodes, at, steps).entry.elem;
     let row = table[elem as usize].get();
     Branch {
         link,

@@ -1,10 +1,11 @@
 //! How far one comes past entries with a greater key: by the least keys of whole subtrees.
-ghost use Rattle.std.specs.Prelude.{◌≡◌, ◌+◌, ◌*◌, ◌≤◌, length, true, None, IsSome};
+ghost use Rattle.std.specs.Prelude.{◌≡◌, ◌+◌, ◌-◌, ◌*◌, ◌^◌, ◌≤◌, min, length, true, None, IsSome};
 ghost use Rattle.counted_tree.specs.Tree.{entries, height};
 ghost use Rattle.counted_tree.specs.Arena.{IsLinkBelow, AreSound};
 ghost use Rattle.counted_tree.specs.Change.{tree_in};
 ghost use Rattle.counted_tree.specs.Along.{entry_at, after_at, elem_at};
 ghost use Rattle.counted_tree.specs.Greater.{all_greater, passed, last_of, stop};
+ghost use Rattle.counted_tree.specs.Steps.{IsCounted};
 ghost use Rattle.counted_tree.specs.Table.{HasRow, IsKept};
 
 use crate::build::look;
@@ -26,6 +27,7 @@ fn are_greater(
     requires row { HasRow table.now (tree_in nodes.now link) }
     ensures greater { result ≡ all_greater key (entries (tree_in nodes.now link)) }
     ensures cost { steps.new ≤ steps.old + 1 }
+    ensures rises { min steps.old (2 ^ 64 - 1) ≤ steps.new }
 {
     let Some(at) = link else { return true };
     let node = look(nodes, at, steps);
@@ -44,6 +46,7 @@ pub fn last_in(
     requires link { IsLinkBelow (length nodes.now.nodes) link }
     ensures last { result ≡ last_of last (entries (tree_in nodes.now link)) }
     ensures cost { steps.new ≤ steps.old + height (tree_in nodes.now link) }
+    ensures rises { min steps.old (2 ^ 64 - 1) ≤ steps.new }
 {
     let Some(at) = link else { return last };
     let node = look(nodes, at, steps);
@@ -65,6 +68,8 @@ pub fn passed_in(
     requires kept { IsKept table.now (tree_in nodes.now link) }
     ensures last { result ≡ passed key last (entries (tree_in nodes.now link)) }
     ensures cost { steps.new ≤ steps.old + 2 * height (tree_in nodes.now link) }
+    ensures rises { min steps.old (2 ^ 64 - 1) ≤ steps.new }
+    ensures counted { IsSome link → IsCounted steps.old steps.new }
 {
     let Some(at) = link else { return last };
     let node = look(nodes, at, steps);
@@ -92,6 +97,7 @@ fn stop_in(
     requires kept { IsKept table.now (tree_in nodes.now link) }
     ensures last { result ≡ stop key last (entries (tree_in nodes.now link)) }
     ensures cost { steps.new ≤ steps.old + 2 * height (tree_in nodes.now link) + 1 }
+    ensures rises { min steps.old (2 ^ 64 - 1) ≤ steps.new }
     ensures passed { all_greater key (entries (tree_in nodes.now link)) ≡ true → steps.new ≤ steps.old + 1 }
 {
     if are_greater(nodes, table, link, key, steps) {
@@ -116,6 +122,7 @@ pub fn stop_at(
     requires there { IsSome (entry_at (tree_in nodes.now link) path.now) }
     ensures last { result ≡ stop key (elem_at (tree_in nodes.now link) path.now) (after_at (tree_in nodes.now link) path.now) }
     ensures cost { steps.new ≤ steps.old + 4 * height (tree_in nodes.now link) }
+    ensures counted { IsCounted steps.old steps.new }
     ensures passed { result ≡ None → steps.new ≤ steps.old + 2 * height (tree_in nodes.now link) }
 {
     let Some(at) = link else { unreachable!() };

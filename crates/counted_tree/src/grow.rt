@@ -1,6 +1,6 @@
 //! The tree of a node, once one of its sides has grown by an entry. What makes it stands in the body of who asks for it, so that only what
 //! they use of the node is unpacked: a copy differs in one side, and the whole node is read once more only where it is built anew.
-ghost use Rattle.std.specs.Prelude.{◌≡◌, ℕ, ◌+◌, ◌-◌, ◌<◌, ◌≤◌, ◌∷◌, ◌++◌, length, slice_get, Option, Some};
+ghost use Rattle.std.specs.Prelude.{◌≡◌, ℕ, ◌+◌, ◌-◌, ◌*◌, ◌<◌, ◌≤◌, ◌∷◌, ◌++◌, length, slice_get, Option, Some};
 ghost use Rattle.counted_tree.specs.declared.above.Above.{Above};
 ghost use Rattle.counted_tree.specs.declared.grown.Grown.TheVariants.{Settled, Loose};
 ghost use Rattle.counted_tree.specs.declared.side.Side.TheVariants.{Left, Right};
@@ -15,7 +15,7 @@ ghost use Rattle.counted_tree.specs.Table.{HasRow, PointsTo, IsReady, Hangs};
 
 use crate::above::Above;
 use crate::branch::{Branch, branch_of};
-use crate::build::{copy_left, copy_right, open};
+use crate::build::{copy_left, copy_right, look};
 use crate::entry::Entry;
 use crate::grown::Grown;
 use crate::hang::hang;
@@ -26,6 +26,7 @@ use crate::rotate::rebuild;
 use crate::row::Row;
 use crate::side::Side;
 use crate::size::Size;
+use crate::steps::Steps;
 
 /// A tree that is as high as this row says, which is that of its top before it had the entry: the row is right still, unless the new
 /// key is less than all others.
@@ -57,6 +58,7 @@ fn grow_left(
     left: Branch,
     left_size: Size,
     entry: &Entry,
+    steps: &mut Steps,
 ) -> Grown
     requires sound { AreSound nodes.old.nodes }
     requires at { slice_get nodes.old.nodes at ≡ Some node }
@@ -79,13 +81,16 @@ fn grow_left(
         → IsGrown (tree_of (trees nodes.old.nodes) node) (tree_in nodes.new (grown_link result))
         (made + (length nodes.new.nodes - length nodes.old.nodes)) }
     ensures hangs { Hangs table.old table.new (tree_in nodes.new (grown_link result)) }
+    ensures looks { steps.new + 4 * length nodes.old.nodes + 2 ≤ steps.old + 4 * length nodes.new.nodes }
 {
     let row = table[node.entry.elem as usize].get();
     if left.height >= row.height {
         // Read again, which costs less than to keep all of it.
-        let node = open(nodes, at);
-        let right = branch_of(nodes, table, node.right);
-        return Grown::Loose(rebuild(nodes, table, left, left_size, node.entry, right));
+        let node = look(nodes, at, steps);
+        let right = branch_of(nodes, table, node.right, steps);
+        return Grown::Loose(rebuild(
+            nodes, table, left, left_size, node.entry, right, steps,
+        ));
     }
     let on_left = Above {
         elem: node.entry.elem,
@@ -108,6 +113,7 @@ fn grow_right(
     node: Node,
     right: Branch,
     entry: &Entry,
+    steps: &mut Steps,
 ) -> Grown
     requires sound { AreSound nodes.old.nodes }
     requires at { slice_get nodes.old.nodes at ≡ Some node }
@@ -129,13 +135,22 @@ fn grow_right(
         → IsGrown (tree_of (trees nodes.old.nodes) node) (tree_in nodes.new (grown_link result))
         (made + (length nodes.new.nodes - length nodes.old.nodes)) }
     ensures hangs { Hangs table.old table.new (tree_in nodes.new (grown_link result)) }
+    ensures looks { steps.new + 4 * length nodes.old.nodes + 2 ≤ steps.old + 4 * length nodes.new.nodes }
 {
     let row = table[node.entry.elem as usize].get();
     if right.height >= row.height {
         // Read again, which costs less than to keep all of it.
-        let node = open(nodes, at);
-        let left = branch_of(nodes, table, node.left);
-        return Grown::Loose(rebuild(nodes, table, left, node.left_size, node.entry, right));
+        let node = look(nodes, at, steps);
+        let left = branch_of(nodes, table, node.left, steps);
+        return Grown::Loose(rebuild(
+            nodes,
+            table,
+            left,
+            node.left_size,
+            node.entry,
+            right,
+            steps,
+        ));
     }
     let on_right = Above {
         elem: node.entry.elem,
@@ -157,6 +172,7 @@ pub fn lift_left(
     node: Node,
     left: Grown,
     entry: &Entry,
+    steps: &mut Steps,
 ) -> Grown
     requires sound { AreSound nodes.old.nodes }
     requires at { slice_get nodes.old.nodes at ≡ Some node }
@@ -179,6 +195,7 @@ pub fn lift_left(
         → IsGrown (tree_of (trees nodes.old.nodes) node) (tree_in nodes.new (grown_link result))
         (made + (length nodes.new.nodes - length nodes.old.nodes)) }
     ensures hangs { Hangs table.old table.new (tree_in nodes.new (grown_link result)) }
+    ensures looks { steps.new + 4 * length nodes.old.nodes + 2 ≤ steps.old + 4 * length nodes.new.nodes }
 {
     let left_size = node.left_size.plus(Size::of(entry));
     match left {
@@ -186,7 +203,9 @@ pub fn lift_left(
             let top = copy_left(nodes, at, node, Some(number), left_size);
             Grown::Settled(top)
         }
-        Grown::Loose(branch) => grow_left(nodes, table, at, node, branch, left_size, entry),
+        Grown::Loose(branch) => {
+            grow_left(nodes, table, at, node, branch, left_size, entry, steps)
+        }
     }
 }
 
@@ -199,6 +218,7 @@ pub fn lift_right(
     node: Node,
     right: Grown,
     entry: &Entry,
+    steps: &mut Steps,
 ) -> Grown
     requires sound { AreSound nodes.old.nodes }
     requires at { slice_get nodes.old.nodes at ≡ Some node }
@@ -221,12 +241,13 @@ pub fn lift_right(
         → IsGrown (tree_of (trees nodes.old.nodes) node) (tree_in nodes.new (grown_link result))
         (made + (length nodes.new.nodes - length nodes.old.nodes)) }
     ensures hangs { Hangs table.old table.new (tree_in nodes.new (grown_link result)) }
+    ensures looks { steps.new + 4 * length nodes.old.nodes + 2 ≤ steps.old + 4 * length nodes.new.nodes }
 {
     match right {
         Grown::Settled(number) => {
             let top = copy_right(nodes, at, node, Some(number));
             Grown::Settled(top)
         }
-        Grown::Loose(branch) => grow_right(nodes, table, at, node, branch, entry),
+        Grown::Loose(branch) => grow_right(nodes, table, at, node, branch, entry, steps),
     }
 }

@@ -1,11 +1,13 @@
 //! The version tree: one root for each version over nodes that all versions share (a persistent tree by copies of the
 //! path, Driscoll, Sarnak, Sleator, Tarjan 1989; balanced as by Adelson-Velsky and Landis 1962).
-ghost use Rattle.std.specs.Prelude.{◌≡◌, ℕ, ◌+◌, ◌*◌, ◌<◌, ◌≤◌, ◌^◌, [], ◌∷◌, ◌++◌, length, slice_get, true, max, IfSome, OnOk, OnErr};
+ghost use Rattle.std.specs.Prelude.{◌≡◌, ℕ, ◌+◌, ◌*◌, ◌<◌, ◌≤◌, ◌^◌, [], ◌∷◌, ◌++◌, length, slice_get, true, max};
+ghost use Rattle.std.specs.Prelude.{IsSome, IfSome, OnOk, OnErr};
 ghost use Rattle.counted_tree.specs.Digits.{digits};
 ghost use Rattle.counted_tree.specs.Entry.{visible, units};
 ghost use Rattle.counted_tree.specs.Versions.{version_list, newest, newest_list, newest_root, no_root, root_at};
 ghost use Rattle.counted_tree.specs.Changed.{Lists, Shows, put, hidden, before as entries_before};
 ghost use Rattle.counted_tree.specs.Greater.{last_greater};
+ghost use Rattle.counted_tree.specs.Steps.{IsCounted};
 
 use crate::change::{hide, insert, last_greater_in, rank_in};
 use crate::entry::Entry;
@@ -102,6 +104,7 @@ impl VersionTree {
         requires { version < length self.now.lists }
         ensures found { result ≡ slice_get (visible (version_list self.now version)) k }
         ensures cost { steps.new ≤ steps.old + 2 * digits (length (version_list self.now version)) }
+        ensures counted { IsSome result → IsCounted steps.old steps.new }
     {
         let root = root_of(self.roots.as_slice(), version);
         let (elem, _) = find_in(&self.nodes, root.link, false, k, steps)?;
@@ -114,6 +117,7 @@ impl VersionTree {
         requires { version < length self.now.lists }
         ensures found { result ≡ slice_get (units (version_list self.now version)) k }
         ensures cost { steps.new ≤ steps.old + 2 * digits (length (version_list self.now version)) }
+        ensures counted { IsSome result → IsCounted steps.old steps.new }
     {
         let root = root_of(self.roots.as_slice(), version);
         find_in(&self.nodes, root.link, true, k, steps)
@@ -135,6 +139,7 @@ impl VersionTree {
         ensures cost { steps.new ≤ steps.old + length (version_list self.now version) }
         ensures few { steps.new ≤ steps.old
             + length (visible (version_list self.now version)) * (2 * digits (length (version_list self.now version))) }
+        ensures counted { OnOk result (0 < length (visible (version_list self.now version)) → IsCounted steps.old steps.new) }
     {
         let root = root_of(self.roots.as_slice(), version);
         let shown = root.size.shown;
@@ -167,6 +172,7 @@ impl VersionTree {
         ensures units { result.units ≡ length (units (entries_before elem (newest_list self.now))) }
         ensures few { (result.shown ≤ 131072) × (result.units ≤ 2 * 131072) }
         ensures cost { steps.new ≤ steps.old + 2 * digits (length (newest_list self.now)) }
+        ensures counted { IsCounted steps.old steps.new }
     {
         let root = last_root(self.roots.as_slice());
         rank_in(&self.nodes, self.table.as_slice(), root.link, elem, steps)
@@ -178,6 +184,7 @@ impl VersionTree {
         ensures rank { result ≡ length (visible (entries_before elem (newest_list self.now))) }
         ensures few { result ≤ 131072 }
         ensures cost { steps.new ≤ steps.old + 2 * digits (length (newest_list self.now)) }
+        ensures counted { IsCounted steps.old steps.new }
     {
         self.ranks(elem, steps).shown as usize
     }
@@ -188,6 +195,7 @@ impl VersionTree {
         ensures rank { result ≡ length (units (entries_before elem (newest_list self.now))) }
         ensures few { result ≤ 2 * 131072 }
         ensures cost { steps.new ≤ steps.old + 2 * digits (length (newest_list self.now)) }
+        ensures counted { IsCounted steps.old steps.new }
     {
         self.ranks(elem, steps).units as usize
     }
@@ -200,6 +208,7 @@ impl VersionTree {
         requires there { IfSome before (λ e. Lists e (newest_list self.now)) }
         ensures last { result ≡ last_greater before key (newest_list self.now) }
         ensures cost { steps.new ≤ steps.old + 6 * digits (length (newest_list self.now)) }
+        ensures counted { 0 < length (newest_list self.now) → IsCounted steps.old steps.new }
     {
         let root = last_root(self.roots.as_slice());
         last_greater_in(
@@ -236,9 +245,15 @@ impl VersionTree {
     /// Adds a version with a further element, shown, right after another one, or before all others: its key, below 2^23,
     /// and whether it has two units stay with it for good. Tells how many shown elements stand before it, and how many units
     /// these have, as `ranks` would. Takes memory from the reserve alone. Climbs from the element before, if there is one, and
-    /// reads and makes nodes, of either a number logarithmic in that of the elements: how many it makes is promised, how many it
-    /// reads isn't.
-    pub fn insert_after(&mut self, before: Option<u32>, elem: u32, key: u32, wide: bool) -> Size
+    /// takes at most four steps for each node that it makes: 160 in the longest log.
+    pub fn insert_after(
+        &mut self,
+        before: Option<u32>,
+        elem: u32,
+        key: u32,
+        wide: bool,
+        steps: &mut Steps,
+    ) -> Size
         requires room { 1 ≤ self.old.room }
         requires there { IfSome before (λ e. Lists e (newest_list self.old)) }
         requires number { elem ≡ length (newest_list self.old) }
@@ -251,6 +266,7 @@ impl VersionTree {
         ensures shown { result.shown ≡ length (visible (entries_before elem (newest_list self.new))) }
         ensures units { result.units ≡ length (units (entries_before elem (newest_list self.new))) }
         ensures few { (result.shown ≤ 131072) × (result.units ≤ 2 * 131072) }
+        ensures cost { steps.new ≤ steps.old + (8 * digits (length (newest_list self.new)) + 16) }
     {
         let root = last_root(self.roots.as_slice());
         let entry = Entry {
@@ -259,7 +275,14 @@ impl VersionTree {
             wide,
             key,
         };
-        let (top, rank) = insert(&mut self.nodes, &mut self.table, root.link, before, entry);
+        let (top, rank) = insert(
+            &mut self.nodes,
+            &mut self.table,
+            root.link,
+            before,
+            entry,
+            steps,
+        );
         self.room -= 1;
         self.roots.push_reserved(PackedRoot::new(Root {
             link: Some(top),
@@ -294,6 +317,7 @@ impl VersionTree {
         ensures units { result.units ≡ length (units (entries_before elem (newest_list self.old))) }
         ensures few { (result.shown ≤ 131072) × (result.units ≤ 2 * 131072) }
         ensures cost { steps.new ≤ steps.old + 2 * digits (length (newest_list self.old)) }
+        ensures counted { IsCounted steps.old steps.new }
     {
         let root = last_root(self.roots.as_slice());
         let hidden = hide(

@@ -1,30 +1,37 @@
 //! The nodes on the way down a tree.
-ghost use Rattle.std.specs.Prelude.{◌≡◌, ◌+◌, ◌<◌, length, IsSome, Some};
+ghost use Rattle.std.specs.Prelude.{◌≡◌, ◌+◌, ◌<◌, ◌≤◌, length, IsSome, Some};
 ghost use Rattle.counted_tree.specs.Arena.{AreSound};
 ghost use Rattle.counted_tree.specs.Change.{tree_in};
 ghost use Rattle.counted_tree.specs.Along.{entry_at};
 ghost use Rattle.counted_tree.specs.Inserted.{AreAlong};
 
-use crate::build::open;
+use crate::build::look;
 use crate::climb::MAX_HEIGHT;
 use crate::nodes::Nodes;
 use crate::side::Side;
+use crate::steps::Steps;
 use arrayvec::ArrayVec;
 
 /// The numbers of the nodes on the way from one down to the entry that the path leads to, of both as well.
-pub fn numbers_along(nodes: &Nodes, top: u32, path: &[Side]) -> ArrayVec<u32, MAX_HEIGHT>
+pub fn numbers_along(
+    nodes: &Nodes,
+    top: u32,
+    path: &[Side],
+    steps: &mut Steps,
+) -> ArrayVec<u32, MAX_HEIGHT>
     requires sound { AreSound nodes.now.nodes }
     requires top { top < length nodes.now.nodes }
     requires there { IsSome (entry_at (tree_in nodes.now (Some top)) path.now) }
     requires short { length path.now < MAX_HEIGHT }
     ensures numbers { AreAlong nodes.now (tree_in nodes.now (Some top)) path.now result.items }
     ensures count { length result.items ≡ length path.now + 1 }
+    ensures cost { steps.new ≤ steps.old + length path.now }
 {
     let mut numbers = ArrayVec::new();
     let mut at = top;
     for side in path {
         numbers.push(at);
-        let Some(below) = open(nodes, at).side(*side) else {
+        let Some(below) = look(nodes, at, steps).side(*side) else {
             unreachable!()
         };
         at = below;

@@ -3,6 +3,7 @@ mod hidings;
 mod made;
 mod plain;
 mod recursive;
+mod steps;
 
 ghost use Rattle.std.specs.Prelude.{◌<◌, ◌≤◌, ◌^◌};
 
@@ -105,9 +106,9 @@ fn put(tree: &mut VersionTree, before: Option<u32>, key: u32, wide: bool) -> boo
         if e as usize >= n {
             return false;
         }
-        tree.insert_after(Some(e), n as u32, key, wide);
+        tree.insert_after(Some(e), n as u32, key, wide, &mut Steps::new());
     } else {
-        tree.insert_after(None, n as u32, key, wide);
+        tree.insert_after(None, n as u32, key, wide, &mut Steps::new());
     }
     true
 }

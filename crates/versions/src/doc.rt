@@ -164,8 +164,8 @@ impl Doc {
     }
 
     /// Adds an operation to the log, and gives its edit: what it does to the text. Takes the steps of `OpLog::push`, at most one for
-    /// each of the 32 sites, and steps logarithmic in the number of elements, however many with a greater stamp an insertion has to
-    /// pass.
+    /// each of the 32 sites. For an insertion it asks the tree `VersionTree::last_greater` at most once, however many elements with a
+    /// greater stamp are passed, and `insert_after` once; for a first deletion `hide_ranked` once.
     ///
     /// Refused, in this order: `Full` with 131,072 operations, `UnknownElement` where the parent or target is no
     /// element, `NotOlder` where the parent's stamp isn't smaller, `Memory` only where nothing is reserved.
@@ -192,6 +192,7 @@ impl Doc {
             &mut self.list,
             self.room,
         )?;
+        let mut steps = Steps::new();
         let edit = integrate(
             &mut self.log,
             &mut self.edits,
@@ -201,6 +202,7 @@ impl Doc {
             &mut self.list,
             op,
             found,
+            &mut steps,
         );
         self.room = self.room.saturating_sub(1);
         Ok(edit)
@@ -235,8 +237,8 @@ impl Doc {
         self.tree.shown(version as usize)
     }
 
-    /// The stamp of the element at the place in the version, if that is so long. A place counts characters. Takes the steps of
-    /// `VersionTree::find`, logarithmic in the number of the version's elements, and no memory.
+    /// The stamp of the element at the place in the version, if that is so long. A place counts characters. Asks the tree
+    /// `VersionTree::find` once, and takes no memory.
     pub fn element_at(&self, version: u32, place: usize) -> Option<Stamp>
         requires { version ≤ length self.now.log }
         ensures { result ≡ option_map (λ x. x.stamp) (slice_get (visible_at self.now.log version) place) }
@@ -258,8 +260,7 @@ impl Doc {
     }
 
     /// The stamp of the element that has the unit at the place in the version, if that is so long, and 1 where the unit is the
-    /// second of a pair, else 0. A place counts UTF-16 units. Takes at most as many steps as `element_at`
-    /// may, and no memory.
+    /// second of a pair, else 0. A place counts UTF-16 units. Asks the tree `VersionTree::find_units` once, and takes no memory.
     pub fn unit_at(&self, version: u32, place: usize) -> Option<(Stamp, u8)>
         requires { version ≤ length self.now.log }
         ensures { result ≡ option_map (λ x. (x.stamp, if is_low_surrogate x.ch then 1 else 0))
@@ -276,8 +277,9 @@ impl Doc {
     /// The text of the version. Refused with `BadVersion` above the newest, and with `Memory`.
     ///
     /// The newest is read along the linked order if it shows at least an eighth of all elements, rounded down: one step for each
-    /// element, so at most eight for each that is shown, and seven more. Otherwise, and at each older version, it is read by the
-    /// tree: at most 37 steps for each element that is shown, and 4 bytes for its number. Either takes memory for the text.
+    /// element, so at most eight for each that is shown, and seven more. Otherwise, and at each older version, the tree is asked
+    /// `VersionTree::push_shown` once: at most 37 steps for each element that is shown, and 4 bytes for its number. Either takes memory
+    /// for the text.
     pub fn reading(&self, version: u32) -> Result<Characters, Refusal>
         ensures ok { IfOk result (λ text. text ≡ reading_at self.now.log version) }
         ensures known { OnOk result (version ≤ length self.now.log) }
@@ -288,7 +290,14 @@ impl Doc {
             return Err(Refusal::BadVersion);
         }
         prove!(self.list.len() <= LIMIT);
-        let text = text_in(self.alloc, &self.tree, &self.list, version as usize)?;
+        let mut steps = Steps::new();
+        let text = text_in(
+            self.alloc,
+            &self.tree,
+            &self.list,
+            version as usize,
+            &mut steps,
+        )?;
         prove!(text.as_str().len() == text.len());
         Ok(Characters::new(text))
     }

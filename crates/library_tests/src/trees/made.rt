@@ -52,7 +52,7 @@ impl Shape {
 }
 
 /// Puts an element in at the place, in both.
-fn put_in_both(
+pub(crate) fn put_in_both(
     tree: &mut VersionTree,
     recursive: &mut Recursive,
     place: u32,
@@ -72,7 +72,7 @@ fn put_in_both(
 }
 
 /// Hides the element at the place, if it is shown, in both.
-fn hide_in_both(
+pub(crate) fn hide_in_both(
     tree: &mut VersionTree,
     recursive: &mut Recursive,
     place: u32,

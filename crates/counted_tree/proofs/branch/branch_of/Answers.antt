@@ -8,16 +8,16 @@ use Rattle.counted_tree.proofs.branch.branch_of.Goals as goal
 pub bounds-table-elem : goal.bounds-table-elem
 bounds-table-elem c =
     let a = c.args.nodes.now in
-    let n = c.open-elem.result in
-    let o = opened a c.in-Some.at n c.requires.sound c.open-elem.ensures.node in
+    let n = c.look-elem.result in
+    let o = opened a c.in-Some.at n c.requires.sound c.look-elem.ensures.node in
     let has = subst (λ l. HasRow c.args.table.now (tree_in a l)) c.in-Some.is c.requires.row in
     row_there c.args.table.now (tree_in a (Some c.in-Some.at)) (tree_in a n.left) (tree_in a n.right) n.entry o.tree has
 
 pub returns-clause-branch : goal.returns-clause-branch
 returns-clause-branch c =
     let a = c.args.nodes.now in
-    let n = c.open-elem.result in
-    let o = opened a c.in-Some.at n c.requires.sound c.open-elem.ensures.node in
+    let n = c.look-elem.result in
+    let o = opened a c.in-Some.at n c.requires.sound c.look-elem.ensures.node in
     let has = subst (λ l. HasRow c.args.table.now (tree_in a l)) c.in-Some.is c.requires.row in
     let row = read_row c.args.table.now (tree_in a (Some c.in-Some.at)) (tree_in a n.left) (tree_in a n.right) n.entry c.get-row.result
     c.index-table-elem.result o.tree has (c.get-row.ensures ∙ c.index-table-elem.is) in

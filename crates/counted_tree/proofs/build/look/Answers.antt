@@ -13,6 +13,6 @@ returns c =
       known = (o.small, c.look.ensures.told);
       size = o.size;
       node = c.look.ensures.node;
-      step =
-          omega (arith, c.look.ensures.step);
+      step = c.look.ensures.step;
+      cost = omega (arith, c.look.ensures.step);
     }

@@ -96,4 +96,4 @@ returns-in-None-2-clause-passed t c = λ none.
     let right = c.stop_in-in-None-2.ensures.passed (stop_none c.args.key n.entry.elem (entries r)
     (sym c.stop_in-in-None-2.ensures.last ∙ none)) in
     let left = c.stop_at-in-Some-Left-default.ensures.passed c.in-None-stop_at.is in
-    omega (arith, right, left, ap height whole, c.look-node.ensures.step)
+    omega (arith, right, left, ap height whole, c.look-node.ensures.cost)

@@ -23,8 +23,8 @@ returns-then-right-row-clause-grown c =
     let d = c.rebuild.new.nodes in
     let n = c.args.node in
     let e = ap (tree_in a) c.branch_of-left.ensures.link in
-    let read : Some c.open-node.result ≡ Some n = sym c.open-node.ensures.node ∙ c.requires.at in
-    let again : c.open-node.result ≡ n = cc in
+    let read : Some c.look-node.result ≡ Some n = sym c.look-node.ensures.node ∙ c.requires.at in
+    let again : c.look-node.result ≡ n = cc in
     let p : IsRebuilt (tree_in a n.left) n.entry (tree_in a c.args.right.link) (tree_in d c.rebuild.result.link) =
     rw (e, again) at c.rebuild.ensures.rebuilt in
     λ made g. grown_right (tree_in a n.left) (tree_in a n.right) _ (tree_in d c.rebuild.result.link) n.entry made
@@ -100,4 +100,5 @@ returns c =
       grown = λ made g. grown_right l r s _ n.entry made (length d.nodes - length a.nodes) c.requires.node.balanced g
           (subst (IsRebuilt l n.entry s) (sym tree) p) (omega (arith, one)) (λ _. one);
       hangs = subst (Hangs old new) (sym tree) (hangs_right_side l s n.entry old new c.requires.ready c.requires.other hung);
+      looks = omega (arith, c.copy_right-number.ensures.count);
     }

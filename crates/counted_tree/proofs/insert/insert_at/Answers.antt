@@ -51,7 +51,8 @@ loop-level-init c =
     record {
       within = omega arith;
       made = made_there a c.insert_behind-made.new.nodes tb c.insert_behind-made.new.table t path ns c.args.entry.now
-          c.insert_behind-made.result (length path) (get_or ns (length path) 0) along number refl c.insert_behind-made.ensures;
+          c.insert_behind-made.result (length path) (get_or ns (length path) 0) along number refl c.insert_behind-made.ensures.inserted;
+      looks = omega (arith, c.insert_behind-made.ensures.looks, c.numbers_along-numbers.ensures.cost);
     }
 
 pub lift-made-requires : goal.lift-made-requires
@@ -95,8 +96,8 @@ lift_settled-requires-clause-risen c =
           c.requires.sound along c.requires.there c.requires.fit c.in-Settled.is c.loop-level.invariant.made,
     )
 
-pub returns-in-Settled : goal.returns-in-Settled
-returns-in-Settled c =
+pub returns-in-Settled-clause-inserted : goal.returns-in-Settled-clause-inserted
+returns-in-Settled-clause-inserted c =
     let a = c.args.nodes.now in
     let tb = c.args.table.now in
     let t = tree_in a c.args.link in
@@ -105,7 +106,7 @@ returns-in-Settled c =
     let along = subst (AreAlong a t path) (sym c.as_slice-numbers.ensures.value)
     (subst (λ o. AreAlong a (tree_in a o) path c.numbers_along-numbers.result.items) (sym c.in-Some.is)
     c.numbers_along-numbers.ensures.numbers) in
-    c.lift_settled.ensures a tb c.loop-level.table t
+    c.lift_settled.ensures.inserted a tb c.loop-level.table t
     (risen a c.loop-level.nodes tb c.loop-level.table t path ns c.args.entry.now c.loop-level.made c.loop-level.level c.in-Settled.part
     c.requires.sound along c.requires.there c.requires.fit c.in-Settled.is c.loop-level.invariant.made)
 
@@ -133,13 +134,20 @@ loop-level-preserved c =
     record {
       within = omega (arith, inv.within);
       made = lifted_there a c.lift-made.new.nodes tb c.lift-made.new.table t path ns c.args.entry.now c.lift-made.result
-          level i k s along number side one (c.lift-made.ensures a tb (drop level path) lifts);
+          level i k s along number side one (c.lift-made.ensures.inserted a tb (drop level path) lifts);
+      looks = omega (arith, one, c.lift-made.ensures.looks, inv.looks);
     }
 
-pub returns : goal.returns
-returns c =
+pub returns-clause-inserted : goal.returns-clause-inserted
+returns-clause-inserted c =
     let a = c.args.nodes.now in
     let path = c.args.path.now in
     let e : c.loop-level.level ≡ 0 = omega (arith, c.loop-level-test.false) in
     subst (λ j. IsInserted a c.loop-level.nodes c.args.table.now c.loop-level.table (under (tree_in a c.args.link) (take j path))
     (drop j path) c.args.entry.now c.loop-level.made) e c.loop-level.invariant.made
+
+pub returns-in-Settled-clause-looks : goal.returns-in-Settled-clause-looks
+returns-in-Settled-clause-looks c = omega (arith, c.lift_settled.ensures.looks, c.loop-level.invariant.looks)
+
+pub returns-clause-looks : goal.returns-clause-looks
+returns-clause-looks c = omega (arith, c.loop-level-test.false, c.loop-level.invariant.looks)

@@ -1,4 +1,4 @@
-use Rattle.std.proofs.Common.{◌≤◌, length, drop, take}
+use Rattle.std.proofs.Common.{◌+◌, ◌*◌, ◌≤◌, length, drop, take}
 use Rattle.counted_tree.specs.Along.{under}
 use Rattle.counted_tree.specs.Change.{tree_in}
 use Rattle.counted_tree.specs.Inserted.{IsInserted}
@@ -9,6 +9,7 @@ invariant-loop-level l = record {
   within : l.level ≤ length l.path;
   made : IsInserted l.fn.nodes l.nodes l.fn.table l.table (under (tree_in l.fn.nodes l.fn.link) (take l.level l.path))
       (drop l.level l.path) l.entry l.made;
+  looks : l.steps + 4 * length l.fn.nodes.nodes ≤ l.fn.steps + l.level + 4 * length l.nodes.nodes;
 }
 
 abbrev pub decreases-loop-level : goal.decreases-loop-level

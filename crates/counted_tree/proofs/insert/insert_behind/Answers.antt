@@ -14,8 +14,8 @@ use Rattle.counted_tree.proofs.insert.insert_behind.Goals as goal
 pub insert_first-right-requires : goal.insert_first-right-requires
 insert_first-right-requires c =
     let a = c.args.nodes.now in
-    let n = c.open-below.result in
-    let o = c.open-below.ensures in
+    let n = c.look-below.result in
+    let o = c.look-below.ensures in
     let tb = c.args.table.now in
     let l = tree_in a n.left in
     let r = tree_in a n.right in
@@ -39,8 +39,8 @@ insert_first-right-requires c =
 pub lift_right-top-requires : goal.lift_right-top-requires
 lift_right-top-requires c =
     let a = c.args.nodes.now in
-    let n = c.open-below.result in
-    let o = c.open-below.ensures in
+    let n = c.look-below.result in
+    let o = c.look-below.ensures in
     let tb = c.args.table.now in
     let l = tree_in a n.left in
     let r = tree_in a n.right in
@@ -55,9 +55,9 @@ lift_right-top-requires c =
     c.requires.fit.kept c.requires.fit.row
     (gains_first c.args.entry.now (entries r)) c.insert_first-right.ensures.lists c.insert_first-right.ensures.grown
     c.insert_first-right.ensures.hangs c.insert_first-right.ensures.told in
-    let again = read_again a c.insert_first-right.new.nodes _ c.args.at c.open-below.result c.open-node.result
+    let again = read_again a c.insert_first-right.new.nodes _ c.args.at c.look-below.result c.look-node.result
     c.insert_first-right.ensures.adds
-    c.open-below.ensures.node c.open-node.ensures.node in
+    c.look-below.ensures.node c.look-node.ensures.node in
     rw again (record {
       sound = search rules;
       at = still_there a b _ c.args.at n c.insert_first-right.ensures.adds o.node;
@@ -75,23 +75,23 @@ lift_right-top-requires c =
 pub through-rank-requires : goal.through-rank-requires
 through-rank-requires c =
     let a = c.args.nodes.now in
-    let n = c.open-below.result in
-    let o = c.open-below.ensures in
+    let n = c.look-below.result in
+    let o = c.look-below.ensures in
     let l = tree_in a n.left in
     let r = tree_in a n.right in
     let whole : tree_in a (Some c.args.at) ≡ Fork l n.entry r = o.tree in
     let few = subst (λ u. length (entries u) < 131072) whole c.requires.fit.few in
     let small = rank_here_small l r n.entry n.left_size c.none.result c.none.ensures few o.size in
-    let again = read_again a c.insert_first-right.new.nodes _ c.args.at c.open-below.result c.open-node.result
+    let again = read_again a c.insert_first-right.new.nodes _ c.args.at c.look-below.result c.look-node.result
     c.insert_first-right.ensures.adds
-    c.open-below.ensures.node c.open-node.ensures.node in
+    c.look-below.ensures.node c.look-node.ensures.node in
     rw again (record { shown = small.0; units = small.1 })
 
-pub returns : goal.returns
-returns c =
+pub returns-clause-inserted : goal.returns-clause-inserted
+returns-clause-inserted c =
     let a = c.args.nodes.now in
-    let n = c.open-below.result in
-    let o = c.open-below.ensures in
+    let n = c.look-below.result in
+    let o = c.look-below.ensures in
     let tb = c.args.table.now in
     let l = tree_in a n.left in
     let r = tree_in a n.right in
@@ -99,9 +99,9 @@ returns c =
     let own = own_along (length tb) (tree_in a (Some c.args.at)) l r n.entry c.args.entry.now [] [] whole refl c.requires.fit.own in
     let node = sound_node a n o.left o.right o.size o.known.0 o.balanced in
     let b = c.insert_first-right.new.nodes in
-    let again = read_again a c.insert_first-right.new.nodes _ c.args.at c.open-below.result c.open-node.result
+    let again = read_again a c.insert_first-right.new.nodes _ c.args.at c.look-below.result c.look-node.result
     c.insert_first-right.ensures.adds
-    c.open-below.ensures.node c.open-node.ensures.node in
+    c.look-below.ensures.node c.look-node.ensures.node in
     let up = up_right a b _ tb c.insert_first-right.new.table (tree_in a (Some c.args.at))
     (tree_in b (grown_link c.insert_first-right.result)) n
     c.args.entry.now c.insert_first-right.result

@@ -13,9 +13,9 @@ lift_left-top-requires-clause-node c =
     let b = c.args.nodes.now in
     let mid = c.args.table.now in
     let x = c.args.entry.now in
-    let n = c.open-node.result in
+    let n = c.look-node.result in
     let h = subst (λ s. IsLift w.0 b w.1 mid c.args.at s w.2 x c.args.below) c.in-Left.is w.3 in
-    (lift_up_left w.0 b w.1 mid c.args.at w.2 x c.args.below n h c.open-node.ensures.node).node
+    (lift_up_left w.0 b w.1 mid c.args.at w.2 x c.args.below n h c.look-node.ensures.node).node
 
 pub lift_left-top-requires-clause-left : goal.lift_left-top-requires-clause-left
 lift_left-top-requires-clause-left c =
@@ -23,9 +23,9 @@ lift_left-top-requires-clause-left c =
     let b = c.args.nodes.now in
     let mid = c.args.table.now in
     let x = c.args.entry.now in
-    let n = c.open-node.result in
+    let n = c.look-node.result in
     let h = subst (λ s. IsLift w.0 b w.1 mid c.args.at s w.2 x c.args.below) c.in-Left.is w.3 in
-    (lift_up_left w.0 b w.1 mid c.args.at w.2 x c.args.below n h c.open-node.ensures.node).told
+    (lift_up_left w.0 b w.1 mid c.args.at w.2 x c.args.below n h c.look-node.ensures.node).told
 
 pub lift_left-top-requires-clause-gains : goal.lift_left-top-requires-clause-gains
 lift_left-top-requires-clause-gains c =
@@ -33,9 +33,9 @@ lift_left-top-requires-clause-gains c =
     let b = c.args.nodes.now in
     let mid = c.args.table.now in
     let x = c.args.entry.now in
-    let n = c.open-node.result in
+    let n = c.look-node.result in
     let h = subst (λ s. IsLift w.0 b w.1 mid c.args.at s w.2 x c.args.below) c.in-Left.is w.3 in
-    (lift_up_left w.0 b w.1 mid c.args.at w.2 x c.args.below n h c.open-node.ensures.node).gains
+    (lift_up_left w.0 b w.1 mid c.args.at w.2 x c.args.below n h c.look-node.ensures.node).gains
 
 pub lift_left-top-requires-clause-rises : goal.lift_left-top-requires-clause-rises
 lift_left-top-requires-clause-rises c =
@@ -43,9 +43,9 @@ lift_left-top-requires-clause-rises c =
     let b = c.args.nodes.now in
     let mid = c.args.table.now in
     let x = c.args.entry.now in
-    let n = c.open-node.result in
+    let n = c.look-node.result in
     let h = subst (λ s. IsLift w.0 b w.1 mid c.args.at s w.2 x c.args.below) c.in-Left.is w.3 in
-    (lift_up_left w.0 b w.1 mid c.args.at w.2 x c.args.below n h c.open-node.ensures.node).rises
+    (lift_up_left w.0 b w.1 mid c.args.at w.2 x c.args.below n h c.look-node.ensures.node).rises
 
 pub lift_left-top-requires-clause-few : goal.lift_left-top-requires-clause-few
 lift_left-top-requires-clause-few c =
@@ -53,9 +53,9 @@ lift_left-top-requires-clause-few c =
     let b = c.args.nodes.now in
     let mid = c.args.table.now in
     let x = c.args.entry.now in
-    let n = c.open-node.result in
+    let n = c.look-node.result in
     let h = subst (λ s. IsLift w.0 b w.1 mid c.args.at s w.2 x c.args.below) c.in-Left.is w.3 in
-    (lift_up_left w.0 b w.1 mid c.args.at w.2 x c.args.below n h c.open-node.ensures.node).few
+    (lift_up_left w.0 b w.1 mid c.args.at w.2 x c.args.below n h c.look-node.ensures.node).few
 
 pub lift_left-top-requires-clause-row : goal.lift_left-top-requires-clause-row
 lift_left-top-requires-clause-row c =
@@ -63,9 +63,9 @@ lift_left-top-requires-clause-row c =
     let b = c.args.nodes.now in
     let mid = c.args.table.now in
     let x = c.args.entry.now in
-    let n = c.open-node.result in
+    let n = c.look-node.result in
     let h = subst (λ s. IsLift w.0 b w.1 mid c.args.at s w.2 x c.args.below) c.in-Left.is w.3 in
-    (lift_up_left w.0 b w.1 mid c.args.at w.2 x c.args.below n h c.open-node.ensures.node).row
+    (lift_up_left w.0 b w.1 mid c.args.at w.2 x c.args.below n h c.look-node.ensures.node).row
 
 pub lift_left-top-requires-clause-other : goal.lift_left-top-requires-clause-other
 lift_left-top-requires-clause-other c =
@@ -73,9 +73,9 @@ lift_left-top-requires-clause-other c =
     let b = c.args.nodes.now in
     let mid = c.args.table.now in
     let x = c.args.entry.now in
-    let n = c.open-node.result in
+    let n = c.look-node.result in
     let h = subst (λ s. IsLift w.0 b w.1 mid c.args.at s w.2 x c.args.below) c.in-Left.is w.3 in
-    (lift_up_left w.0 b w.1 mid c.args.at w.2 x c.args.below n h c.open-node.ensures.node).other
+    (lift_up_left w.0 b w.1 mid c.args.at w.2 x c.args.below n h c.look-node.ensures.node).other
 
 pub lift_left-top-requires-clause-ready : goal.lift_left-top-requires-clause-ready
 lift_left-top-requires-clause-ready c =
@@ -83,9 +83,9 @@ lift_left-top-requires-clause-ready c =
     let b = c.args.nodes.now in
     let mid = c.args.table.now in
     let x = c.args.entry.now in
-    let n = c.open-node.result in
+    let n = c.look-node.result in
     let h = subst (λ s. IsLift w.0 b w.1 mid c.args.at s w.2 x c.args.below) c.in-Left.is w.3 in
-    (lift_up_left w.0 b w.1 mid c.args.at w.2 x c.args.below n h c.open-node.ensures.node).ready
+    (lift_up_left w.0 b w.1 mid c.args.at w.2 x c.args.below n h c.look-node.ensures.node).ready
 
 pub lift_right-top-requires-clause-node : goal.lift_right-top-requires-clause-node
 lift_right-top-requires-clause-node c =
@@ -93,9 +93,9 @@ lift_right-top-requires-clause-node c =
     let b = c.args.nodes.now in
     let mid = c.args.table.now in
     let x = c.args.entry.now in
-    let n = c.open-node.result in
+    let n = c.look-node.result in
     let h = subst (λ s. IsLift w.0 b w.1 mid c.args.at s w.2 x c.args.below) c.in-Right.is w.3 in
-    (lift_up_right w.0 b w.1 mid c.args.at w.2 x c.args.below n h c.open-node.ensures.node).node
+    (lift_up_right w.0 b w.1 mid c.args.at w.2 x c.args.below n h c.look-node.ensures.node).node
 
 pub lift_right-top-requires-clause-right : goal.lift_right-top-requires-clause-right
 lift_right-top-requires-clause-right c =
@@ -103,9 +103,9 @@ lift_right-top-requires-clause-right c =
     let b = c.args.nodes.now in
     let mid = c.args.table.now in
     let x = c.args.entry.now in
-    let n = c.open-node.result in
+    let n = c.look-node.result in
     let h = subst (λ s. IsLift w.0 b w.1 mid c.args.at s w.2 x c.args.below) c.in-Right.is w.3 in
-    (lift_up_right w.0 b w.1 mid c.args.at w.2 x c.args.below n h c.open-node.ensures.node).told
+    (lift_up_right w.0 b w.1 mid c.args.at w.2 x c.args.below n h c.look-node.ensures.node).told
 
 pub lift_right-top-requires-clause-gains : goal.lift_right-top-requires-clause-gains
 lift_right-top-requires-clause-gains c =
@@ -113,9 +113,9 @@ lift_right-top-requires-clause-gains c =
     let b = c.args.nodes.now in
     let mid = c.args.table.now in
     let x = c.args.entry.now in
-    let n = c.open-node.result in
+    let n = c.look-node.result in
     let h = subst (λ s. IsLift w.0 b w.1 mid c.args.at s w.2 x c.args.below) c.in-Right.is w.3 in
-    (lift_up_right w.0 b w.1 mid c.args.at w.2 x c.args.below n h c.open-node.ensures.node).gains
+    (lift_up_right w.0 b w.1 mid c.args.at w.2 x c.args.below n h c.look-node.ensures.node).gains
 
 pub lift_right-top-requires-clause-rises : goal.lift_right-top-requires-clause-rises
 lift_right-top-requires-clause-rises c =
@@ -123,9 +123,9 @@ lift_right-top-requires-clause-rises c =
     let b = c.args.nodes.now in
     let mid = c.args.table.now in
     let x = c.args.entry.now in
-    let n = c.open-node.result in
+    let n = c.look-node.result in
     let h = subst (λ s. IsLift w.0 b w.1 mid c.args.at s w.2 x c.args.below) c.in-Right.is w.3 in
-    (lift_up_right w.0 b w.1 mid c.args.at w.2 x c.args.below n h c.open-node.ensures.node).rises
+    (lift_up_right w.0 b w.1 mid c.args.at w.2 x c.args.below n h c.look-node.ensures.node).rises
 
 pub lift_right-top-requires-clause-few : goal.lift_right-top-requires-clause-few
 lift_right-top-requires-clause-few c =
@@ -133,9 +133,9 @@ lift_right-top-requires-clause-few c =
     let b = c.args.nodes.now in
     let mid = c.args.table.now in
     let x = c.args.entry.now in
-    let n = c.open-node.result in
+    let n = c.look-node.result in
     let h = subst (λ s. IsLift w.0 b w.1 mid c.args.at s w.2 x c.args.below) c.in-Right.is w.3 in
-    (lift_up_right w.0 b w.1 mid c.args.at w.2 x c.args.below n h c.open-node.ensures.node).few
+    (lift_up_right w.0 b w.1 mid c.args.at w.2 x c.args.below n h c.look-node.ensures.node).few
 
 pub lift_right-top-requires-clause-row : goal.lift_right-top-requires-clause-row
 lift_right-top-requires-clause-row c =
@@ -143,9 +143,9 @@ lift_right-top-requires-clause-row c =
     let b = c.args.nodes.now in
     let mid = c.args.table.now in
     let x = c.args.entry.now in
-    let n = c.open-node.result in
+    let n = c.look-node.result in
     let h = subst (λ s. IsLift w.0 b w.1 mid c.args.at s w.2 x c.args.below) c.in-Right.is w.3 in
-    (lift_up_right w.0 b w.1 mid c.args.at w.2 x c.args.below n h c.open-node.ensures.node).row
+    (lift_up_right w.0 b w.1 mid c.args.at w.2 x c.args.below n h c.look-node.ensures.node).row
 
 pub lift_right-top-requires-clause-other : goal.lift_right-top-requires-clause-other
 lift_right-top-requires-clause-other c =
@@ -153,9 +153,9 @@ lift_right-top-requires-clause-other c =
     let b = c.args.nodes.now in
     let mid = c.args.table.now in
     let x = c.args.entry.now in
-    let n = c.open-node.result in
+    let n = c.look-node.result in
     let h = subst (λ s. IsLift w.0 b w.1 mid c.args.at s w.2 x c.args.below) c.in-Right.is w.3 in
-    (lift_up_right w.0 b w.1 mid c.args.at w.2 x c.args.below n h c.open-node.ensures.node).other
+    (lift_up_right w.0 b w.1 mid c.args.at w.2 x c.args.below n h c.look-node.ensures.node).other
 
 pub lift_right-top-requires-clause-ready : goal.lift_right-top-requires-clause-ready
 lift_right-top-requires-clause-ready c =
@@ -163,9 +163,9 @@ lift_right-top-requires-clause-ready c =
     let b = c.args.nodes.now in
     let mid = c.args.table.now in
     let x = c.args.entry.now in
-    let n = c.open-node.result in
+    let n = c.look-node.result in
     let h = subst (λ s. IsLift w.0 b w.1 mid c.args.at s w.2 x c.args.below) c.in-Right.is w.3 in
-    (lift_up_right w.0 b w.1 mid c.args.at w.2 x c.args.below n h c.open-node.ensures.node).ready
+    (lift_up_right w.0 b w.1 mid c.args.at w.2 x c.args.below n h c.look-node.ensures.node).ready
 
 pub through-rank-requires : goal.through-rank-requires
 through-rank-requires c =
@@ -173,17 +173,17 @@ through-rank-requires c =
     let b = c.args.nodes.now in
     let mid = c.args.table.now in
     let x = c.args.entry.now in
-    let n = c.open-node.result in
+    let n = c.look-node.result in
     let h = subst (λ s. IsLift w.0 b w.1 mid c.args.at s w.2 x c.args.below) c.in-Right.is w.3 in
-    let r = lift_node w.0 b w.1 mid c.args.at Right w.2 x c.args.below n h c.open-node.ensures.node in
-    let made = below_right w.0 b w.1 mid c.args.at w.2 x c.args.below n h c.open-node.ensures.node in
-    let own = own_right w.0 b w.1 mid c.args.at w.2 x c.args.below n h c.open-node.ensures.node in
+    let r = lift_node w.0 b w.1 mid c.args.at Right w.2 x c.args.below n h c.look-node.ensures.node in
+    let made = below_right w.0 b w.1 mid c.args.at w.2 x c.args.below n h c.look-node.ensures.node in
+    let own = own_right w.0 b w.1 mid c.args.at w.2 x c.args.below n h c.look-node.ensures.node in
     let small = rank_small (length w.1) (tree_in w.0 n.left) (tree_in w.0 n.right) n.entry x w.2 n.left_size c.args.below.rank own
     (subst (λ u. length (entries u) < 131072) r.tree h.fit.few) r.sound.left_size made.rank in
     record { shown = small.0; units = small.1 }
 
-pub returns-in-Left : goal.returns-in-Left
-returns-in-Left c = λ a tb path given.
+pub returns-in-Left-clause-inserted : goal.returns-in-Left-clause-inserted
+returns-in-Left-clause-inserted c = λ a tb path given.
     let b = c.args.nodes.now in
     let mid = c.args.table.now in
     let x = c.args.entry.now in
@@ -191,11 +191,11 @@ returns-in-Left c = λ a tb path given.
     let p = c.lift_left-top.ensures in
     subst (λ s. IsInserted a c.lift_left-top.new.nodes tb c.lift_left-top.new.table (tree_in a (Some c.args.at)) (s ∷ path) x
     (record { top = c.lift_left-top.result; rank = c.args.below.rank })) (sym c.in-Left.is)
-    (lifted_left a b tb mid c.args.at path x c.args.below c.open-node.result h c.open-node.ensures.node c.lift_left-top.new.nodes
+    (lifted_left a b tb mid c.args.at path x c.args.below c.look-node.result h c.look-node.ensures.node c.lift_left-top.new.nodes
     c.lift_left-top.new.table c.lift_left-top.result p.adds p.told p.lists p.grown p.hangs)
 
-pub returns-in-Right : goal.returns-in-Right
-returns-in-Right c = λ a tb path given.
+pub returns-in-Right-clause-inserted : goal.returns-in-Right-clause-inserted
+returns-in-Right-clause-inserted c = λ a tb path given.
     let b = c.args.nodes.now in
     let mid = c.args.table.now in
     let x = c.args.entry.now in
@@ -203,5 +203,5 @@ returns-in-Right c = λ a tb path given.
     let p = c.lift_right-top.ensures in
     subst (λ s. IsInserted a c.lift_right-top.new.nodes tb c.lift_right-top.new.table (tree_in a (Some c.args.at)) (s ∷ path) x
     (record { top = c.lift_right-top.result; rank = c.through-rank.result })) (sym c.in-Right.is)
-    (lifted_right a b tb mid c.args.at path x c.args.below c.open-node.result h c.open-node.ensures.node c.lift_right-top.new.nodes
+    (lifted_right a b tb mid c.args.at path x c.args.below c.look-node.result h c.look-node.ensures.node c.lift_right-top.new.nodes
     c.lift_right-top.new.table c.lift_right-top.result c.through-rank.result c.through-rank.ensures p.adds p.told p.lists p.grown p.hangs)

@@ -63,12 +63,13 @@ loop-level-preserved c =
             fit = r.fit;
             part_made = lifted_there a c.step_settled-made.new.nodes tb mid t path ns c.args.entry.now
                 made level i k s r.along number
-                side one (c.step_settled-made.ensures a tb mid (drop level path) c.args.entry.now c.of-more.ensures lifts);
+                side one (c.step_settled-made.ensures.inserted a tb mid (drop level path) c.args.entry.now c.of-more.ensures lifts);
           };
+      looks = omega (arith, one, c.step_settled-made.ensures.looks, inv.looks);
     }
 
-pub returns : goal.returns
-returns c =
+pub returns-clause-inserted : goal.returns-clause-inserted
+returns-clause-inserted c =
     let part : Inserted = record {
       top = Settled c.loop-level.top;
       rank = record { shown = c.loop-level.shown; units = c.loop-level.units };
@@ -78,3 +79,6 @@ returns c =
     λ a tb mid t given.
     subst (λ j. IsInserted a c.loop-level.nodes tb mid (under t (take j path)) (drop j path) c.args.entry.now
     part) e (c.loop-level.invariant.risen a tb mid t given).part_made
+
+pub returns-clause-looks : goal.returns-clause-looks
+returns-clause-looks c = omega (arith, c.loop-level-test.false, c.loop-level.invariant.looks)

@@ -1,4 +1,4 @@
-use Rattle.std.proofs.Common.{◌≤◌, length, List}
+use Rattle.std.proofs.Common.{◌+◌, ◌*◌, ◌≤◌, length, List}
 use Rattle.counted_tree.specs.declared.grown.Grown.TheVariants.{Settled}
 use Rattle.counted_tree.specs.declared.row.Row.{Row}
 use Rattle.counted_tree.specs.Tree.{Tree}
@@ -15,6 +15,7 @@ invariant-loop-level l = record {
         top = Settled l.top;
         rank = record { shown = l.shown; units = l.units };
       });
+  looks : l.steps + l.fn.levels + 4 * length l.fn.nodes.nodes ≤ l.fn.steps + l.level + 4 * length l.nodes.nodes;
 }
 
 abbrev pub decreases-loop-level : goal.decreases-loop-level

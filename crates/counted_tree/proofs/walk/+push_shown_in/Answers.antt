@@ -28,4 +28,4 @@ returns-clause-few t c =
     let upper : r ≤ max l r = grind (arith, nat_tests) in
     let few = few_below c.args.shown sl sr l r (max l r) some both lower upper in
     subst (λ (h : ℕ). c.push_shown_in-2.new.steps ≤ c.args.steps.now + c.args.shown * h) (sym high)
-    (omega (arith, few, c.look-node.ensures.step, c.push_shown_in.ensures.few, c.push_shown_in-2.ensures.few))
+    (omega (arith, few, c.look-node.ensures.cost, c.push_shown_in.ensures.few, c.push_shown_in-2.ensures.few))

@@ -16,7 +16,7 @@ unreachable-requires c =
     let i = c.loop-side.side-index in
     let s = get_or path i Left in
     let at = slice_get-get_or path i Left (omega (arith, c.loop-side-test.true)) in
-    let tree = side_tree a c.open.result s c.side.result (tree_in a (Some c.loop-side.at)) c.open.ensures.tree c.side.ensures.left
+    let tree = side_tree a c.look.result s c.side.result (tree_in a (Some c.loop-side.at)) c.look.ensures.tree c.side.ensures.left
     c.side.ensures.right in
     let down = under_step t path i s at ∙ ap (λ u. turned u s) (sym c.loop-side.invariant.here) ∙ sym tree in
     let none : entry_at t path ≡ None = entry_under t path (i + 1)
@@ -33,17 +33,18 @@ loop-side-preserved c =
     let s = get_or path i Left in
     let inv = c.loop-side.invariant in
     let at = slice_get-get_or path i Left (omega (arith, c.loop-side-test.true)) in
-    let o = c.open.ensures in
-    let tree = side_tree a c.open.result s c.side.result (tree_in a (Some c.loop-side.at)) o.tree c.side.ensures.left
+    let o = c.look.ensures in
+    let tree = side_tree a c.look.result s c.side.result (tree_in a (Some c.loop-side.at)) o.tree c.side.ensures.left
     c.side.ensures.right in
     let down = under_step t path i s at ∙ ap (λ u. turned u s) (sym inv.here) ∙ sym tree in
     record {
-      below = subst (IsLinkBelow (length a.nodes)) c.in-Some.is (side_below (length a.nodes) c.open.result s c.side.result o.left o.right
+      below = subst (IsLinkBelow (length a.nodes)) c.in-Some.is (side_below (length a.nodes) c.look.result s c.side.result o.left o.right
           c.side.ensures.left c.side.ensures.right);
       here = sym (down ∙ ap (tree_in a) c.in-Some.is);
       numbers = along_pushed a t path c.loop-side.numbers.items c.push.new.self.items c.loop-side.at inv.numbers inv.below
           (inv.here ∙ ap (λ j. under t (take j path)) (sym inv.count)) c.push.ensures.items;
       count = omega (arith, c.push.ensures.len, inv.count);
+      cost = omega (arith, o.cost, inv.cost);
     }
 
 pub returns-clause-numbers : goal.returns-clause-numbers

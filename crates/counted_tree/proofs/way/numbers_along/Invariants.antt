@@ -1,4 +1,4 @@
-use Rattle.std.proofs.Common.{◌≡◌, ◌<◌, length, take, Some}
+use Rattle.std.proofs.Common.{◌≡◌, ◌+◌, ◌<◌, ◌≤◌, length, take, Some}
 use Rattle.counted_tree.specs.Change.{tree_in}
 use Rattle.counted_tree.specs.Along.{under}
 use Rattle.counted_tree.specs.Inserted.{AreAlong}
@@ -10,4 +10,5 @@ invariant-loop-side l = record {
   here : tree_in l.nodes (Some l.at) ≡ under (tree_in l.nodes (Some l.top)) (take l.side-index l.path);
   numbers : AreAlong l.nodes (tree_in l.nodes (Some l.top)) l.path l.numbers.items;
   count : length l.numbers.items ≡ l.side-index;
+  cost : l.steps ≤ l.fn.steps + l.side-index;
 }

@@ -5,13 +5,13 @@ use Rattle.rga_list.specs.Entries.{Entry}
 use Rattle.versions.proofs.Walks.{none-behind, not-passed}
 use Rattle.versions.proofs.integrate.walk.Goals as goal
 
-pub returns-in_default : goal.returns-in_default
-returns-in_default c =
+pub returns-in_default-clause-stands : goal.returns-in_default-clause-stands
+returns-in_default-clause-stands c =
     none-behind c.args.from c.args.key c.args.list.now.entries _ c.requires.there (sym c.next.ensures.value ∙ c.in_default.is)
     c.requires.same
 
-pub returns-then-not-is_before : goal.returns-then-not-is_before
-returns-then-not-is_before c =
+pub returns-then-not-is_before-clause-stands : goal.returns-then-not-is_before-clause-stands
+returns-then-not-is_before-clause-stands c =
     let other : Entry = record {
       elem = c.in-Some.next;
       stamp = c.get-other.result.0;

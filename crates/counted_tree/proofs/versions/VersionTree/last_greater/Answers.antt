@@ -34,3 +34,12 @@ returns-clause-cost c =
     let newest : newest_list c.args.self.now ≡ list_of ns c.last_root-root.result.link =
     ap (λ (v : Versions). newest_list v) (sym c.self.view_is) ∙ last_list ns roots ∙ ap (rooted ns) (sym root_is) in
     omega (arith, c.last_greater_in.ensures.cost, ap (λ xs. digits (length xs)) newest)
+
+pub returns-clause-counted : goal.returns-clause-counted
+returns-clause-counted c =
+    let ns = c.self.inside.nodes.nodes in
+    let roots = c.self.inside.roots.items in
+    let root_is : c.last_root-root.result ≡ newest_root roots = c.last_root-root.ensures ∙ ap newest_root c.as_slice.ensures.value in
+    let newest : newest_list c.args.self.now ≡ list_of ns c.last_root-root.result.link =
+    ap (λ (v : Versions). newest_list v) (sym c.self.view_is) ∙ last_list ns roots ∙ ap (rooted ns) (sym root_is) in
+    λ some. c.last_greater_in.ensures.counted (omega (arith, some, ap length newest))
