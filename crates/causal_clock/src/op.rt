@@ -67,10 +67,11 @@ impl Op {
         clock.raise(site);
         prove!(site.number() < 32);
         prove!(clock.entry(site) > 0);
-        Op { clock, kind, site }
+        Op::told(site, clock, kind)
     }
 
     /// The operation of a site with this clock, which counts it.
+    #[inline(always)]
     pub(crate) fn told(site: Site, clock: Clock, kind: OpKind) -> Op
         requires { IsOperation (record { site = site; clock = clock; kind = kind }) }
         ensures { result ≡ record { site = site; clock = clock; kind = kind } }

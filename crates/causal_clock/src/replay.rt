@@ -1,13 +1,13 @@
 //! The operations of a log in order, from a place on.
 ghost use Rattle.std.specs.Prelude.{◌≡◌, ◌+◌, ◌<◌, ◌≤◌, ◌++◌, ◌∷◌, [], ℕ, List, Some, None, length, drop, get_or, slice_get, slice_set};
-ghost use Rattle.opid.specs.Operations.{Operation};
 ghost use Rattle.opid.specs.Delivery.{count_of};
 ghost use Rattle.causal_clock.specs.Packed.{AreRows, changes_of, fill, logged, operation_at, row_at};
 ghost use Rattle.causal_clock.specs.Replayed.{AreSeen};
 
 use crate::changed::Changed;
+use crate::clock::Clock;
 use crate::op::Op;
-use crate::op_log::{counts_before, filled, told_by};
+use crate::op_log::{counts_before, filled};
 use crate::reads::Reads;
 use crate::row::{Row, read};
 use opid::SITES;
@@ -161,7 +161,7 @@ fn op_after<L: Ledger>(
     let before = counts_after(seen[site], rows, entries, marks, &row, steps);
     let counts = filled(before, changes);
     seen[site] = Some(counts);
-    told_by(&row, counts)
+    Op::told(row.site, Clock::of_counts(counts), row.kind.kind())
 }
 
 /// The counts into which a row's entries are put, where those of its site's last operation may be kept.
