@@ -7,7 +7,9 @@ use Rattle.std.specs.Option.{option_map_or}
 use Rattle.std.specs.Char.Utf16.{is_low_surrogate}
 use Rattle.std.proofs.lemmas.Bool.{cond-true, cond-false, or_parts}
 use Rattle.std.proofs.lemmas.Bool.Decides.{nat_tests}
-use Rattle.std.proofs.lemmas.List.{append-nil, drop_all, length-drop, length-map, length-take-le}
+use Rattle.std.proofs.lemmas.List.{append-nil, drop_all, length-drop, length-map, length-take-le, length_push}
+use Rattle.std.proofs.lemmas.Option.{slice_get_read}
+use Rattle.std.proofs.Math.Seq.{get_or-append_seam}
 use Rattle.opid.specs.declared.stamp.Stamp.{Stamp}
 use Rattle.opid.specs.declared.kind.OpKind.TheVariants.{Ins, Del}
 use Rattle.opid.specs.Clocks.{raised}
@@ -24,21 +26,40 @@ use Rattle.position_translate.specs.Causes.{is_bad_place, element_count}
 use Rattle.position_translate.proofs.Insides.{is_second}
 use Rattle.opid.proofs.Gathered.{rest_at, take_none, between_at}
 
+-- the clock of the last of these, or where there is none the one before them
+abbrev pub known : List ℕ → List Operation → List ℕ
+known before ops = option_map_or (λ op. op.clock) (slice_get ops (length ops - 1)) before
+
+pub known_pushed : (before : List ℕ) (made : List Operation) (op : Operation) → known before (made ++ op ∷ []) ≡ op.clock
+known_pushed before made op =
+    let all : List Operation = made ++ op ∷ [] in
+    let last : length all - 1 ≡ length made = omega (arith, length_push made op) in
+    ap (λ (o : Option Operation). option_map_or (λ x. x.clock) o before)
+    (slice_get_read all (length all) (length all - 1) op refl (omega (arith, length_push made op))
+    (sym (ap (λ (i : ℕ). get_or all i op) last ∙ get_or-append_seam made op [] op)))
+
 -- ---- insertions: what was made so far, and the run of the rest
 
-pub insertion_more : (site : ℕ) (made : List Operation) (clock clock' : List ℕ) (parent parent' : Option Stamp) (cs : List ℕ) (n c : ℕ)
+pub insertion_more : (site : ℕ) (made : List Operation) (before clock : List ℕ) (parent parent' : Option Stamp) (cs : List ℕ) (n c : ℕ)
     (op : Operation) (whole : List Operation)
-    → n < length cs → c ≡ get_or cs n c → op ≡ record { site = site; clock = raised clock site; kind = Ins parent c } → clock' ≡ op.clock
-    → parent' ≡ Some (stamp_of op)
-    → made ++ insertion_run site clock parent (drop n cs) ≡ whole
-    → (made ++ op ∷ []) ++ insertion_run site clock' parent' (drop (n + 1) cs) ≡ whole
-insertion_more site made clock clock' parent parent' cs n c op whole h at is counts names so_far =
+    → n < length cs → c ≡ get_or cs n c → clock ≡ known before made
+    → op ≡ record { site = site; clock = raised clock site; kind = Ins parent c } → parent' ≡ Some (stamp_of op)
+    → made ++ insertion_run site (known before made) parent (drop n cs) ≡ whole
+    → (made ++ op ∷ []) ++ insertion_run site (known before (made ++ op ∷ [])) parent' (drop (n + 1) cs) ≡ whole
+insertion_more site made before clock parent parent' cs n c op whole h at knows is names so_far =
     append_assoc made (op ∷ []) (insertion_run site clock' parent' (drop (n + 1) cs))
     ∙ ap (λ (xs : List Operation). made ++ xs) (sym one)
+    ∙ ap (λ (k : List ℕ). made ++ insertion_run site k parent (drop n cs)) knows
     ∙ so_far
   where
     next : Operation
     next = record { site = site; clock = raised clock site; kind = Ins parent c }
+
+    clock' : List ℕ
+    clock' = known before (made ++ op ∷ [])
+
+    counts : clock' ≡ op.clock
+    counts = known_pushed before made op
 
     behind : insertion_run site clock' parent' (drop (n + 1) cs)
         ≡ insertion_run site (raised clock site) (Some (stamp_of next)) (drop (n + 1) cs)
@@ -103,17 +124,24 @@ stamps_at u xs p end t h e s =
     let x : (x : Insertion) × (slice_get xs p ≡ Some x) × (x.stamp ≡ t) = stamp_there xs p t e in
     ap (map (λ (y : Insertion). y.stamp)) (once_more u xs p end x.0 h x.1 s) ∙ ap (λ r. r ∷ stamps u xs (p + 1) end) x.2
 
-pub deletion_more : (site : ℕ) (made : List Operation) (clock clock' : List ℕ) (u : Bool) (xs : List Insertion) (p end : ℕ) (t : Stamp)
+pub deletion_more : (site : ℕ) (made : List Operation) (before clock : List ℕ) (u : Bool) (xs : List Insertion) (p end : ℕ) (t : Stamp)
     (op : Operation) (whole : List Operation)
     → p < end → Some t ≡ option_map (λ x. x.stamp) (slice_get xs p) → is_second u xs p ≡ false
-    → op ≡ record { site = site; clock = raised clock site; kind = Del t } → clock' ≡ op.clock
-    → made ++ deletion_run site clock (stamps u xs p end) ≡ whole
-    → (made ++ op ∷ []) ++ deletion_run site clock' (stamps u xs (p + 1) end) ≡ whole
-deletion_more site made clock clock' u xs p end t op whole h at first is counts so_far =
+    → clock ≡ known before made → op ≡ record { site = site; clock = raised clock site; kind = Del t }
+    → made ++ deletion_run site (known before made) (stamps u xs p end) ≡ whole
+    → (made ++ op ∷ []) ++ deletion_run site (known before (made ++ op ∷ [])) (stamps u xs (p + 1) end) ≡ whole
+deletion_more site made before clock u xs p end t op whole h at first knows is so_far =
     append_assoc made (op ∷ []) (deletion_run site clock' (stamps u xs (p + 1) end))
     ∙ ap (λ (os : List Operation). made ++ os) (sym one)
+    ∙ ap (λ (k : List ℕ). made ++ deletion_run site k (stamps u xs p end)) knows
     ∙ so_far
   where
+    clock' : List ℕ
+    clock' = known before (made ++ op ∷ [])
+
+    counts : clock' ≡ op.clock
+    counts = known_pushed before made op
+
     behind : deletion_run site clock' (stamps u xs (p + 1) end) ≡ deletion_run site (raised clock site) (stamps u xs (p + 1) end)
     behind = ap (λ (w : List ℕ). deletion_run site w (stamps u xs (p + 1) end)) (counts ∙ ap (λ (x : Operation). x.clock) is)
 

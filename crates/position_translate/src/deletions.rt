@@ -7,6 +7,7 @@ ghost use Rattle.opid.specs.Lawful.{IsLawful};
 ghost use Rattle.opid.specs.Asked.{deletion_run, each_once, asked_deletions, asked_deletions_in};
 ghost use Rattle.position_translate.specs.Causes.{deletion_refusal, deletion_refusal_in, element_count};
 
+use crate::known::known_behind;
 use crate::places::{is_inside, len_at, stamp_at};
 use causal_clock::{Clock, Op};
 use opid::{OpKind, Refusal, Site, is_bad_count};
@@ -142,14 +143,13 @@ fn run(
         (map (λ x. x.stamp) (each_once units (take (end - first) (drop first (visible_in_at units doc.now.log version)))))) }
 {
     let mut ops = Vec::with_capacity(alloc, end - first)?;
-    let mut clock = clock;
     for place in first..end {
         if !is_inside(doc, units, version, place) {
             let Some(target) = stamp_at(doc, units, version, place) else {
                 unreachable!();
             };
-            let op = Op::next(site, &clock, OpKind::Del { target });
-            clock.raise(site);
+            let known = known_behind(&clock, ops.as_slice());
+            let op = Op::next(site, known, OpKind::Del { target });
             ops.push(op)?;
         }
     }

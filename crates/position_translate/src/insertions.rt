@@ -7,6 +7,7 @@ ghost use Rattle.opid.specs.Lawful.{IsLawful};
 ghost use Rattle.opid.specs.Asked.{parent_in_at, insertion_run, asked_insertions, asked_insertions_in, IsPlaced, IsPlaced_in};
 ghost use Rattle.position_translate.specs.Causes.{is_bad_place, insertion_refusal, insertion_refusal_in};
 
+use crate::known::known_behind;
 use crate::places::{is_inside, len_at, stamp_at};
 use causal_clock::{Clock, Op};
 use opid::{OpKind, Refusal, Site, Stamp, count_characters, is_bad_count};
@@ -133,11 +134,10 @@ fn run(
     ensures { IfOk result (λ ops. ops.items ≡ insertion_run site clock parent (chars text.now)) }
 {
     let mut ops = Vec::with_capacity(alloc, count_characters(text))?;
-    let mut clock = clock;
     let mut parent = parent;
     for ch in text.chars() {
-        let op = Op::next(site, &clock, OpKind::Ins { parent, ch });
-        clock.raise(site);
+        let known = known_behind(&clock, ops.as_slice());
+        let op = Op::next(site, known, OpKind::Ins { parent, ch });
         parent = Some(op.stamp());
         ops.push(op)?;
     }

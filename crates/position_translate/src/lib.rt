@@ -4,6 +4,7 @@
 
 mod deletions;
 mod insertions;
+mod known;
 mod places;
 
 pub use deletions::{delete_ops, delete_ops_units};
