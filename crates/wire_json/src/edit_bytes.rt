@@ -7,6 +7,7 @@ ghost use Rattle.opid.specs.declared.edit.Edit.TheVariants as edits;
 ghost use Rattle.wire_json.specs.Text.{IsEditInRange, edit_text, quote};
 
 use crate::byte_writing::{put, put_number};
+use crate::escape_bytes::short_escape;
 use opid::Edit;
 use std::alloc::AllocError;
 
@@ -76,16 +77,11 @@ fn put_quoted(bytes: &mut [u8; MOST], at: usize, ch: char) -> usize
     if ch >= ' ' && ch != '"' && ch != '\\' {
         return put_plain(bytes, at, ch as u8);
     }
-    match ch {
-        '"' => put_escaped(bytes, at, ch, b'"'),
-        '\\' => put_escaped(bytes, at, ch, b'\\'),
-        '\n' => put_escaped(bytes, at, ch, b'n'),
-        '\t' => put_escaped(bytes, at, ch, b't'),
-        '\r' => put_escaped(bytes, at, ch, b'r'),
-        '\u{8}' => put_escaped(bytes, at, ch, b'b'),
-        '\u{c}' => put_escaped(bytes, at, ch, b'f'),
-        _ => put_by_number(bytes, at, ch),
+    let letter = short_escape(ch);
+    if letter > 0 {
+        return put_escaped(bytes, at, ch, letter);
     }
+    put_by_number(bytes, at, ch)
 }
 
 // A byte that stands for itself, in quotes.

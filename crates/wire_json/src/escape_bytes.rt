@@ -56,8 +56,8 @@ fn push_other(out: &mut Vec<u8>, ch: char) -> Result<(), AllocError>
     out.extend_from_slice(&[b'\\', b'u', b'0', b'0', hex(code / 16), hex(code % 16)])
 }
 
-// The letter of the character's short escape, or 0 where it has none.
-fn short_escape(ch: char) -> u8
+/// The letter of the character's short escape, or 0 where it has none.
+pub(crate) fn short_escape(ch: char) -> u8
     ensures { result ≡ escape_letter ch }
 {
     match ch {

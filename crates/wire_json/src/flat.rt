@@ -7,12 +7,10 @@ ghost use Rattle.wire_json.specs.Request.{json_of};
 ghost use Rattle.wire_json.specs.Flat.{value_of_tokens, flat_data, IsPrimitive, ReadsNext, ReadsMember};
 ghost use Rattle.json.specs.Reads.{token_of};
 
+use crate::plain_number::leading_number;
 use arrayvec::ArrayVec;
 use fast_float::Numeral;
 use json::{Reader, Scratch, Token};
-
-/// So many digits write a number that fits 32 bits.
-pub(crate) const MOST_DIGITS: usize = 9;
 
 // The most members of such an object.
 const MAX_MEMBERS: usize = 8;
@@ -151,17 +149,11 @@ fn whole_number(text: &str) -> Option<u64>
 fn few_digits(bytes: &[u8]) -> Option<u64>
     ensures { IfSome result (λ n. number_of bytes.now ≡ Some (unsigned n)) }
 {
-    if bytes.is_empty() || bytes.len() > MOST_DIGITS {
+    let (n, count) = leading_number(bytes);
+    if count == 0 || count < bytes.len() {
         return None;
     }
-    let mut n: u64 = 0;
-    for byte in bytes {
-        if *byte < b'0' || *byte > b'9' {
-            return None;
-        }
-        n = n * 10 + u64::from(*byte - b'0');
-    }
-    Some(n)
+    Some(u64::from(n))
 }
 
 fn has_minus(bytes: &[u8]) -> bool

@@ -1,9 +1,11 @@
 //! A whole number of at most nine digits in a JSON text, read byte by byte (RFC 8259, section 6).
-ghost use Rattle.std.specs.Prelude.{◌≡◌, ◌≤◌, ◌<◌, ◌+◌, ◌==◌, true, false, length, drop, slice_index, IfSome};
+ghost use Rattle.std.specs.Prelude.{◌≡◌, ◌≤◌, ◌<◌, ◌+◌, ◌==◌, true, false, length, take, drop, slice_index, IfSome};
+ghost use Rattle.std.specs.Str.Parse.{AllDigits, digits_value};
 ghost use Rattle.json.specs.Word.{ends_word};
 ghost use Rattle.wire_json.specs.Plain.{WritesNumber};
 
-use crate::flat::MOST_DIGITS;
+/// So many digits write a number that fits 32 bits.
+const MOST_DIGITS: usize = 9;
 
 // Whether a word ends at the place.
 #[inline(always)]
@@ -20,14 +22,7 @@ pub(crate) fn number_at(bytes: &[u8], at: usize) -> Option<(u32, usize)>
     requires { at ≤ length bytes.now }
     ensures { IfSome result (λ p. WritesNumber bytes.now at p.0 p.1) }
 {
-    let rest = &bytes[at..];
-    let most = rest.len().min(MOST_DIGITS);
-    let mut n: u32 = 0;
-    let mut count = 0;
-    while count < most && rest[count] >= b'0' && rest[count] <= b'9' {
-        n = n * 10 + u32::from(rest[count] - b'0');
-        count += 1;
-    }
+    let (n, count) = leading_number(&bytes[at..]);
     let end = at + count;
     if count == 0 || !is_word_end(bytes, end) {
         return None;
@@ -36,6 +31,24 @@ pub(crate) fn number_at(bytes: &[u8], at: usize) -> Option<(u32, usize)>
         return None;
     }
     Some((n, end))
+}
+
+/// The number that the digits write with which the bytes begin, at most nine of them, and how many they are.
+#[inline(always)]
+pub(crate) fn leading_number(bytes: &[u8]) -> (u32, usize)
+    ensures within { result.1 ≤ length bytes.now }
+    ensures few { result.1 ≤ 9 }
+    ensures digits { AllDigits 10 (take result.1 bytes.now) }
+    ensures value { result.0 ≡ digits_value 10 (take result.1 bytes.now) }
+{
+    let most = bytes.len().min(MOST_DIGITS);
+    let mut n: u32 = 0;
+    let mut count = 0;
+    while count < most && bytes[count] >= b'0' && bytes[count] <= b'9' {
+        n = n * 10 + u32::from(bytes[count] - b'0');
+        count += 1;
+    }
+    (n, count)
 }
 
 // Whether the first of several digits is a zero: then they write no number.

@@ -1,14 +1,20 @@
-use Rattle.std.proofs.Common.{◌≡◌, ◌∙◌, [], sym, ap, arith, rules, drop}
-use Rattle.std.proofs.lemmas.List.{drop_all}
+use Rattle.std.proofs.Common.{◌≡◌, ◌∙◌, ◌<◌, ◌^◌, subst, ap, arith, take, true}
+use Rattle.std.proofs.lemmas.List.{take_all}
+use Rattle.std.proofs.lemmas.Str.Parse.{numerals_by_value, tells_all_ascii_digits}
 use Rattle.std.specs.Str.{all_ascii_digits}
-use Rattle.std.specs.Str.Parse.{digits_value_after}
-use Rattle.wire_json.proofs.Digits.{digits_number}
+use Rattle.std.specs.Str.Parse.{AllDigits, digits_value}
+use Rattle.wire_json.proofs.Digits.{digits_number, few}
 use Rattle.wire_json.proofs.flat.few_digits.Goals as goal
 
 pub returns : goal.returns
 returns c =
     let bytes = c.args.bytes.now in
-    let over : drop c.loop-byte.byte-index bytes ≡ [] = drop_all c.loop-byte.byte-index bytes c.loop-byte-test.false in
-    digits_number bytes c.loop-byte.n (sym c.loop-byte.invariant.digits ∙ ap all_ascii_digits over)
-    (search rules) (omega (arith, c.loop-byte.auto.n-fits))
-    (sym (ap (digits_value_after 10 c.loop-byte.n) over) ∙ c.loop-byte.invariant.value)
+    let count = c.leading_number-n.result.1 in
+    let n = c.leading_number-n.result.0 in
+    let whole : take count bytes ≡ bytes = take_all count bytes (omega (arith, c.if-count-bytes.false)) in
+    let digits = subst (AllDigits 10) whole c.leading_number-n.ensures.digits in
+    let small : n < 10 ^ 9 =
+    few bytes count 9 n c.leading_number-n.ensures.few c.leading_number-n.ensures.digits c.leading_number-n.ensures.value in
+    digits_number bytes c.from.result ((numerals_by_value (λ ds. all_ascii_digits ds ≡ true) tells_all_ascii_digits).from bytes digits)
+    (omega (arith, c.if-count-eq0.false, c.leading_number-n.ensures.within)) (omega (arith, small, c.from.ensures))
+    (c.from.ensures ∙ c.leading_number-n.ensures.value ∙ ap (digits_value 10) whole)
