@@ -90,14 +90,14 @@ item_texts x (Ins parent c) (d ∷ cs) l k r h =
     (parent_texts parent c r) (run_scalars parent c (d ∷ cs) r h)
 item_texts x (Del t) (d ∷ cs) l k r h = op_texts x.site x.clock (Del t) l k r
 
+pub item_utf8 : (x : Operation) (cs : List ℕ) → IsOperationInRange x → IsTrue (all_scalars cs)
+    → IsUtf8 (item_text (record { first = x; more = cs }))
+item_utf8 x cs h k = item_texts x x.kind cs h.0.site (record { width = h.0.width; limit = h.0.limit }) h.1 k
+
 each_text : (items : List Item) → AllByRecursion IsPacked items → AllByRecursion IsUtf8 (map item_text items)
 each_text [] h = tt
 each_text (i ∷ items) h =
-    let o = h.0.range.0.0 in (
-      item_texts i.first i.first.kind i.more o.site (record { width = o.width; limit = o.limit }) h.0.range.0.1
-          (more_scalars i.first i.more h.0.range.1),
-      each_text items h.1,
-    )
+    (item_utf8 i.first i.more h.0.range.0 (more_scalars i.first i.more h.0.range.1), each_text items h.1)
 
 pub ops_utf8 : (n : ℕ) (ops : List Operation) → n < 2 ^ 32 → AllByRecursion IsOperationInRange ops → IsUtf8 (text (Ops n ops))
 ops_utf8 n ops h k =

@@ -1,7 +1,6 @@
 -- Items with commas between them, and characters, one after another.
-use Rattle.std.proofs.Common.{◌≡◌, ℕ, ◌+◌, ◌<◌, Bool, true, false, cond, List, [], ◌∷◌, ◌++◌, map, length, drop, get_or, refl, sym, ap, ◌∙◌}
-use Rattle.std.proofs.Common.{append_assoc, ◌≤◌, ◌&&◌, lt-ltb}
-use Rattle.std.proofs.lemmas.Bool.{le-ltb}
+use Rattle.std.proofs.Common.{◌≡◌, ℕ, ◌+◌, ◌<◌, Bool, true, false, cond, List, [], ◌∷◌, ◌++◌, map, length, drop, get_or, refl, sym, ap, ap₂}
+use Rattle.std.proofs.Common.{◌∙◌, append_assoc, ◌&&◌}
 use Rattle.std.specs.Prelude.{nat_lt, encode_utf8, encode_utf8_all}
 use Rattle.std.proofs.lemmas.Grind.{flat_map-append}
 use Rattle.std.proofs.lemmas.List.{drop_more}
@@ -80,22 +79,10 @@ ended i j ys k y old text new all h e apart is item more_is so_far =
 abbrev pub item_of : Operation → List ℕ → Item
 item_of first more = record { first = first; more = more }
 
-pub is_joined : (first last y : Operation) (more : List ℕ) → last ≡ last_typed first more → length more + 1 < 64
-    → is_typed_next last y ≡ true → joins (item_of first more) y ≡ true
-is_joined first last y more is short next =
-    ap (λ b. b && is_typed_next (last_typed first more) y) (lt-ltb (length more + 1) 64 short) ∙ ap (λ x. is_typed_next x y) (sym is) ∙ next
-
-pub is_long : (first y : Operation) (more : List ℕ) → 64 ≤ length more + 1 → joins (item_of first more) y ≡ false
-is_long first y more long = ap (λ b. b && is_typed_next (last_typed first more) y) (le-ltb (length more + 1) 64 long)
-
-pub is_apart : (first last y : Operation) (more : List ℕ) → last ≡ last_typed first more → is_typed_next last y ≡ false
-    → joins (item_of first more) y ≡ false
-is_apart first last y more is next =
-    ap (λ b. nat_lt (length more + 1) 64 && b) (ap (λ x. is_typed_next x y) (sym is) ∙ next) ∙ and_false (nat_lt (length more + 1) 64)
-  where
-    and_false : (b : Bool) → (b && false) ≡ false
-    and_false true = refl
-    and_false false = refl
+pub asked : (first last y : Operation) (more cs : List ℕ) (t : Bool) → last ≡ last_typed first more → cs ≡ more
+    → t ≡ (nat_lt (length cs + 1) 64 && is_typed_next last y) → joins (item_of first more) y ≡ t
+asked first last y more cs t is e told =
+    sym (told ∙ ap₂ (λ (ds : List ℕ) (x : Operation). nat_lt (length ds + 1) 64 && is_typed_next x y) e is)
 
 pub same_item : (a b : Operation) (xs ys : List ℕ) → a ≡ b → xs ≡ ys → item_of a xs ≡ item_of b ys
 same_item a b xs ys e f = rw e (rw f refl)

@@ -2,11 +2,11 @@
 //! the characters are appended behind.
 ghost use Rattle.std.specs.Prelude.{◌≡◌, ◌+◌, ◌<◌, ◌≤◌, ◌∷◌, ◌++◌, drop, codes, decimal, OnOk};
 ghost use Rattle.opid.specs.declared.kind.OpKind.TheVariants as kinds;
+ghost use Rattle.opid.specs.Clocks.{entry};
 ghost use Rattle.wire_json.specs.Text.{clock_text, op_text_of, pair_text, parent_text, quote, stamp_text};
 
 use crate::byte_writing::{put, put_all, put_small};
 use crate::escape_bytes::push_quoted;
-use crate::operation_writing::entry_of;
 use causal_clock::{Clock, Op};
 use opid::{SITES, Site, Stamp};
 use std::alloc::AllocError;
@@ -63,6 +63,17 @@ fn put_clock(bytes: &mut [u8; MOST], at: usize, clock: &Clock) -> usize
         put(bytes, here + 1, b'[')
     } else {
         put(bytes, here, b'[')
+    }
+}
+
+// The count of the site with this number.
+fn entry_of(clock: &Clock, number: u8) -> u32
+    requires { number < SITES }
+    ensures { result ≡ entry clock.now number }
+{
+    match Site::new(number) {
+        Ok(site) => clock.entry(site),
+        Err(_) => 0,
     }
 }
 

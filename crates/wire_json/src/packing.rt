@@ -1,23 +1,25 @@
 //! Packing operations into runs, from the left (docs/decisions, W11).
-ghost use Rattle.std.specs.Prelude.{◌≡◌, ◌<◌, ◌++◌, ◌∷◌, true, IfOk, IfErr, OnOk, string_bytes, encode_utf8_all};
+ghost use Rattle.std.specs.Prelude.{◌≡◌, ◌+◌, ◌++◌, ◌&&◌, nat_lt, length, true, IsTrue, IfOk, IfErr, OnOk, string_bytes};
 ghost use Rattle.std.specs.List.{AllByRecursion};
+ghost use Rattle.std.specs.Str.{all_scalars};
 ghost use Rattle.opid.specs.declared.refusal.Refusal.TheVariants.{Memory};
 ghost use Rattle.wire_json.specs.Packing.{joins, is_typed_next, alone, with_one_more, inserted_character, is_child, is_insertion};
 ghost use Rattle.wire_json.specs.Text.{IsOperationInRange, item_text, packed_text};
-ghost use Rattle.wire_json.specs.Written.{tokens_of, item_data};
 
 use crate::op_bytes::{push_deletion, push_typed};
-use crate::operation_writing::{LIKELY_LEN, append_op, append_typed, check_op};
-use crate::tokens::{text_of, writer};
+use crate::operation_writing::check_op;
+use crate::tokens::text_of_bytes;
 use arrayvec::ArrayVec;
 use causal_clock::Op;
-use json::Writer;
 use opid::{MAX_COUNT, OpKind, Refusal, Stamp};
 use std::alloc::{AllocError, Global};
 use std::marker::Model;
 
 /// A run has at most so many insertions.
 pub(crate) const MAX_RUN: usize = MAX_COUNT as usize;
+
+/// Most operations' texts take no more, with a line feed behind them.
+const LIKELY_LEN: usize = 128;
 
 /// An operation, and the characters of the insertions that follow it.
 #[derive(Drop)]
@@ -28,14 +30,15 @@ pub struct Item {
 }
 
 impl Model for Item {
-    ghost use Rattle.std.specs.Prelude.{◌≡◌};
+    ghost use Rattle.std.specs.Prelude.{◌≡◌, IsTrue};
+    ghost use Rattle.std.specs.Str.{all_scalars};
     ghost use Rattle.wire_json.specs.Packing.{Item as Packed, last_typed};
 
     ghost Value = { Packed };
 
     ghost view = { λ i. record { first = i.first; more = i.more.items } };
 
-    ghost invariant = { λ i. i.last ≡ last_typed i.first i.more.items };
+    ghost invariant = { λ i. (i.last ≡ last_typed i.first i.more.items) × IsTrue (all_scalars i.more.items) };
 }
 
 impl Item {
@@ -54,7 +57,7 @@ impl Item {
     pub fn is_joined_by(&self, op: &Op) -> bool
         ensures { result ≡ joins self.now op.now }
     {
-        self.more.len() + 1 < MAX_RUN && is_typed_next(&self.last, op)
+        is_next_of_run(self.more.as_slice(), &self.last, op)
     }
 
     /// Adds an operation that joins the run. Constant time; takes memory where the text grows. An error is for want of it.
@@ -62,13 +65,18 @@ impl Item {
         requires { joins self.old op.now ≡ true }
         ensures { OnOk result (self.new ≡ with_one_more self.old op.now) }
     {
-        match op.kind() {
-            OpKind::Ins { parent: _, ch } => self.more.push(ch)?,
-            OpKind::Del { target: _ } => unreachable!(),
-        }
+        self.more.push(character_of(op))?;
         self.last = *op;
         Ok(())
     }
+}
+
+// Whether a run of an insertion and those of these characters, the last of which is given, goes on with the operation.
+#[inline(always)]
+fn is_next_of_run(more: &[char], last: &Op, op: &Op) -> bool
+    ensures { result ≡ (nat_lt (length more.now + 1) 64 && is_typed_next last.now op.now) }
+{
+    more.len() + 1 < MAX_RUN && is_typed_next(last, op)
 }
 
 // Whether the first is an insertion, and the second the next one after it. Neither is copied.
@@ -119,7 +127,7 @@ pub(crate) fn push_packed(out: &mut Vec<u8>, ops: &[Op]) -> Result<(), AllocErro
     let mut more: ArrayVec<char, MAX_RUN> = ArrayVec::new();
     for op in rest {
         check_op(op);
-        if more.len() + 1 < MAX_RUN && is_typed_next(last, op) {
+        if is_next_of_run(more.as_slice(), last, op) {
             more.push(character_of(op));
         } else {
             push_item(out, first, more.as_slice())?;
@@ -135,6 +143,7 @@ pub(crate) fn push_packed(out: &mut Vec<u8>, ops: &[Op]) -> Result<(), AllocErro
 }
 
 // The character that an insertion puts in, and 0 for a deletion, of which nobody asks.
+#[inline(always)]
 fn character_of(op: &Op) -> char
     ensures { result ≡ inserted_character op.now.kind }
 {
@@ -161,37 +170,17 @@ pub fn write_item(alloc: Global, item: &Item) -> Result<String, Refusal>
     ensures text { IfOk result (λ s. string_bytes s ≡ item_text item.now) }
     ensures memory { IfErr result (λ e. e ≡ Memory) }
 {
-    let mut out = writer(alloc, LIKELY_LEN)?;
-    append_item(alloc, &mut out, item)?;
-    Ok(text_of(out))
+    text_of_item(alloc, &item.first, item.more.as_slice())
 }
 
-// Appends the tokens of an item.
-fn append_item(alloc: Global, out: &mut Writer, item: &Item) -> Result<(), AllocError>
-    ensures before { out.new.before ≡ out.old.before }
-    ensures tokens { OnOk result (out.new.tokens ≡ out.old.tokens ++ tokens_of (item_data item.now)) }
+/// The text of an operation, or of a run of an insertion and those that put in more characters behind it.
+pub(crate) fn text_of_item(alloc: Global, first: &Op, more: &[char]) -> Result<String, Refusal>
+    requires { IsTrue (all_scalars more.now) }
+    ensures text { IfOk result (λ s. string_bytes s ≡ item_text (record { first = first.now; more = more.now })) }
+    ensures memory { IfErr result (λ e. e ≡ Memory) }
 {
-    let first = &item.first;
-    match item.more.as_slice() {
-        [] => append_op(out, first),
-        more => match first.kind() {
-            OpKind::Ins { parent, ch } => {
-                let text = joined(alloc, ch, more)?;
-                append_typed(out, "r", first.site(), first.known(), parent, text.as_str())
-            }
-            OpKind::Del { target: _ } => append_op(out, first),
-        },
-    }
-}
-
-// The characters as one text.
-fn joined(alloc: Global, first: char, more: &[char]) -> Result<String, AllocError>
-    ensures { IfOk result (λ s. string_bytes s ≡ encode_utf8_all (first ∷ more.now)) }
-{
-    let mut text = String::with_capacity(alloc, MAX_RUN)?;
-    text.push(first)?;
-    for ch in more {
-        text.push(*ch)?;
-    }
-    Ok(text)
+    check_op(first);
+    let mut out = Vec::with_capacity(alloc, LIKELY_LEN)?;
+    push_item(&mut out, first, more)?;
+    Ok(text_of_bytes(out))
 }
