@@ -11,8 +11,8 @@ use Rattle.opid.proofs.Counts.{length-clock_of}
 use Rattle.causal_clock.specs.declared.row.Row.{Row}
 use Rattle.causal_clock.specs.Kinds.{IsOperation}
 use Rattle.causal_clock.specs.Stored.{changes, is_marked, is_whole, latest, entries_of}
-use Rattle.causal_clock.specs.Packed.{no_row, no_op, row_at, operation_at, fill, row_clock, after, no_clocks, logged, IsRow}
-use Rattle.causal_clock.specs.Packed.{AreRows, IsLastBefore, IsSite, IsPacked, base_of, marks_of, unmarked}
+use Rattle.causal_clock.specs.Internal.Packed.{no_row, no_op, row_at, operation_at, fill, row_clock, after, no_clocks, logged, IsRow}
+use Rattle.causal_clock.specs.Internal.Packed.{AreRows, IsLastBefore, IsSite, IsPacked, base_of, marks_of, unmarked}
 use Rattle.causal_clock.proofs.Changing.{fill-changes, length-changes_le}
 use Rattle.causal_clock.proofs.Lasts.{last-grown, last-other, last-own}
 use Rattle.causal_clock.proofs.Telling.{told-append, after-append, told-one, after-one, changes_of-new, part-new, AreWithin}

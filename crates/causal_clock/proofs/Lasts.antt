@@ -3,7 +3,7 @@ use Rattle.std.proofs.Common.{◌≡◌, ℕ, ◌+◌, ◌<◌, ◌≤◌, ◌�
 use Rattle.std.proofs.lemmas.Bool.{cases_eq}
 use Rattle.std.proofs.lemmas.List.{get_or_append_left}
 use Rattle.opid.specs.Operations.{Operation}
-use Rattle.causal_clock.specs.Packed.{no_op, operation_at, IsLastBefore}
+use Rattle.causal_clock.specs.Internal.Packed.{no_op, operation_at, IsLastBefore}
 
 kept_at : (ops more : List Operation) (k : ℕ) → k < length ops → operation_at (ops ++ more) k ≡ operation_at ops k
 kept_at ops more k l = get_or_append_left ops more no_op k l

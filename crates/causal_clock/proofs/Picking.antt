@@ -10,10 +10,10 @@ use Rattle.std.proofs.lemmas.Nat.Bits.{bit_at-trailing_zeros, bit_at_and, bit_at
 use Rattle.std.proofs.lemmas.Nat.Bits.{bit_at_ones}
 use Rattle.std.proofs.lemmas.Simd.{length-zip2, get_or-zip2, mask_l-lt, mask_l-mod, bit_mask_l}
 use Rattle.causal_clock.specs.Stored.{changes}
-use Rattle.causal_clock.specs.Told.{AreTold, picked}
+use Rattle.causal_clock.specs.Internal.Told.{AreTold, picked}
 use Rattle.opid.specs.Delivery.{clock_of}
 use Rattle.opid.proofs.Counts.{length-clock_of}
-use Rattle.causal_clock.specs.Packed.{fill}
+use Rattle.causal_clock.specs.Internal.Packed.{fill}
 use Rattle.causal_clock.proofs.Changing.{fill-others}
 use Rattle.causal_clock.proofs.Raising.{same_lane}
 

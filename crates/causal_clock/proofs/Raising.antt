@@ -10,7 +10,7 @@ use Rattle.std.proofs.lemmas.Nat.{and_le_l}
 use Rattle.std.proofs.lemmas.Nat.Bits.{bit_at_clear_same, bit_at_clear_other, bit_at_above, bit_at-zero, same_from_bits}
 use Rattle.std.proofs.lemmas.Slice.Eq.{bytes_eq-Decides}
 use Rattle.opid.specs.Clocks.{entry, raised}
-use Rattle.causal_clock.specs.Told.{AreTold}
+use Rattle.causal_clock.specs.Internal.Told.{AreTold}
 
 -- a bit as a number
 abbrev bit_of : Bool → ℕ

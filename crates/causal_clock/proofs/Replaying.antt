@@ -10,8 +10,8 @@ use Rattle.std.proofs.lemmas.List.{drop_more, drop-append-le, length-drop, lengt
 use Rattle.opid.specs.Operations.{Operation}
 use Rattle.opid.specs.Delivery.{count_of}
 use Rattle.causal_clock.specs.declared.row.Row.{Row}
-use Rattle.causal_clock.specs.Packed.{no_op, no_clocks, operation_at, row_at, logged, AreRows}
-use Rattle.causal_clock.specs.Replayed.{between, AreSeen, AreAllSeen}
+use Rattle.causal_clock.specs.Internal.Packed.{no_op, no_clocks, operation_at, row_at, logged, AreRows}
+use Rattle.causal_clock.specs.Internal.Replayed.{between, AreSeen, AreAllSeen}
 use Rattle.causal_clock.proofs.Telling.{count-push, length-told}
 
 none_at : (n i : ℕ) → (let none : Option (List ℕ) = None in get_or (replicate n none) i none) ≡ None

@@ -1,9 +1,5 @@
 pub mod Kinds
 pub mod Listing
 pub mod Stored
-pub mod Told
 pub mod Logged
-pub mod Packed
-pub mod Replayed
-pub mod Shapes
-pub mod Halves
+pub mod Internal

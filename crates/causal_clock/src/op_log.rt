@@ -4,8 +4,8 @@ ghost use Rattle.std.specs.Prelude.{slice_get, OnOk, OnErr, IfErr, vec_len, vec_
 ghost use Rattle.opid.specs.declared.refusal.Refusal.TheVariants.{Memory};
 ghost use Rattle.opid.specs.Delivery.{clock_of, count_of};
 ghost use Rattle.causal_clock.specs.Stored.{entries_of, is_marked, stored};
-ghost use Rattle.causal_clock.specs.Packed.{AreReserved, AreRows, IsPacked, changes_of, fill, mark_of, operation_at};
-ghost use Rattle.causal_clock.specs.Packed.{row_at, logged, unmarked};
+ghost use Rattle.causal_clock.specs.Internal.Packed.{AreReserved, AreRows, IsPacked, changes_of, fill, mark_of, operation_at};
+ghost use Rattle.causal_clock.specs.Internal.Packed.{row_at, logged, unmarked};
 
 use crate::changed::Changed;
 use crate::clock::Clock;
@@ -43,7 +43,7 @@ impl Model for OpLog {
 
     ghost Value = { Logged };
 
-    ghost use Rattle.causal_clock.specs.Packed.{IsPacked, AreReserved, logged, unmarked};
+    ghost use Rattle.causal_clock.specs.Internal.Packed.{IsPacked, AreReserved, logged, unmarked};
 
     ghost view = { λ l. record {
       ops = logged l.entries.items l.rows.items;

@@ -1,8 +1,8 @@
 //! The operations of a log in order, from a place on.
 ghost use Rattle.std.specs.Prelude.{◌≡◌, ◌+◌, ◌<◌, ◌≤◌, ◌++◌, ◌∷◌, [], ℕ, List, Some, None, length, drop, get_or, slice_get, slice_set};
 ghost use Rattle.opid.specs.Delivery.{count_of};
-ghost use Rattle.causal_clock.specs.Packed.{AreRows, changes_of, fill, logged, operation_at, row_at};
-ghost use Rattle.causal_clock.specs.Replayed.{AreSeen};
+ghost use Rattle.causal_clock.specs.Internal.Packed.{AreRows, changes_of, fill, logged, operation_at, row_at};
+ghost use Rattle.causal_clock.specs.Internal.Replayed.{AreSeen};
 
 use crate::changed::Changed;
 use crate::clock::Clock;
@@ -38,8 +38,8 @@ impl<'a> Model for Replay<'a> {
 
     ghost Value = { Walk };
 
-    ghost use Rattle.causal_clock.specs.Packed.{logged};
-    ghost use Rattle.causal_clock.specs.Replayed.{IsReplay, between};
+    ghost use Rattle.causal_clock.specs.Internal.Packed.{logged};
+    ghost use Rattle.causal_clock.specs.Internal.Replayed.{IsReplay, between};
 
     ghost view = { λ r. record {
       passed = between r.start r.place (logged r.entries.now r.rows.now);

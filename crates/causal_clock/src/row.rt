@@ -1,6 +1,6 @@
 //! What a log keeps of one operation, beside the entries of its clock.
 ghost use Rattle.std.specs.Prelude.{◌≡◌, ◌+◌, ◌<◌, ◌≤◌, length};
-ghost use Rattle.causal_clock.specs.Packed.{changes_of, row_at};
+ghost use Rattle.causal_clock.specs.Internal.Packed.{changes_of, row_at};
 
 use crate::changed::Changed;
 use crate::packed_kind::PackedKind;

@@ -2,7 +2,7 @@
 ghost use Rattle.std.specs.Prelude.{◌≡◌, ◌+◌, ◌*◌, ◌<◌, ◌≤◌, ◌++◌, [], ◌∷◌, length, vec_len, vec_capacity, true, false, if◌then◌else◌};
 ghost use Rattle.opid.specs.Delivery.{count_of};
 ghost use Rattle.causal_clock.specs.Stored.{is_marked};
-ghost use Rattle.causal_clock.specs.Packed.{IsPacked, marks_of, row_at, logged, unmarked};
+ghost use Rattle.causal_clock.specs.Internal.Packed.{IsPacked, marks_of, row_at, logged, unmarked};
 
 use crate::changed::Changed;
 use crate::clock::Clock;

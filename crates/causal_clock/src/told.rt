@@ -2,8 +2,8 @@
 ghost use Rattle.std.specs.Prelude.{◌≡◌, ◌+◌, ◌≤◌, ◌++◌, [], length, vec_len, vec_capacity, true, false};
 ghost use Rattle.opid.specs.Delivery.{clock_of};
 ghost use Rattle.causal_clock.specs.Stored.{changes};
-ghost use Rattle.causal_clock.specs.Told.{AreTold};
-ghost use Rattle.causal_clock.specs.Packed.{fill};
+ghost use Rattle.causal_clock.specs.Internal.Told.{AreTold};
+ghost use Rattle.causal_clock.specs.Internal.Packed.{fill};
 
 use crate::changed::Changed;
 use crate::clock::{Clock, differing};

@@ -9,9 +9,9 @@ use Rattle.opid.specs.Stamps.{is_same}
 use Rattle.opid.proofs.Order.{is_same-eq, is_same-refl}
 use Rattle.rga_list.specs.declared.links.Node.{Node}
 use Rattle.rga_list.specs.Entries.{Entry, elem_of, hide, hidden, is_shown}
-use Rattle.rga_list.specs.SiteIds.{SiteIds}
-use Rattle.rga_list.specs.Links.{blank, node_at, chain, order_of, entry_at, entries_of, Leads, AreOnce, IsOneOf, IsLinked, named, AreNamed}
-use Rattle.rga_list.specs.Links.{IsList}
+use Rattle.rga_list.specs.Internal.SiteIds.{SiteIds}
+use Rattle.rga_list.specs.Internal.Links.{blank, node_at, chain, order_of, entry_at, entries_of, Leads, AreOnce, IsOneOf, IsLinked, named}
+use Rattle.rga_list.specs.Internal.Links.{AreNamed, IsList}
 use Rattle.rga_list.proofs.Linked.{Leads-kept}
 use Rattle.rga_list.proofs.Ordered.{order-within, elem_of-found, node_same}
 

@@ -13,9 +13,9 @@ use Rattle.opid.specs.Stamps.{is_same}
 use Rattle.opid.proofs.Order.{is_same-refl}
 use Rattle.rga_list.specs.declared.links.Node.{Node}
 use Rattle.rga_list.specs.Entries.{Entry, has_stamp, elem_of, behind, put_behind, elem_before, IsAboveItsSite, parent_refusal}
-use Rattle.rga_list.specs.SiteIds.{SiteIds, find_id}
-use Rattle.rga_list.specs.Links.{blank, node_at, order_of, entry_at, entries_of, IsLinked, AreApart, ids_at, named, AreNamed, IsList}
-use Rattle.rga_list.specs.Links.{following, Walked, last_of, put_in, first_then}
+use Rattle.rga_list.specs.Internal.SiteIds.{SiteIds, find_id}
+use Rattle.rga_list.specs.Internal.Links.{blank, node_at, order_of, entry_at, entries_of, IsLinked, AreApart, ids_at, named, AreNamed}
+use Rattle.rga_list.specs.Internal.Links.{IsList, following, Walked, last_of, put_in, first_then}
 use Rattle.rga_list.proofs.Identifiers.{find_id-kept, find_id-push}
 use Rattle.rga_list.proofs.Linked.{Leads-within}
 use Rattle.rga_list.proofs.Ordered.{row_same, length-entries, elem_of-found, elem_of-lacks, has_stamp-above, has_stamp-none, named-elem_of}

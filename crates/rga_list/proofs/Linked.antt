@@ -12,8 +12,8 @@ use Rattle.opid.specs.declared.stamp.Stamp.{Stamp}
 use Rattle.opid.specs.Stamps.{is_before}
 use Rattle.rga_list.specs.Entries.{Entry}
 use Rattle.rga_list.specs.declared.links.Node.{Node}
-use Rattle.rga_list.specs.Links.{blank, node_at, chain, order_of, entry_at, entries_of, Leads, AreOnce, IsOneOf, IsLinked, Walking}
-use Rattle.rga_list.specs.Links.{Ends, last_of}
+use Rattle.rga_list.specs.Internal.Links.{blank, node_at, chain, order_of, entry_at, entries_of, Leads, AreOnce, IsOneOf, IsLinked, Walking}
+use Rattle.rga_list.specs.Internal.Links.{Ends, last_of}
 
 pub Leads-join : (nodes : List Node) (a b c : Option ℕ) (xs ys : List ℕ) → Leads nodes a xs b → Leads nodes b ys c
     → Leads nodes a (xs ++ ys) c

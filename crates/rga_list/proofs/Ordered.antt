@@ -9,8 +9,9 @@ use Rattle.opid.specs.Stamps.{is_same}
 use Rattle.opid.proofs.Order.{is_same-eq, is_same-refl}
 use Rattle.rga_list.specs.declared.links.Node.{Node}
 use Rattle.rga_list.specs.Entries.{Entry, has_stamp, elem_of, entry_of, first_of, elem_after, next_of, IsAboveItsSite, IsGreatestOf}
-use Rattle.rga_list.specs.SiteIds.{SiteIds, find_id, IsGreatest}
-use Rattle.rga_list.specs.Links.{blank, node_at, order_of, entry_at, entries_of, Leads, IsOneOf, IsLinked, ids_at, named, AreNamed, IsList}
+use Rattle.rga_list.specs.Internal.SiteIds.{SiteIds, find_id, IsGreatest}
+use Rattle.rga_list.specs.Internal.Links.{blank, node_at, order_of, entry_at, entries_of, Leads, IsOneOf, IsLinked, ids_at, named, AreNamed}
+use Rattle.rga_list.specs.Internal.Links.{IsList}
 use Rattle.rga_list.proofs.Identifiers.{eqb-differs, Each-found, found-Each}
 use Rattle.rga_list.proofs.Linked.{Leads-within}
 

@@ -2,7 +2,7 @@
 use Rattle.std.proofs.Common.{◌≢◌, ℕ, List, [], ◌∷◌, map}
 use Rattle.std.specs.List.{AllByRecursion as Each}
 use Rattle.rga_list.specs.Entries.{AreOfOwn}
-use Rattle.rga_list.specs.Links.{entry_at, AreOnce}
+use Rattle.rga_list.specs.Internal.Links.{entry_at, AreOnce}
 use Rattle.rga_list.specs.declared.links.Node.{Node}
 
 others : (nodes : List Node) (i : ℕ) (is : List ℕ) → Each (λ j. j ≢ i) is → Each (λ e. e.elem ≢ i) (map (entry_at nodes) is)

@@ -10,8 +10,8 @@ use Rattle.opid.specs.Stamps.{is_before, is_same}
 use Rattle.opid.proofs.Order.{is_same-eq, is_same-sym}
 use Rattle.rga_list.specs.declared.links.Node.{Node}
 use Rattle.rga_list.specs.Entries.{Entry, passed, behind, put_behind}
-use Rattle.rga_list.specs.Links.{blank, node_at, order_of, entry_at, entries_of, Leads, AreOnce, IsOneOf, IsLinked, AreApart, Walked}
-use Rattle.rga_list.specs.Links.{StopsAt, Ends, last_of, following}
+use Rattle.rga_list.specs.Internal.Links.{blank, node_at, order_of, entry_at, entries_of, Leads, AreOnce, IsOneOf, IsLinked, AreApart}
+use Rattle.rga_list.specs.Internal.Links.{Walked, StopsAt, Ends, last_of, following}
 use Rattle.rga_list.proofs.Linked.{Leads-join, Leads-split, Leads-within, Leads-at_head, Leads-behind, put_between}
 
 -- where the walk starts: at the head, or behind the parent, which has a smaller stamp

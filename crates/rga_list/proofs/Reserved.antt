@@ -3,8 +3,8 @@ use Rattle.std.proofs.Common.{◌≡◌, ℕ, ◌-◌, ◌<◌, ◌≤◌, ◌�
 use Rattle.std.proofs.Common.{get_or-set_other, get_or-set_same}
 use Rattle.std.proofs.lemmas.Bool.{cases_eq}
 use Rattle.rga_list.specs.declared.links.Node.{Node}
-use Rattle.rga_list.specs.SiteIds.{SiteIds, find_id}
-use Rattle.rga_list.specs.Links.{ids_at, AreNamed, IsList}
+use Rattle.rga_list.specs.Internal.SiteIds.{SiteIds, find_id}
+use Rattle.rga_list.specs.Internal.Links.{ids_at, AreNamed, IsList}
 
 pub set-keeps : {X : Type 0} (f : SiteIds → X) (rows : List SiteIds) (i k : ℕ) (r : SiteIds) → i < length rows → f r ≡ f (ids_at rows i)
     → f (ids_at (set rows i r) k) ≡ f (ids_at rows k)

@@ -1,5 +1,3 @@
 pub mod Entries
 pub mod Listed
-pub mod Packed
-pub mod SiteIds
-pub mod Links
+pub mod Internal

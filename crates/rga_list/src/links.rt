@@ -1,7 +1,7 @@
 //! Elements in a vector, linked in their order by numbers: the walk, and the link of a new element.
 ghost use Rattle.std.specs.Prelude.{◌≡◌, ◌<◌, ◌≤◌, ◌+◌, ℕ, length, IfSome, vec_len, vec_capacity};
 ghost use Rattle.std.specs.Option.{ForSome};
-ghost use Rattle.rga_list.specs.Links.{Ends, Walked, following, put_in, first_then};
+ghost use Rattle.rga_list.specs.Internal.Links.{Ends, Walked, following, put_in, first_then};
 
 use crate::packed_node::PackedNode;
 use opid::Stamp;

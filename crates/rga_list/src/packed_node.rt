@@ -28,7 +28,7 @@ impl Model for PackedNode {
 
     ghost Value = { Node };
 
-    ghost use Rattle.rga_list.specs.Packed.{node_of, inside_of, inside_of-node_of};
+    ghost use Rattle.rga_list.specs.Internal.Packed.{node_of, inside_of, inside_of-node_of};
 
     ghost view = { node_of };
 

@@ -9,7 +9,7 @@ ghost use Rattle.opid.specs.Operations.{Operation, stamp_of};
 ghost use Rattle.opid.specs.Lawful.{IsSound};
 ghost use Rattle.rga_list.specs.Entries.{Entry, LinkedElements, placed, behind, put_behind, elem_of, entry_of, next_of, elem_before};
 ghost use Rattle.rga_list.specs.Entries.{has_stamp, IsAboveItsSite, IsGreatestOf, parent_refusal, refusal_of, hidden, is_shown, AreOfOwn};
-ghost use Rattle.rga_list.specs.Links.{ids_at};
+ghost use Rattle.rga_list.specs.Internal.Links.{ids_at};
 ghost use Rattle.rga_list.specs.Listed.{listed};
 
 use crate::links::{Elem, Node, after, link, walk};
@@ -51,7 +51,7 @@ impl Model for Rga {
 
     ghost Value = { LinkedElements };
 
-    ghost use Rattle.rga_list.specs.Links.{entries_of, IsList, AreReserved};
+    ghost use Rattle.rga_list.specs.Internal.Links.{entries_of, IsList, AreReserved};
 
     ghost view = { λ a. record { entries = entries_of a.nodes.items a.first; room = a.room } };
 

@@ -3,7 +3,7 @@
 ghost use Rattle.std.specs.Prelude.{◌≡◌, ◌<◌, ◌-◌, [], ◌∷◌, ◌++◌, max, IfSome, IfNone, IfErr, OnOk, OnErr};
 ghost use Rattle.std.specs.List.{AllByRecursion};
 ghost use Rattle.opid.specs.declared.refusal.Refusal.TheVariants.{Memory};
-ghost use Rattle.rga_list.specs.SiteIds.{SiteIds, find_id, IsGreatest};
+ghost use Rattle.rga_list.specs.Internal.SiteIds.{SiteIds, find_id, IsGreatest};
 
 use crate::links::Elem;
 use opid::Refusal;
@@ -20,7 +20,7 @@ pub struct SiteTable {
 impl Model for SiteTable {
     ghost use Rattle.std.specs.Prelude.{◌+◌, ◌≤◌, vec_len, vec_capacity};
     ghost use Rattle.opid.specs.RisingPairs.{AreRising};
-    ghost use Rattle.rga_list.specs.SiteIds.{SiteIds};
+    ghost use Rattle.rga_list.specs.Internal.SiteIds.{SiteIds};
 
     ghost Value = { SiteIds };
 

@@ -1,7 +1,7 @@
 use Rattle.std.proofs.Common.{◌∙◌, ℕ, List, ap, sym}
 use mathlib.Core.Path.{ap₂}
 use Rattle.causal_clock.specs.declared.row.Row.{Row}
-use Rattle.causal_clock.specs.Packed.{base_of, changes_of, fill}
+use Rattle.causal_clock.specs.Internal.Packed.{base_of, changes_of, fill}
 use Rattle.causal_clock.proofs.op_log.+put_before.Goals as goal
 
 pub returns-then-row-eq0-clause-counts : goal.returns-then-row-eq0-clause-counts

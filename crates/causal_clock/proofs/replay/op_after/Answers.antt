@@ -2,7 +2,7 @@ use Rattle.std.proofs.Common.{◌∙◌, ℕ, List, ap, sym}
 use mathlib.Core.Path.{ap₂}
 use Rattle.opid.specs.declared.kind.OpKind.{OpKind}
 use Rattle.opid.specs.Operations.{Operation}
-use Rattle.causal_clock.specs.Packed.{changes_of, fill}
+use Rattle.causal_clock.specs.Internal.Packed.{changes_of, fill}
 use Rattle.causal_clock.proofs.Replaying.{op_read}
 use Rattle.causal_clock.proofs.replay.op_after.Goals as goal
 

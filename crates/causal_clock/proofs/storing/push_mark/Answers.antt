@@ -2,7 +2,7 @@ use Rattle.std.proofs.Common.{◌≡◌, ◌∙◌, ◌++◌, [], ℕ, List, Boo
 use Rattle.opid.specs.Clocks.{sites}
 use Rattle.opid.specs.Delivery.{clock_of}
 use Rattle.causal_clock.specs.Stored.{changes}
-use Rattle.causal_clock.specs.Packed.{marks_of}
+use Rattle.causal_clock.specs.Internal.Packed.{marks_of}
 use Rattle.causal_clock.proofs.storing.push_mark.Goals as goal
 
 zeros : replicate 32 0 ≡ clock_of []

@@ -1,7 +1,7 @@
 use Rattle.std.proofs.Common.{◌≡◌, [], Bool, true, false, not, eqb-true, replicate, refl, subst, sym}
 use Rattle.opid.specs.Clocks.{sites}
 use Rattle.opid.specs.Delivery.{clock_of}
-use Rattle.causal_clock.specs.Told.{AreTold}
+use Rattle.causal_clock.specs.Internal.Told.{AreTold}
 use Rattle.causal_clock.proofs.Picking.{made_alone}
 use Rattle.causal_clock.proofs.told.needs_mark.Goals as goal
 

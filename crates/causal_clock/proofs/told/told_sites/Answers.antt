@@ -1,5 +1,5 @@
 use Rattle.std.proofs.Common.{sym, subst}
-use Rattle.causal_clock.specs.Told.{AreTold}
+use Rattle.causal_clock.specs.Internal.Told.{AreTold}
 use Rattle.causal_clock.proofs.Picking.{all_told}
 use Rattle.causal_clock.proofs.told.told_sites.Goals as goal
 

@@ -3,7 +3,7 @@ use Rattle.std.proofs.Common.{◌≡◌, ◌<◌, ◌∙◌, subst, sym, rules, 
 use Rattle.std.proofs.lemmas.List.{get_or_default}
 use Rattle.opid.specs.Stamps.{is_before}
 use Rattle.rga_list.specs.declared.links.Node.{Node}
-use Rattle.rga_list.specs.Links.{blank, node_at, chain, Walking}
+use Rattle.rga_list.specs.Internal.Links.{blank, node_at, chain, Walking}
 use Rattle.rga_list.proofs.Linked.{Walking-start, Walking-place, Walking-more, Walking-within, Walking-shorter}
 use Rattle.rga_list.proofs.links.walk.Goals as goal
 

@@ -1,6 +1,6 @@
 -- What the walk keeps.
 use Rattle.std.proofs.Common.{◌<◌, length, IfSome}
-use Rattle.rga_list.specs.Links.{chain, Walking}
+use Rattle.rga_list.specs.Internal.Links.{chain, Walking}
 use Rattle.rga_list.proofs.links.walk.Given as goal
 
 -- the walk so far, at a place or at the end

@@ -1,6 +1,6 @@
 -- A table whose reserve is refused stays.
 use Rattle.std.proofs.Common.{◌∙◌, ℕ, ap, List, refl, ◌<◌, length, rules}
-use Rattle.rga_list.specs.SiteIds.{SiteIds}
+use Rattle.rga_list.specs.Internal.SiteIds.{SiteIds}
 use Rattle.rga_list.proofs.Ordered.{row_same}
 use Rattle.rga_list.proofs.Reserved.{set-keeps}
 use Rattle.rga_list.proofs.rga.reserve_each.Goals as goal

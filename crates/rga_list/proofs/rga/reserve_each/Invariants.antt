@@ -1,6 +1,6 @@
 -- What the loop over the tables keeps.
 use Rattle.std.proofs.Common.{◌≡◌, ℕ, ◌≤◌, ◌<◌}
-use Rattle.rga_list.specs.Links.{ids_at}
+use Rattle.rga_list.specs.Internal.Links.{ids_at}
 use Rattle.rga_list.proofs.rga.reserve_each.Given as goal
 
 -- each table keeps its identifiers and its room, and each so far has room for n

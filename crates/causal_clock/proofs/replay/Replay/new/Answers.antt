@@ -1,6 +1,6 @@
 use Rattle.std.proofs.Common.{None, arith, replicate}
-use Rattle.causal_clock.specs.Packed.{logged}
-use Rattle.causal_clock.specs.Replayed.{between}
+use Rattle.causal_clock.specs.Internal.Packed.{logged}
+use Rattle.causal_clock.specs.Internal.Replayed.{between}
 use Rattle.causal_clock.proofs.Replaying.{none_seen, none_passed, all_none}
 use Rattle.causal_clock.proofs.replay.Replay.new.Goals as goal
 

@@ -1,8 +1,8 @@
 use Rattle.std.proofs.Common.{◌≡◌, ◌+◌, ◌<◌, ◌∷◌, ◌++◌, [], ◌∙◌, ap, sym, subst, arith, length}
 use Rattle.opid.specs.Delivery.{count_of}
 use Rattle.causal_clock.specs.Logged.{Walk}
-use Rattle.causal_clock.specs.Packed.{logged}
-use Rattle.causal_clock.specs.Replayed.{between, AreAllSeen}
+use Rattle.causal_clock.specs.Internal.Packed.{logged}
+use Rattle.causal_clock.specs.Internal.Replayed.{between, AreAllSeen}
 use Rattle.causal_clock.proofs.Replaying.{left, left_within, passed_more, all_more}
 use Rattle.causal_clock.proofs.replay.Replay.read_next.Goals as goal
 

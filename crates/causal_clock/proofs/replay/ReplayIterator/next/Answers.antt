@@ -2,7 +2,7 @@ use Rattle.std.proofs.Common.{◌≡◌, ◌<◌, [], ◌∙◌, ap, sym, arith,
 use Rattle.std.proofs.lemmas.List.{nil_from_length}
 use Rattle.opid.specs.Operations.{Operation}
 use Rattle.causal_clock.specs.Logged.{Walk}
-use Rattle.causal_clock.specs.Packed.{logged}
+use Rattle.causal_clock.specs.Internal.Packed.{logged}
 use Rattle.causal_clock.proofs.Replaying.{length-logged}
 use Rattle.causal_clock.proofs.replay.ReplayIterator.next.Goals as goal
 

@@ -1,8 +1,8 @@
 -- The table names what is found along the linked order.
 use Rattle.std.proofs.Common.{◌≡◌, ◌∙◌, ◌<◌, ap, arith, get_or, subst, sym, length, IfSome}
 use Rattle.rga_list.specs.Entries.{LinkedElements, elem_of}
-use Rattle.rga_list.specs.SiteIds.{SiteIds, find_id}
-use Rattle.rga_list.specs.Links.{ids_at}
+use Rattle.rga_list.specs.Internal.SiteIds.{SiteIds, find_id}
+use Rattle.rga_list.specs.Internal.Links.{ids_at}
 use Rattle.rga_list.proofs.Ordered.{named-elem_of, elem_of-within, row_same}
 use Rattle.rga_list.proofs.rga.Rga.elem_of.Goals as goal
 

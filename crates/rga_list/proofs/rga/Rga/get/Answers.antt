@@ -2,7 +2,7 @@
 use Rattle.std.proofs.Common.{◌≡◌, ◌∙◌, ◌<◌, ap, arith, sym, Some, length}
 use Rattle.rga_list.specs.declared.links.Node.{Node}
 use Rattle.rga_list.specs.Entries.{LinkedElements, Entry, entry_of}
-use Rattle.rga_list.specs.Links.{order_of, node_at}
+use Rattle.rga_list.specs.Internal.Links.{order_of, node_at}
 use Rattle.rga_list.proofs.Ordered.{entry_of-order, length-entries, node_same}
 use Rattle.rga_list.proofs.rga.Rga.get.Goals as goal
 

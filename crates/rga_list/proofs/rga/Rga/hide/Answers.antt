@@ -4,7 +4,7 @@ use mathlib.Core.Path.{ap₂}
 use Rattle.opid.specs.declared.stamp.Stamp.{Stamp}
 use Rattle.rga_list.specs.Entries.{LinkedElements, Entry, has_stamp, elem_of, hidden, is_shown}
 use Rattle.rga_list.specs.declared.links.Node.{Node}
-use Rattle.rga_list.specs.Links.{entries_of, node_at, IsList}
+use Rattle.rga_list.specs.Internal.Links.{entries_of, node_at, IsList}
 use Rattle.rga_list.proofs.Ordered.{has_stamp-some, length-entries, named-elem_of}
 use Rattle.rga_list.proofs.Deleted.{deleted}
 use Rattle.rga_list.proofs.Shown.{listed-deletion}

@@ -5,8 +5,8 @@ use mathlib.Core.Path.{ap₂}
 use Rattle.std.specs.List.{AllByRecursion as Each}
 use Rattle.rga_list.specs.declared.links.Node.{Node}
 use Rattle.rga_list.specs.Entries.{LinkedElements, Entry, elem_before, placed, put_behind, parent_refusal, IsAboveItsSite, AreOfOwn}
-use Rattle.rga_list.specs.SiteIds.{SiteIds}
-use Rattle.rga_list.specs.Links.{order_of, entries_of, ids_at, IsList, following, put_in, first_then}
+use Rattle.rga_list.specs.Internal.SiteIds.{SiteIds}
+use Rattle.rga_list.specs.Internal.Links.{order_of, entries_of, ids_at, IsList, following, put_in, first_then}
 use Rattle.rga_list.proofs.Ordered.{length-entries, row_same, row-below}
 use Rattle.rga_list.proofs.Own.{AreOfOwn-once}
 use Rattle.rga_list.proofs.Reserved.{room-pushed}

@@ -2,7 +2,7 @@
 use Rattle.std.proofs.Common.{◌≡◌, ◌∙◌, ◌-◌, List, ap, subst, sym}
 use Rattle.rga_list.specs.declared.links.Node.{Node}
 use Rattle.rga_list.specs.Entries.{LinkedElements, Entry, behind}
-use Rattle.rga_list.specs.Links.{Ends, Walked, following}
+use Rattle.rga_list.specs.Internal.Links.{Ends, Walked, following}
 use Rattle.rga_list.proofs.Put.{ends}
 use Rattle.rga_list.proofs.Integrated.{parent-within, walk-ended}
 use Rattle.rga_list.proofs.rga.Rga.integrate_ins.Goals as goal

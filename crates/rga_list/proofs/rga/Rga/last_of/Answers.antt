@@ -2,8 +2,8 @@
 use Rattle.std.proofs.Common.{◌≡◌, ◌≢◌, ◌∙◌, ap, arith, get_or, subst, sym}
 use Rattle.std.specs.List.{AllByRecursion}
 use Rattle.rga_list.specs.Entries.{LinkedElements, IsGreatestOf}
-use Rattle.rga_list.specs.SiteIds.{SiteIds, IsGreatest}
-use Rattle.rga_list.specs.Links.{ids_at}
+use Rattle.rga_list.specs.Internal.SiteIds.{SiteIds, IsGreatest}
+use Rattle.rga_list.specs.Internal.Links.{ids_at}
 use Rattle.rga_list.proofs.Ordered.{greatest, no_greatest, above_greatest, above_none, row_same}
 use Rattle.rga_list.proofs.rga.Rga.last_of.Goals as goal
 

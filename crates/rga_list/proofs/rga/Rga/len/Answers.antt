@@ -1,6 +1,6 @@
 use Rattle.std.proofs.Common.{subst}
 use Rattle.rga_list.specs.Entries.{LinkedElements, AreOfOwn}
-use Rattle.rga_list.specs.Links.{order_of}
+use Rattle.rga_list.specs.Internal.Links.{order_of}
 use Rattle.rga_list.proofs.Own.{AreOfOwn-once}
 use Rattle.rga_list.proofs.rga.Rga.len.Goals as goal
 

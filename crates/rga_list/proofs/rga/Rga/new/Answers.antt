@@ -2,8 +2,8 @@
 use Rattle.std.proofs.Common.{◌≡◌, ◌<◌, ℕ, [], None, ap, sym, subst, arith, rules, inl, inr}
 use Rattle.std.proofs.lemmas.Bool.{cases_lt}
 use Rattle.std.proofs.lemmas.List.{get_or_past}
-use Rattle.rga_list.specs.SiteIds.{SiteIds}
-use Rattle.rga_list.specs.Links.{ids_at, IsList}
+use Rattle.rga_list.specs.Internal.SiteIds.{SiteIds}
+use Rattle.rga_list.specs.Internal.Links.{ids_at, IsList}
 use Rattle.rga_list.proofs.Reserved.{IsList-none}
 use Rattle.rga_list.proofs.rga.Rga.new.Goals as goal
 

@@ -2,7 +2,7 @@
 use Rattle.std.proofs.Common.{◌≡◌, ◌∙◌, ◌<◌, ◌≤◌, ap, sym, length, rules, subst, IfSome}
 use Rattle.rga_list.specs.declared.links.Node.{Node}
 use Rattle.rga_list.specs.Entries.{LinkedElements, next_of, elem_after, first_of}
-use Rattle.rga_list.specs.Links.{order_of, node_at}
+use Rattle.rga_list.specs.Internal.Links.{order_of, node_at}
 use Rattle.rga_list.proofs.Ordered.{next_of-within, first-order, after-order, after-beyond, order-within, node_same}
 use Rattle.rga_list.proofs.rga.Rga.next.Goals as goal
 

@@ -1,7 +1,7 @@
 -- A reserve leaves what holds of the list, and the room is there.
 use Rattle.std.proofs.Common.{List, subst, sym, arith}
 use Rattle.rga_list.specs.declared.links.Node.{Node}
-use Rattle.rga_list.specs.Links.{IsList}
+use Rattle.rga_list.specs.Internal.Links.{IsList}
 use Rattle.rga_list.proofs.Reserved.{IsList-same}
 use Rattle.rga_list.proofs.rga.Rga.reserve.Goals as goal
 

@@ -2,7 +2,7 @@
 use Rattle.std.proofs.Common.{◌≡◌, ◌∙◌, ◌<◌, ◌-◌, ℕ, Some, None, sym, subst, ap, arith, get_or, length, rules}
 use Rattle.std.proofs.lemmas.List.Sorted.{answers_always}
 use Rattle.opid.specs.RisingPairs.{AreRising}
-use Rattle.rga_list.specs.SiteIds.{SiteIds, find_id}
+use Rattle.rga_list.specs.Internal.SiteIds.{SiteIds, find_id}
 use Rattle.rga_list.proofs.Identifiers.{find_id-at, halves-found, halves-none}
 use Rattle.rga_list.proofs.table.SiteTable.find.Goals as goal
 

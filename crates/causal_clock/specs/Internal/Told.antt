@@ -1,4 +1,4 @@
--- Which entries of a clock a log stores, as the bits of one number. No public clause cites this: it is the code's alone.
+-- Which entries of a clock a log stores, as the bits of one number.
 use Rattle.std.specs.Prelude.{◌≡◌, ℕ, ◌<◌, ◌^◌, ◌==◌, Bool, not, ◌||◌, if◌then◌else◌, zero, suc, List, [], ◌∷◌, ◌++◌}
 use Rattle.std.specs.Int.{bit_at}
 use Rattle.opid.specs.Clocks.{entry}

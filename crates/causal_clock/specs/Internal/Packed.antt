@@ -1,4 +1,4 @@
--- What holds of a log's parts; no public clause cites these.
+-- What holds of a log's parts.
 use Rattle.std.specs.Prelude.{◌≡◌, ℕ, ◌+◌, ◌*◌, ◌%◌, ◌<◌, ◌≤◌, Bool, true, false, List, [], ◌∷◌, length, take, drop}
 use Rattle.std.specs.Prelude.{replicate, get_or, slice_set}
 use Rattle.std.specs.List.{sum_by}

@@ -1,4 +1,4 @@
--- What a kept node stands for. No public clause cites this: it is the code's alone.
+-- What a kept node stands for.
 use Rattle.std.specs.Prelude.{◌≡◌, ℕ, ◌+◌, ◌*◌, ◌/◌, ◌%◌, ◌==◌, if◌then◌else◌, Bool, true, false, Option, Some, None, refl}
 use Rattle.std.proofs.Common.{◌∙◌, arith, ap, sym, eqb-true}
 use Rattle.std.proofs.lemmas.Bool.{eqb-false}

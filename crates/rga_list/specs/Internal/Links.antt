@@ -1,12 +1,11 @@
--- The elements in vectors, linked by numbers: what the links mean, and what is kept of them; no public
--- clause cites this.
+-- The elements in vectors, linked by numbers: what the links mean, and what is kept of them.
 use Rattle.std.specs.Prelude.{◌≡◌, ◌≢◌, ◌<◌, ◌≤◌, ◌⊎◌, ℕ, zero, suc, true, false, Option, Some, None, List, [], ◌∷◌, ◌++◌, map, length}
 use Rattle.std.specs.Prelude.{slice_index_or, slice_set, ◌+◌}
 use Rattle.std.specs.List.{AllByRecursion}
 use Rattle.opid.specs.declared.stamp.Stamp.{Stamp}
 use Rattle.opid.specs.Stamps.{is_before}
 use Rattle.rga_list.specs.Entries.{Entry}
-use Rattle.rga_list.specs.SiteIds.{SiteIds, find_id}
+use Rattle.rga_list.specs.Internal.SiteIds.{SiteIds, find_id}
 use Rattle.rga_list.specs.declared.links.Node.{Node}
 
 -- what a place past the end is read as

@@ -1,5 +1,4 @@
--- The identifiers of one site: its sums in rising order, each with the element that it names. No public clause cites this: it is
--- the code's alone.
+-- The identifiers of one site: its sums in rising order, each with the element that it names.
 use Rattle.std.specs.Prelude.{◌≡◌, ℕ, ◌≤◌, ◌==◌, if◌then◌else◌, Option, Some, None, List, [], ◌∷◌}
 use Rattle.std.specs.List.{AllByRecursion}
 

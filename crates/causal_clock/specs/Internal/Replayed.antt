@@ -1,9 +1,9 @@
--- What a walk through a log keeps of the operations that it passed; no public clause cites these.
+-- What a walk through a log keeps of the operations that it passed.
 use Rattle.std.specs.Prelude.{◌≡◌, ℕ, ◌<◌, ◌≤◌, List, length, take, drop, get_or, Option, Some, None}
 use Rattle.opid.specs.Operations.{Operation}
 use Rattle.opid.specs.Delivery.{count_of}
 use Rattle.causal_clock.specs.declared.row.Row.{Row}
-use Rattle.causal_clock.specs.Packed.{IsLastBefore, operation_at, logged, AreRows}
+use Rattle.causal_clock.specs.Internal.Packed.{IsLastBefore, operation_at, logged, AreRows}
 
 -- the clock that is kept of a site is that of its last operation before the place
 abbrev pub AreSeen : List (Option (List ℕ)) → List Operation → ℕ → Type 0

@@ -1,0 +1,7 @@
+-- What is the code's alone: how its values are kept, and proofs that its types cite. No public clause cites these files, so nothing
+-- in them has to be believed.
+pub mod Told
+pub mod Packed
+pub mod Replayed
+pub mod Shapes
+pub mod Halves
