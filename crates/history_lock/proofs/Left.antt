@@ -8,19 +8,19 @@ use Rattle.atomic_table.specs.Table.{State, Me, gives, put_back, rest, stepped, 
 use Rattle.atomic_table.specs.Table.{Allows}
 use Rattle.history_lock.specs.declared.pass.Stage.TheVariants.{Inside}
 use Rattle.history_lock.specs.declared.pass.Sight.{Sight}
-use Rattle.history_lock.specs.Sights.{total, left_of, weigh, weight_of, last_or, longer, Among}
+use Rattle.history_lock.specs.Sights.{total, left_of, weigh, weight_of, last_or, NeverFalls, longer, Among}
 use Rattle.history_lock.specs.Sights.{finished}
 use Rattle.history_lock.specs.Lock.{home, out, Stands, Fits, HasTicket, Lock}
 use Rattle.history_lock.specs.Told.{leaves}
 use Rattle.history_lock.proofs.Prefixes.{prefix_self, prefix_trans, prefix_length}
 use Rattle.history_lock.proofs.Prefixes.{longer_prefix, longer_whole, among_prefix, among_append, among_drop}
-use Rattle.history_lock.proofs.Prefixes.{weigh_append, weigh_drop}
+use Rattle.history_lock.proofs.Prefixes.{weigh_append, weigh_drop, rising_snoc}
 use Rattle.history_lock.proofs.Passes.{set_at, total_set, part_of_total}
 use Rattle.history_lock.proofs.Turns.{left_next}
 use Rattle.history_lock.proofs.Line.{stands_on}
 use Rattle.history_lock.proofs.Line.{held_on, each_set}
 
-last_snoc : (n : ℕ) (ends : List ℕ) (m : ℕ) → last_or n (ends ++ m ∷ []) ≡ m
+pub last_snoc : (n : ℕ) (ends : List ℕ) (m : ℕ) → last_or n (ends ++ m ∷ []) ≡ m
 last_snoc n [] m = refl
 last_snoc n (x ∷ xs) m = last_snoc x xs m
 
@@ -62,6 +62,8 @@ module _ {T E : Type 0} (trail : T → List E) (mark : T → ℕ) (begun : ℕ) 
       let e : weigh h v.found ≡ weigh h r.log = ap (weigh h) stood.4 in omega arith in
       let own_made : (h : E → ℕ) → weigh h w.mine ≤ weigh h (trail x) = λ h.
       let q = part_of_total (weight_of h) (set s.views id w) id w (set_at s.views id w v at) in let m = all_made h in omega arith in
+      let longer_by : length r.log ≤ length (trail x) = prefix_length r.log (trail x) longer_log in
+      let last_here : last_or begun v.ends ≡ length r.log = ap (last_or begun) stood.5 ∙ r.last in
       let rule : Lock trail mark begun after =
       record {
         next = r.next;
@@ -76,6 +78,7 @@ module _ {T E : Type 0} (trail : T → List E) (mark : T → ℕ) (begun : ℕ) 
         ends = w.ends;
         turns = length-append v.ends (length (trail x) ∷ [])
             ∙ (let a : length v.ends ≡ r.served = ap length stood.5 ∙ r.turns in omega arith);
+        rising = rising_snoc begun v.ends (length (trail x)) (subst (NeverFalls begun) (sym stood.5) r.rising) (omega arith);
         last = last_snoc begun v.ends (length (trail x));
         lies = (refl, (let m = marked in omega arith));
         each_pass = each_set s.views id w (Fits {T = T} r.next (r.served + 1) (trail x) w.ends (home x) r.holder)
@@ -127,6 +130,8 @@ module _ {T E : Type 0} (trail : T → List E) (mark : T → ℕ) (begun : ℕ) 
                       subst (λ z. IsPrefix v.seen (trail z)) same (onward v.seen f.seen);
                 },
                 let P : T → Type 0 = λ z. (h : E → ℕ) → weigh h (finished v (trail z)).mine ≤ weigh h (trail z) in subst P same own_made,
+                length-append v.ends (length (trail x') ∷ []) ∙ (let a : length v.ends ≡ r.served = ap length stood.5 ∙ r.turns in omega arith),
+                omega arith,
               )),
           refl,
           refl,

@@ -60,6 +60,7 @@ module _ {T E : Type 0} (trail : T → List E) (mark : T → ℕ) (begun : ℕ) 
         draws = omega arith;
         ends = r.ends;
         turns = r.turns;
+        rising = r.rising;
         last = r.last;
         lies = lies_on r.served r.served r.log s.views id v w (omega arith) at not r.place r.lies;
         each_pass = each_set s.views id w (Fits next r.served r.log r.ends r.place holder) mine
@@ -122,6 +123,7 @@ module _ {T E : Type 0} (trail : T → List E) (mark : T → ℕ) (begun : ℕ) 
         draws = omega arith;
         ends = r.ends;
         turns = r.turns;
+        rising = r.rising;
         last = r.last;
         lies = (w, set_at s.views id w v at, in_now);
         each_pass = each_set s.views id w (Fits {T = T} next r.served r.log r.ends (out id) holder) mine

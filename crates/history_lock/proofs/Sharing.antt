@@ -54,6 +54,7 @@ module _ {T E : Type 0} (trail : T → List E) (mark : T → ℕ) (begun : ℕ) 
         draws = omega arith;
         ends = r.ends;
         turns = r.turns;
+        rising = r.rising;
         last = r.last;
         lies = lies_longer trail mark begun r.served r.log views right r.place
             (lies_kept r.served r.log s.views id v left at refl r.place r.lies);
@@ -125,6 +126,7 @@ module _ {T E : Type 0} (trail : T → List E) (mark : T → ℕ) (begun : ℕ) 
         draws = omega arith;
         ends = r.ends;
         turns = r.turns;
+        rising = r.rising;
         last = r.last;
         lies = lies_on trail mark begun r.served r.served r.log views other w spent (omega arith) at'
             (not_inside w.stage Idle idle' idle_not) r.place
@@ -179,6 +181,7 @@ module _ {T E : Type 0} (trail : T → List E) (mark : T → ℕ) (begun : ℕ) 
     draws = omega arith;
     ends = [];
     turns = refl;
+    rising = tt;
     last = sym begins;
     lies = (refl, omega arith);
     each_pass = λ j v e. ⊎_elim (λ (none_there : get_elem? [] j ≡ some v). absurd (some-ne-none v (sym none_there)))

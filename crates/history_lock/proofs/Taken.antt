@@ -1,5 +1,5 @@
 -- The steps by which a pass finds the value keep the rule: looking at its turn, and trying.
-use Rattle.std.proofs.Common.{◌≡◌, ◌≢◌, ℕ, ◌+◌, ◌-◌, ◌<◌, eqb, List, [], ◌∷◌, set, get_or, length}
+use Rattle.std.proofs.Common.{◌≡◌, ◌≢◌, ℕ, ◌+◌, ◌-◌, ◌<◌, ◌≤◌, eqb, List, [], ◌∷◌, set, get_or, length}
 use Rattle.std.proofs.Common.{refl, ap, sym, subst, ◌∙◌, arith}
 use mathlib.Core.Logic.{dite}
 use mathlib.Core.Option.{none, some}
@@ -13,12 +13,13 @@ use Rattle.atomic_table.specs.Table.{Allows}
 use Rattle.atomic_table.proofs.Lists.{exchanged}
 use Rattle.history_lock.specs.declared.pass.Stage.TheVariants.{Waiting, Inside, Peeked}
 use Rattle.history_lock.specs.declared.pass.Sight.{Sight}
-use Rattle.history_lock.specs.Sights.{last_or, longer, Among, opened, drew, took}
+use Rattle.history_lock.specs.Sights.{total, left_of, last_or, longer, Among, opened, drew, took}
 use Rattle.history_lock.specs.Sights.{won, gave_up}
 use Rattle.history_lock.specs.Lock.{slot_at, Stands, HasTicket, Lock}
 use Rattle.history_lock.specs.Told.{looks, tries}
 use Rattle.history_lock.proofs.Prefixes.{prefix_self, prefix_length}
 use Rattle.history_lock.proofs.Prefixes.{longer_prefix, longer_whole, among_prefix}
+use Rattle.history_lock.proofs.Passes.{part_of_total}
 use Rattle.history_lock.proofs.Turns.{found_left}
 use Rattle.history_lock.proofs.Line.{given, given_here, given_else, not_inside, waiting_not, peeked_not}
 use Rattle.history_lock.proofs.Moves.{steps_on, at_home, takes_on}
@@ -51,7 +52,7 @@ module _ {T E : Type 0} (trail : T → List E) (mark : T → ℕ) (begun : ℕ) 
       (λ mine.
       let turn : v.drawn ≡ r.served = sym mine ∙ here in
       let h = at_home trail mark begun s r id v at not (λ _. ap r.holder (sym turn) ∙ stood.2) r.place refl r.lies in
-      let w = took v r.ends (trail h.0) in
+      let w = took v r.ends (trail h.0) in let l : w.left ≡ v.left = refl in
       let value : s.homes ≡ some (Some h.0) ∷ [] = r.slot ∙ ap (λ p. slot_at p ∷ []) h.1 in
       let all_mine = mine_found v r.log (trail h.0) h.2 f.seen f.told f.mine in
       let later : r.served < r.next = (let a = stood.1 in omega arith) in (
@@ -83,6 +84,7 @@ module _ {T E : Type 0} (trail : T → List E) (mark : T → ℕ) (begun : ℕ) 
               mine = all_mine;
               marked =
                   (let b = h.3 in omega arith);
+              below = (let part : v.left ≤ total left_of s.views = part_of_total left_of s.views id v at in let d = r.draws in omega arith);
               account = f.account;
               turns = r.turns ∙ sym here;
               last =
@@ -153,6 +155,7 @@ module _ {T E : Type 0} (trail : T → List E) (mark : T → ℕ) (begun : ℕ) 
               mine = all_mine;
               marked =
                   (let b = h.3 in omega arith);
+              below = (let part : v.left ≤ total left_of s.views = part_of_total left_of s.views id v at in let d = r.draws in omega arith);
               account = f.account;
               turns = r.turns ∙ (turn ∙ sym here);
               last =

@@ -39,6 +39,16 @@ module _ {E : Type 0} where
     begins = prefix_self found;
   }
 
+  -- so what it finds is as long as the last turn left it
+  pub last_left : (v : Sight E) (n : ℕ) (trail : List E) → length v.ends ≡ n → LeftFor v n trail → last_or v.opening v.ends ≡ length trail
+  last_left v n trail turns left =
+      let e : Some (last_or v.opening v.ends) ≡ Some (length trail) =
+      sym (start_last v.opening v.ends) ∙ (ap (λ k. slice_get (starts_of v) k) turns ∙ left.long) in cc e
+
+  -- and what a pass has seen was left for the turn behind all that it knows of
+  pub left_behind : (v : Sight E) → last_or v.opening v.ends ≡ length v.seen → LeftFor v (length v.ends) v.seen
+  left_behind v last = record { long = start_last v.opening v.ends ∙ ap Some last; begins = prefix_self v.seen }
+
   -- what a pass leaves is left for the turn after its own
   pub left_next : (v : Sight E) (n : ℕ) (trail : List E) → length v.ends ≡ n → LeftFor (finished v trail) (n + 1) trail
   left_next v n trail turns = record {
@@ -146,15 +156,17 @@ module _ {E : Type 0} where
 
   -- one pass is told and takes a turn, and then the other
   pub take_turns : (a b a1 a2 a' b0 b1 b' : Sight E) → b0 ≡ b → a' ≡ a2 → Grows a a1 → Grows b a1 → TookTurn a2 → Grows a1 a2
-      → Grows b0 b1 → Grows a2 b1 → TookTurn b' → Grows b1 b' → length b1.ends ≤ b'.drawn
+      → length a1.ends ≤ a2.drawn → Grows b0 b1 → Grows a2 b1 → TookTurn b' → Grows b1 b' → length b1.ends ≤ b'.drawn
       → TookTurns a b a' b'
-  take_turns a b a1 a2 a' b0 b1 b' is is' g h first g' k k' second g'' later =
+  take_turns a b a1 a2 a' b0 b1 b' is is' g h first g' soon k k' second g'' later =
       let P : Sight E → Type 0 = λ u. TookTurns a b u b' in
       let le = prefix_length a2.ends b1.ends k'.account in let l = first.last in
+      let a_knew = prefix_length a.ends a1.ends g.account in let b_knew = prefix_length b.ends a1.ends h.account in
       subst P (sym is') record {
         first = first;
         second = second;
         order = omega arith;
+        later = (omega arith, omega arith);
         grows =
             (grows_trans a a1 a2 g g', grows_trans b a1 a2 h g', grows_trans a2 b1 b' k' g'');
       }

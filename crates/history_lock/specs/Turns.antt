@@ -1,5 +1,5 @@
 -- What a pass knows of the turns of its lock: which trail was left for each. The lock and this account of it are the project's own.
-use Rattle.std.specs.Prelude.{◌≡◌, ℕ, ◌+◌, ◌<◌, List, ◌∷◌, length, Some, slice_get}
+use Rattle.std.specs.Prelude.{◌≡◌, ℕ, ◌+◌, ◌<◌, ◌≤◌, List, ◌∷◌, length, Some, slice_get}
 use mathlib.Core.List.{IsPrefix}
 use Rattle.history_lock.specs.declared.pass.Sight.{Sight}
 
@@ -34,4 +34,6 @@ module _ {E : Type 0} where
     pub first : TookTurn a'
     pub second : TookTurn b'
     pub order : a'.drawn < b'.drawn
+    -- both are later than all turns that either knew of
+    pub later : (length a.ends ≤ a'.drawn) × (length b.ends ≤ a'.drawn)
     pub grows : Grows a a' × Grows b a' × Grows a' b'
