@@ -1,23 +1,24 @@
 -- What a turn with a call leaves.
 use Rattle.std.proofs.Common.{◌≡◌, ◌≢◌, ℕ, zero, suc, ◌+◌, ◌-◌, ◌^◌, ◌<◌, ◌≤◌, ◌↔◌, Bool, true, false, nat_lt, List, [], ◌∷◌, ◌++◌}
 use Rattle.std.proofs.Common.{length, map, drop, Result, Ok, Err, OnOk, OnErr, IfOk, refl, ap, sym, subst, ◌∙◌, arith}
-use Rattle.std.proofs.Common.{append-nil, ltb, ⊎_elim, inl, inr, ◌⊎◌}
+use Rattle.std.proofs.Common.{append-nil, length-append, ltb, max, ⊎_elim, inl, inr, ◌⊎◌}
 use Rattle.std.specs.Prelude.{if◌then◌else◌}
 use mathlib.Core.List.{IsPrefix, map-append}
 use Rattle.std.proofs.lemmas.Bool.Decides.{nat_tests}
 use Rattle.std.proofs.Math.Seq.{drop-append_seam}
+use borrow.Author.Tests.{ltb-true}
 use Rattle.std.specs.declared.alloc.AllocError.{AllocError}
 use Rattle.opid.specs.declared.refusal.Refusal.TheVariants.{HistoryFull, Memory}
 use Rattle.room.specs.declared.call.Call.{Call}
 use Rattle.room.specs.declared.reply.Reply.{Reply}
 use Rattle.room.specs.declared.reply.Reply.TheVariants as replies
 use Rattle.room.specs.Machine.{State, may_record, answer}
-use Rattle.room.specs.History.{Account, AreRisingFrom, state_of, mark_from, mark, called}
+use Rattle.room.specs.History.{Account, state_of, mark, called}
 use Rattle.room.proofs.Histories.{mark_from-push}
 use Rattle.history_lock.specs.declared.pass.Sight.{Sight}
 use Rattle.history_lock.specs.Sights.{finished, drew, took, peeked_at, won, joined, learned, longer}
 use Rattle.history_lock.specs.Turns.{LeftFor, TookTurns}
-use Rattle.history_lock.proofs.Prefixes.{prefix_trans}
+use Rattle.history_lock.proofs.Prefixes.{prefix_trans, prefix_length}
 use Rattle.history_lock.specs.Locks as locks
 use Rattle.shared_room.specs.declared.kept.Item.{Item}
 use Rattle.shared_room.specs.declared.kept.Item.TheVariants.{Opened}
@@ -143,6 +144,8 @@ is_pass room p h idle = record {
       (record { rising = h.whole.0.rising; limit = h.whole.0.limit });
   short = short_calls (locks.sight p.pass) room.lock.table.shared.key.value.room.value h.whole.0.room.value h.opening h.whole.1
       h.whole.0.short;
+  marked = subst (λ (h : List (ℕ × Call)). mark h ≤ length (locks.sight p.pass).ends) (sym (ap calls_of (sym h.whole.1) ∙ calls_made h.whole.0.room.value.history)) h.whole.2;
+  within = h.within;
   owns = owns_calls (locks.sight p.pass).mine (locks.sight p.pass).seen h.whole.0.room.value h.mine h.whole.1 h.whole.0.rising;
   distinct = distinct_calls (locks.sight p.pass).mine h.made.0.room.value h.made.1 h.made.0.rising;
 }
@@ -155,10 +158,14 @@ pub record Begins (s s' : Sight Item) : Type 0 where
   pub left : s'.left + 1 ≡ s.left
   pub lost : s'.lost ≡ s.lost
   pub mine : s'.mine ≡ s.mine
+  pub later : length s.ends ≤ s'.drawn
+  pub turns : length s'.ends ≡ s'.drawn
 
 takes_turn : (s s' : Sight Item) (w : View) → Begins s s' → Keeps (view_of s') w → TakesTurn (view_of s) w
 takes_turn s s' w b k = record {
   begins = subst (λ (l : List (ℕ × Call)). IsPrefix (calls_of s.seen) l) (sym k.found) (calls_prefix s.seen s'.found b.found);
+  later = (let l = b.later in let e = k.drawn in omega arith);
+  turns = (let t = b.turns in let e = k.drawn in let f = k.turns in omega arith);
   left = ap (λ n. n + 1) k.left ∙ b.left;
   lost = k.lost ∙ b.lost;
 }
@@ -197,25 +204,39 @@ memory_after o s s' w c (Err why) b k e is = (
   },
 )
 
+-- what ends a turn leaves all else as it was in it, and the pass knows of one turn more
+pub keeps_after : (s s' : Sight Item) (trail : List Item) → s' ≡ finished s trail → Keeps (view_of s) (view_of s')
+keeps_after s s' trail is = record {
+  found = ap (λ (u : Sight Item). calls_of u.found) is;
+  drawn = ap (λ (u : Sight Item). u.drawn) is;
+  turns = ap (λ (u : Sight Item). length u.ends) is ∙ length-append s.ends (length trail ∷ []);
+  left = ap (λ (u : Sight Item). u.left) is;
+  lost = ap (λ (u : Sight Item). u.lost) is;
+}
+
 pub some_left : (n : ℕ) → (n ≢ 0) → n - 1 + 1 ≡ n
 some_left zero h = absurd (h refl)
 some_left (suc n) h = omega arith
 
 pub begins_drawn : (s s' s'' : Sight Item) (n : ℕ) (ends : List ℕ) (trail : List Item) → (s.left ≢ 0) → s' ≡ drew s n
-    → s'' ≡ took s' ends trail → IsPrefix s'.seen trail → Begins s s''
-begins_drawn s s' s'' n ends trail some is turn begin = record {
+    → s'' ≡ took s' ends trail → IsPrefix s'.seen trail → IsPrefix s'.ends s''.ends → length s''.ends ≡ n → Begins s s''
+begins_drawn s s' s'' n ends trail some is turn begin account turns = record {
   found = subst (λ (l : List Item). IsPrefix s.seen l) (sym (ap (λ (u : Sight Item). u.found) turn))
       (subst (λ (u : Sight Item). IsPrefix u.seen trail) is begin);
   left = ap (λ (u : Sight Item). u.left + 1) turn ∙ (ap (λ (u : Sight Item). u.left + 1) is ∙ some_left s.left some);
   lost = ap (λ (u : Sight Item). u.lost) turn ∙ ap (λ (u : Sight Item). u.lost) is;
   mine = ap (λ (u : Sight Item). u.mine) turn ∙ ap (λ (u : Sight Item). u.mine) is;
+  later =
+      let drawn = ap (λ (u : Sight Item). u.drawn) turn ∙ ap (λ (u : Sight Item). u.drawn) is in
+      let same = ap (λ (u : Sight Item). length u.ends) is in let le = prefix_length s'.ends s''.ends account in omega arith;
+  turns = turns ∙ sym (ap (λ (u : Sight Item). u.drawn) turn ∙ ap (λ (u : Sight Item). u.drawn) is);
 }
 
 pub begins_won : (s s'' : Sight Item) (n : ℕ) (ends : List ℕ) (trail : List Item) → (s.left ≢ 0)
-    → s'' ≡ won (peeked_at s n) n ends trail → IsPrefix s.seen trail → Begins s s''
-begins_won s s'' n ends trail some turn begin =
-    let b = begins_drawn (peeked_at s n) (drew (peeked_at s n) n) s'' n ends trail some refl turn begin in
-    record { found = b.found; left = b.left; lost = b.lost; mine = b.mine }
+    → s'' ≡ won (peeked_at s n) n ends trail → IsPrefix s.seen trail → IsPrefix s.ends s''.ends → length s''.ends ≡ n → Begins s s''
+begins_won s s'' n ends trail some turn begin account turns =
+    let b = begins_drawn (peeked_at s n) (drew (peeked_at s n) n) s'' n ends trail some refl turn begin account turns in
+    record { found = b.found; left = b.left; lost = b.lost; mine = b.mine; later = b.later; turns = b.turns }
 
 -- ---- passes that are joined, or meet, and the end
 
@@ -225,6 +246,13 @@ longer_is {A} xs ys = go (ltb (length xs) (length ys))
     go : (b : Bool) → ((if b then ys else xs) ≡ xs) ⊎ ((if b then ys else xs) ≡ ys)
     go true = inr refl
     go false = inl refl
+
+longer_max : {A : Type 0} (xs ys : List A) → length (longer xs ys) ≡ max (length xs) (length ys)
+longer_max {A} xs ys = go (ltb (length xs) (length ys)) refl
+  where
+    go : (b : Bool) → ltb (length xs) (length ys) ≡ b → length (if b then ys else xs) ≡ max (length xs) (length ys)
+    go true e = grind (arith, ltb-true)
+    go false e = grind (arith, ltb-true)
 
 pub joins_after : (s o n : Sight Item) → n ≡ learned (joined s o) → IsPrefix s.seen n.seen → IsPrefix o.seen n.seen
     → Joins (view_of s) (view_of o) (view_of n)
@@ -243,6 +271,7 @@ joins_after s o n is first second = record {
   lost = ap (λ (u : Sight Item). u.lost) is;
   found = ap (λ (u : Sight Item). calls_of u.found) is;
   drawn = ap (λ (u : Sight Item). u.drawn) is;
+  turns = ap (λ (u : Sight Item). length u.ends) is ∙ longer_max s.ends o.ends;
 }
 
 pub meets_after : {T E : Type 0} (r : Result T E) (a b a' b' : Sight Item) → OnOk r (locks.Meets a b a' b')
@@ -253,6 +282,8 @@ meets_after (Ok done) a b a' b' m took =
       first = (
         record {
           begins = subst (λ (l : List Item). IsPrefix (calls_of a.seen) (calls_of l)) m.found.0 (calls_prefix a.seen a'.seen m.first);
+          later = took.later.0;
+          turns = took.first.last;
           left = m.left.0;
           lost = m.lost.0;
         },
@@ -261,34 +292,22 @@ meets_after (Ok done) a b a' b' m took =
       second = (
         record {
           begins = subst (λ (l : List Item). IsPrefix (calls_of b.seen) (calls_of l)) m.found.1 (calls_prefix b.seen b'.seen second);
+          later = (let l = took.later.1 in let o = took.order in omega arith);
+          turns = took.second.last;
           left = m.left.1;
           lost = m.lost.1;
         },
         record { seen = ap calls_of m.found.1; mine = ap calls_of m.mine.1 },
       );
       order = took.order;
+      later = took.later.1;
       told = calls_prefix b.seen a'.seen m.second;
       both = calls_prefix a'.seen b'.seen m.both;
     }
 
-mark_least : (t : ℕ) (h : List (ℕ × Call)) → AreRisingFrom t h → t ≤ mark_from t h
-mark_least t [] r = omega arith
-mark_least t (e ∷ es) r = let a = r.0 in let b = mark_least (e.0 + 1) es r.2 in omega arith
-
--- calls with rising tickets are no more than those that begin them, where they are marked no higher
-no_more : (t : ℕ) (h more : List (ℕ × Call)) → AreRisingFrom t (h ++ more) → mark_from t (h ++ more) ≤ mark_from t h → h ++ more ≡ h
-no_more t [] [] r le = refl
-no_more t [] (e ∷ es) r le = let a = r.0 in let b = mark_least (e.0 + 1) es r.2 in absurd (omega arith)
-no_more t (e ∷ es) more r le = ap (λ (l : List (ℕ × Call)). e ∷ l) (no_more (e.0 + 1) es more r.2 le)
-
--- so a history that begins with what was seen is just that
-pub closed_exactly : (R room : Account) (seen : List (ℕ × Call)) (left : ℕ) → room ≡ R → IsPrefix seen room.history
-    → AreRisingFrom 0 R.history → mark R.history + left ≤ 2 ^ 62 → mark seen + left ≡ 2 ^ 62 → room.history ≡ seen
-closed_exactly R room seen left same (more, is) rising below all =
-    let history : R.history ≡ seen ++ more = ap (λ (a : Account). a.history) (sym same) ∙ sym is in
-    let r = subst (AreRisingFrom 0) history rising in
-    let b = subst (λ (h : List (ℕ × Call)). mark h + left ≤ 2 ^ 62) history below in
-    sym is ∙ no_more 0 seen more r (omega arith)
+-- who knows of all turns gets a history that is just what was seen
+pub closed_exactly : (R room : Account) (seen : List Item) → room ≡ R → trail_of R ≡ seen → room.history ≡ calls_of seen
+closed_exactly R room seen same is = ap (λ (a : Account). a.history) same ∙ (sym (calls_trail R) ∙ ap calls_of is)
 
 pub closed_after : (K R room : Account) (s : Sight Item) → LeftFor s 0 (trail_of K) → IsPrefix s.seen (trail_of R) → room ≡ R
     → IsPrefix (calls_of s.seen) room.history × (room.opening ≡ K.opening)

@@ -1,5 +1,5 @@
 -- What a turn at a shared room does to what its pass knows. The rules are the server's own.
-use Rattle.std.specs.Prelude.{◌≡◌, ℕ, ◌+◌, ◌-◌, ◌<◌, ◌≤◌, ◌↔◌, ◌⊎◌, [], ◌∷◌, ◌++◌, length, Result, Ok, Err}
+use Rattle.std.specs.Prelude.{◌≡◌, ℕ, ◌+◌, ◌-◌, ◌<◌, ◌≤◌, ◌↔◌, ◌⊎◌, max, [], ◌∷◌, ◌++◌, length, Result, Ok, Err}
 use mathlib.Core.List.{IsPrefix}
 use Rattle.opid.specs.declared.refusal.Refusal.{Refusal}
 use Rattle.opid.specs.declared.refusal.Refusal.TheVariants.{HistoryFull, Memory}
@@ -15,6 +15,9 @@ use Rattle.shared_room.specs.Views.{View}
 -- a turn was taken: it found all that the pass had seen, and more perhaps; one draw is used, and no try is lost
 pub record TakesTurn (v w : View) : Type 0 where
   pub begins : IsPrefix v.seen w.found
+  -- it is later than all turns that the pass knew of, and the last that it knows of
+  pub later : v.turns ≤ w.drawn
+  pub turns : w.turns ≡ w.drawn + 1
   pub left : w.left + 1 ≡ v.left
   pub lost : w.lost ≡ v.lost
 
@@ -63,6 +66,7 @@ EndsTurn opening v w c (Err e) = (e ≡ Memory) × FailsToRecord v w
 pub record Keeps (v w : View) : Type 0 where
   pub found : w.found ≡ v.found
   pub drawn : w.drawn ≡ v.drawn
+  pub turns : w.turns ≡ v.turns + 1
   pub left : w.left ≡ v.left
   pub lost : w.lost ≡ v.lost
 
@@ -74,11 +78,11 @@ Loses v w = w ≡ record v { lost = v.lost + 1 }
 abbrev pub given_away : ℕ → View → View
 given_away n v = record v { left = v.left - n }
 
--- the new pass, which has n draws and has made no call
+-- the new pass, which has n draws, has made no call, and knows of the same turns
 abbrev pub newcomer : ℕ → View → View
-newcomer n v = record { seen = v.seen; found = []; mine = []; drawn = 0; left = n; lost = 0 }
+newcomer n v = record { seen = v.seen; found = []; mine = []; drawn = 0; turns = v.turns; left = n; lost = 0 }
 
--- a pass took in another: both its draws, its calls and its lost tries, and the longer of what the two had seen
+-- a pass took in another: its draws, its calls and its lost tries, and the more of what the two had seen and of the turns that they knew of
 pub record Joins (v w u : View) : Type 0 where
   pub first : IsPrefix v.seen u.seen
   pub second : IsPrefix w.seen u.seen
@@ -88,6 +92,7 @@ pub record Joins (v w u : View) : Type 0 where
   pub lost : u.lost ≡ v.lost + w.lost
   pub found : u.found ≡ v.found
   pub drawn : u.drawn ≡ v.drawn
+  pub turns : u.turns ≡ max v.turns w.turns
 
 -- two passes met: each took a turn, the first before the second, and recorded nothing
 pub record Meets (a b a' b' : View) : Type 0 where
@@ -95,6 +100,8 @@ pub record Meets (a b a' b' : View) : Type 0 where
   pub second : Visits b b'
   -- the first took its turn before the second
   pub order : a'.drawn < b'.drawn
+  -- which was later than all turns that the second knew of
+  pub later : b.turns ≤ a'.drawn
   -- the first has seen what the second had seen
   pub told : IsPrefix b.seen a'.seen
   -- and the second has seen what the first has

@@ -1,8 +1,8 @@
 -- What the public contracts say of a shared room and of its passes, which are the server's own.
-use Rattle.std.specs.Prelude.{◌≡◌, ◌≤◌, ℕ, List, length, Some, slice_get}
+use Rattle.std.specs.Prelude.{◌≡◌, ◌≤◌, ◌+◌, ◌^◌, ℕ, List, length}
 use Rattle.room.specs.declared.call.Call.{Call}
 use Rattle.room.specs.Machine.{State}
-use Rattle.room.specs.History.{IsLegal, state_of}
+use Rattle.room.specs.History.{IsLegal, state_of, mark}
 use Rattle.room.specs.Desks.{Owns, AreDistinct}
 use Rattle.history_lock.specs.declared.pass.Sight.{Sight}
 use Rattle.history_lock.specs.Locks as locks
@@ -22,6 +22,8 @@ pub record View : Type 0 where
   pub mine : List (ℕ × Call)
   -- the ticket that it drew last
   pub drawn : ℕ
+  -- how many finished turns it knows of: so many tickets were served before any that it doesn't know of
+  pub turns : ℕ
   -- how many it may still draw
   pub left : ℕ
   -- how many tries were lost through it, or through passes joined into it
@@ -34,6 +36,7 @@ view_of v = record {
   found = calls_of v.found;
   mine = calls_of v.mine;
   drawn = v.drawn;
+  turns = length v.ends;
   left = v.left;
   lost = v.lost;
 }
@@ -58,7 +61,11 @@ pub record IsPassOf (room : SharedRoom) (p : Pass) : Type 0 where
   pub idle : locks.IsIdle p.pass
   -- what it has seen is a legal history
   pub legal : IsLegal (view p).seen
-  -- which leads to a log within its limit
+  -- whose tickets are those of turns that it knows of
+  pub marked : mark (view p).seen ≤ (view p).turns
+  -- it has at most the draws of all turns that it doesn't know of
+  pub within : (view p).turns + (view p).left ≤ 2 ^ 62
+  -- what it has seen leads to a log within its limit
   pub short : length (state_of (opening room) (view p).seen).log ≤ 131072
   -- in which its own calls stand, each once
   pub owns : Owns (view p).mine (view p).seen

@@ -32,7 +32,7 @@ impl SharedRoom {
         requires { room.history ≡ [] }
         ensures pass { IfOk result (λ r. IsPassOf r.0 r.1) }
         ensures opening { IfOk result (λ r. opening r.0 ≡ room.opening) }
-        ensures opened { IfOk result (λ r. view r.1 ≡ record { seen = []; found = []; mine = []; drawn = 0; left = 2 ^ 62; lost = 0 }) }
+        ensures opened { IfOk result (λ r. view r.1 ≡ record { seen = []; found = []; mine = []; drawn = 0; turns = 0; left = 2 ^ 62; lost = 0 }) }
     {
         let (lock, pass) = TicketLock::new(alloc, KeptRoom::new(alloc, room)?)?;
         Ok((SharedRoom { lock }, Pass { pass }))
@@ -129,15 +129,16 @@ impl SharedRoom {
     /// Ends the sharing by one try: the room, whose history begins with all that the pass has seen. Constant time: it
     /// neither waits nor takes memory.
     ///
-    /// The history is just what the pass has seen, where it has all draws but those of the turns up to the last call that
-    /// it has seen: nobody else can have made a call behind that one.
+    /// The history is just what the pass has seen, where it has all draws but those of the finished turns that it knows of:
+    /// nobody can have taken a turn since. So it is for a pass that was never split, for one that took in all others and took
+    /// a turn since, and for two that met and were joined, where they have all other draws.
     ///
     /// Where a ticket is open the try is lost, and the room and the pass come back, the pass with one lost try more.
     pub fn close(self, pass: Pass) -> Result<Room, (SharedRoom, Pass)>
         requires pass { IsPassOf self pass }
         requires left { 0 < (view pass).left }
         ensures closed { IfOk result (λ room. IsPrefix (view pass).seen room.history × (room.opening ≡ opening self)) }
-        ensures exact { mark (view pass).seen + (view pass).left ≡ 2 ^ 62 → IfOk result (λ room. room.history ≡ (view pass).seen) }
+        ensures exact { (view pass).turns + (view pass).left ≡ 2 ^ 62 → IfOk result (λ room. room.history ≡ (view pass).seen) }
         ensures lost { IfErr result (λ r. (r.0 ≡ self) × IsPassOf r.0 r.1 × Loses (view pass) (view r.1)) }
     {
         let SharedRoom { lock } = self;

@@ -39,7 +39,7 @@ names_of hall = map (λ e. string_bytes e.0) hall.rooms.entries
 
 -- a pass that has seen no call and made none, and may make 2^62
 abbrev pub first_view : View
-first_view = record { seen = []; found = []; mine = []; drawn = 0; left = 2 ^ 62; lost = 0 }
+first_view = record { seen = []; found = []; mine = []; drawn = 0; turns = 0; left = 2 ^ 62; lost = 0 }
 
 -- An empty room of the site for each name, in the order of the names, and the first pass of each.
 pub record IsOpened (site : ℕ) (asked : List (List ℕ)) (hall : Hall) (pass : HallPass) : Type 0 where
