@@ -1,5 +1,5 @@
 -- What a turn with a call leaves.
-use Rattle.std.proofs.Common.{◌≡◌, ◌≢◌, ℕ, zero, suc, ◌+◌, ◌-◌, ◌^◌, ◌<◌, ◌≤◌, ◌↔◌, Bool, true, false, nat_lt, List, [], ◌∷◌, ◌++◌}
+use Rattle.std.proofs.Common.{◌≡◌, ◌≢◌, ℕ, zero, suc, ◌+◌, ◌-◌, ◌<◌, ◌≤◌, ◌↔◌, Bool, true, false, nat_lt, List, [], ◌∷◌, ◌++◌}
 use Rattle.std.proofs.Common.{length, map, drop, Result, Ok, Err, OnOk, OnErr, IfOk, refl, ap, sym, subst, ◌∙◌, arith}
 use Rattle.std.proofs.Common.{append-nil, length-append, ltb, max, ⊎_elim, inl, inr, ◌⊎◌}
 use Rattle.std.specs.Prelude.{if◌then◌else◌}
@@ -7,13 +7,14 @@ use mathlib.Core.List.{IsPrefix, map-append}
 use Rattle.std.proofs.lemmas.Bool.Decides.{nat_tests}
 use Rattle.std.proofs.Math.Seq.{drop-append_seam}
 use borrow.Author.Tests.{ltb-true}
+use Rattle.std.specs.List.{AllByRecursion}
 use Rattle.std.specs.declared.alloc.AllocError.{AllocError}
 use Rattle.opid.specs.declared.refusal.Refusal.TheVariants.{HistoryFull, Memory}
 use Rattle.room.specs.declared.call.Call.{Call}
 use Rattle.room.specs.declared.reply.Reply.{Reply}
 use Rattle.room.specs.declared.reply.Reply.TheVariants as replies
 use Rattle.room.specs.Machine.{State, may_record, answer}
-use Rattle.room.specs.History.{Account, state_of, mark, called}
+use Rattle.room.specs.History.{Account, HandsOperations, state_of, mark, called}
 use Rattle.room.proofs.Histories.{mark_from-push}
 use Rattle.history_lock.specs.declared.pass.Sight.{Sight}
 use Rattle.history_lock.specs.Sights.{finished, drew, took, peeked_at, won, joined, learned, longer}
@@ -142,6 +143,8 @@ is_pass room p h idle = record {
   idle = idle;
   legal = legal_calls (locks.sight p.pass).seen h.whole.0.room.value h.whole.1
       (record { rising = h.whole.0.rising; limit = h.whole.0.limit });
+  hands = subst (AllByRecursion (λ e. HandsOperations e.1)) (sym (ap calls_of (sym h.whole.1) ∙ calls_made h.whole.0.room.value.history))
+      h.whole.0.hands;
   short = short_calls (locks.sight p.pass) room.lock.table.shared.key.value.room.value h.whole.0.room.value h.opening h.whole.1
       h.whole.0.short;
   marked = subst (λ (h : List (ℕ × Call)). mark h ≤ length (locks.sight p.pass).ends) (sym (ap calls_of (sym h.whole.1) ∙ calls_made h.whole.0.room.value.history)) h.whole.2;

@@ -1,8 +1,9 @@
 -- What the public contracts say of a shared room and of its passes, which are the server's own.
-use Rattle.std.specs.Prelude.{◌≡◌, ◌≤◌, ◌+◌, ◌^◌, ℕ, List, length}
+use Rattle.std.specs.Prelude.{◌≤◌, ◌+◌, ◌^◌, ℕ, List, length}
+use Rattle.std.specs.List.{AllByRecursion}
 use Rattle.room.specs.declared.call.Call.{Call}
 use Rattle.room.specs.Machine.{State}
-use Rattle.room.specs.History.{IsLegal, state_of, mark}
+use Rattle.room.specs.History.{IsLegal, HandsOperations, state_of, mark}
 use Rattle.room.specs.Desks.{Owns, AreDistinct}
 use Rattle.history_lock.specs.declared.pass.Sight.{Sight}
 use Rattle.history_lock.specs.Locks as locks
@@ -61,7 +62,9 @@ pub record IsPassOf (room : SharedRoom) (p : Pass) : Type 0 where
   pub idle : locks.IsIdle p.pass
   -- what it has seen is a legal history
   pub legal : IsLegal (view p).seen
-  -- whose tickets are those of turns that it knows of
+  -- whose calls hand over operations, if anything
+  pub hands : AllByRecursion (λ e. HandsOperations e.1) (view p).seen
+  -- and whose tickets are those of turns that it knows of
   pub marked : mark (view p).seen ≤ (view p).turns
   -- it has at most the draws of all turns that it doesn't know of
   pub within : (view p).turns + (view p).left ≤ 2 ^ 62

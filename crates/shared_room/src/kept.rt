@@ -1,12 +1,16 @@
 //! The room under its lock, whose trail is its opening and then the calls that it recorded.
-ghost use Rattle.std.specs.Prelude.{◌≡◌, ◌^◌, ◌<◌, ◌≤◌, ◌↔◌, true, length, OnErr, OnOk, IfOk};
+ghost use Rattle.std.specs.Prelude.{◌≡◌, ◌^◌, ◌<◌, ◌≤◌, ◌↔◌, [], true, length, OnErr, OnOk, IfOk};
 ghost use Rattle.opid.specs.declared.refusal.Refusal.TheVariants.{HistoryFull};
+ghost use Rattle.causal_clock.specs.Kinds.{IsOperation};
 ghost use Rattle.room.specs.declared.reply.Reply.TheVariants.{No};
 ghost use Rattle.room.specs.Machine.{answer, may_record};
-ghost use Rattle.room.specs.History.{state_of, mark, called, AreRisingFrom, IsConsistent};
+ghost use Rattle.std.specs.List.{AllByRecursion};
+ghost use Rattle.room.specs.History.{state_of, mark, called, AreRisingFrom, HandsOperations, IsConsistent};
 ghost use Rattle.room.specs.Legal.{AreRisingFrom-prop};
 ghost use Rattle.shared_room.specs.Trails.{trail_of};
+ghost use Rattle.shared_room.specs.Handing.{AllHand-prop};
 
+use causal_clock::Op;
 use history_lock::Trailed;
 use room::{Call, Reply, Room};
 use std::alloc::{AllocError, Global};
@@ -42,6 +46,7 @@ pub(crate) struct KeptRoom {
     ghost rising: { AreRisingFrom 0 room.value.history } by { AreRisingFrom-prop 0 room.value.history },
     ghost limit: { length room.value.history ≤ 1048576 },
     ghost short: { length (state_of room.value.opening room.value.history).log ≤ 131072 },
+    ghost hands: { AllByRecursion (λ e. HandsOperations e.1) room.value.history } by { AllHand-prop room.value.history },
 }
 
 impl Trailed for KeptRoom {
@@ -53,8 +58,9 @@ impl Trailed for KeptRoom {
 }
 
 impl KeptRoom {
-    /// The room for its lock.
+    /// The room for its lock, which has recorded no call.
     pub(crate) fn new(alloc: Global, room: Room) -> Result<KeptRoom, AllocError>
+        requires { room.history ≡ [] }
         ensures { IfOk result (λ kept. kept.room.value ≡ room) }
     {
         prove!(room.history().len() <= 1_048_576);
@@ -83,6 +89,24 @@ impl KeptRoom {
         ensures consistent { IsConsistent self.new.room.value }
     {
         prove!(self.room.history().len() <= 1_048_576);
+        shows_operations(&call);
         self.room.call(ticket, call)
+    }
+}
+
+// What a call hands over are operations, since each of them tells so.
+fn shows_operations(call: &Call)
+    ensures { HandsOperations call.now }
+{
+    if let Call::Put(ops) = call {
+        show_each(ops.as_slice());
+    }
+}
+
+fn show_each(ops: &[Op])
+    ensures { AllByRecursion IsOperation ops.now }
+{
+    for op in ops {
+        let _ = op.site();
     }
 }

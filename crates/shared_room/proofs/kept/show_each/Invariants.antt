@@ -1,0 +1,8 @@
+use Rattle.std.proofs.Common.{take}
+use Rattle.std.specs.List.{AllByRecursion}
+use Rattle.causal_clock.specs.Kinds.{IsOperation}
+use Rattle.shared_room.proofs.kept.show_each.Given as goal
+
+-- those that were looked at
+abbrev pub invariant-loop-op : goal.invariant-loop-op
+invariant-loop-op l = AllByRecursion IsOperation (take l.op-index l.ops)
