@@ -130,7 +130,8 @@ module _ {T E : Type 0} (trail : T → List E) (mark : T → ℕ) (begun : ℕ) 
                       subst (λ z. IsPrefix v.seen (trail z)) same (onward v.seen f.seen);
                 },
                 let P : T → Type 0 = λ z. (h : E → ℕ) → weigh h (finished v (trail z)).mine ≤ weigh h (trail z) in subst P same own_made,
-                length-append v.ends (length (trail x') ∷ []) ∙ (let a : length v.ends ≡ r.served = ap length stood.5 ∙ r.turns in omega arith),
+                length-append v.ends (length (trail x') ∷ [])
+                    ∙ (let a : length v.ends ≡ r.served = ap length stood.5 ∙ r.turns in omega arith),
                 omega arith,
               )),
           refl,

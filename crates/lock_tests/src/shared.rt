@@ -155,7 +155,7 @@ fn take_turns<R: Wait>(
     room.meet(rt, one, other).is_ok() & all
 }
 
-// The pass takes turns with one of its own making, which has no draw left then.
+// The pass takes turns with one of its own making, which has no draw left then, and takes it in.
 fn two_take_turns<R: Wait>(rt: &R, alloc: Global, room: &SharedRoom, one: &mut Pass) -> bool
     requires { IsPassOf room.now one.old }
     ensures { IsPassOf room.now one.new }
@@ -166,18 +166,37 @@ fn two_take_turns<R: Wait>(rt: &R, alloc: Global, room: &SharedRoom, one: &mut P
     let Ok((first, second)) = two_letters(alloc) else {
         return false;
     };
-    take_turns(rt, room, one, &mut other, first, second) && other.left() == 0
+    let all = take_turns(rt, room, one, &mut other, first, second) && other.left() == 0;
+    room.join(one, other);
+    all
 }
 
-// Whether the six calls are recorded, each under the ticket after the one before. Both put their character in at the front of
+// Whether this is the call that was made at this place.
+fn is_theirs(place: usize, call: &Call) -> bool {
+    match call {
+        Call::Join { units: false } => place < 2,
+        Call::Ins {
+            s,
+            n: 1,
+            v: 0,
+            k: 0,
+            x,
+        } => (*s == 1 && place == 2 && x.as_str() == "a")
+            || (*s == 2 && place == 4 && x.as_str() == "b"),
+        Call::Read => place == 3 || place == 5,
+        _ => false,
+    }
+}
+
+// Whether the six calls are recorded, and no other, each under the ticket after the one before. Both put their character in at the front of
 // version 0, so the later one's stands first.
 fn has_their_calls(room: &Room) -> bool {
     let Ok(text) = text_of(room) else {
         return false;
     };
     let mut all = room.history().len() == 6 && text.as_str() == "ba";
-    for (place, (ticket, _)) in room.history().iter().enumerate() {
-        all &= *ticket == place as u64;
+    for (place, (ticket, call)) in room.history().iter().enumerate() {
+        all &= *ticket == place as u64 && is_theirs(place, call);
     }
     all
 }
@@ -187,6 +206,37 @@ fn passes_take_their_turns_and_meet(rt: HostRuntime) -> Result<(), Fail> {
     let (room, mut one) = shared(rt.alloc(), 0)?;
     let all = two_take_turns(&rt, rt.alloc(), &room, &mut one);
     let has = closed(room, one).is_some_and(|closed| has_their_calls(&closed));
+    assert!(rt; all && has);
+    Ok(())
+}
+
+// A pass makes a call before a meeting and one behind it.
+fn calls_round_a_meeting<R: Wait>(rt: &R, room: &SharedRoom, one: &mut Pass) -> bool
+    requires { IsPassOf room.now one.old }
+    ensures { IsPassOf room.now one.new }
+{
+    let Ok(mut other) = room.split(one, 1) else {
+        return false;
+    };
+    let first = joins(rt, room, one);
+    let met = room.meet(rt, one, &mut other).is_ok();
+    room.join(one, other);
+    room.call(rt, one, Call::Read).is_ok() && met && first
+}
+
+// Whether both calls are recorded, and no other: between them were the two turns of the meeting.
+fn has_both_calls(room: &Room) -> bool {
+    let calls = room.history();
+    calls.len() == 2
+        && matches!(&calls[0], (0, Call::Join { units: false }))
+        && matches!(&calls[1], (3, Call::Read))
+}
+
+#[test]
+fn a_meeting_records_no_call(rt: HostRuntime) -> Result<(), Fail> {
+    let (room, mut one) = shared(rt.alloc(), 0)?;
+    let all = calls_round_a_meeting(&rt, &room, &mut one);
+    let has = closed(room, one).is_some_and(|closed| has_both_calls(&closed));
     assert!(rt; all && has);
     Ok(())
 }

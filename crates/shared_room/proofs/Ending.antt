@@ -138,20 +138,20 @@ lacks_after s R R' counted found same may =
 -- ---- what holds of each pass
 
 pub is_pass : (room : SharedRoom) (p : Pass) → locks.IsPassOf room.lock p.pass → locks.IsIdle p.pass → IsPassOf room p
-is_pass room p h idle = record {
-  pass = h;
-  idle = idle;
-  legal = legal_calls (locks.sight p.pass).seen h.whole.0.room.value h.whole.1
-      (record { rising = h.whole.0.rising; limit = h.whole.0.limit });
-  hands = subst (AllByRecursion (λ e. HandsOperations e.1)) (sym (ap calls_of (sym h.whole.1) ∙ calls_made h.whole.0.room.value.history))
-      h.whole.0.hands;
-  short = short_calls (locks.sight p.pass) room.lock.table.shared.key.value.room.value h.whole.0.room.value h.opening h.whole.1
-      h.whole.0.short;
-  marked = subst (λ (h : List (ℕ × Call)). mark h ≤ length (locks.sight p.pass).ends) (sym (ap calls_of (sym h.whole.1) ∙ calls_made h.whole.0.room.value.history)) h.whole.2;
-  within = h.within;
-  owns = owns_calls (locks.sight p.pass).mine (locks.sight p.pass).seen h.whole.0.room.value h.mine h.whole.1 h.whole.0.rising;
-  distinct = distinct_calls (locks.sight p.pass).mine h.made.0.room.value h.made.1 h.made.0.rising;
-}
+is_pass room p h idle =
+    let s : Sight Item = locks.sight p.pass in let R = h.whole.0.room.value in
+    let history : R.history ≡ calls_of s.seen = sym (ap calls_of (sym h.whole.1) ∙ calls_made R.history) in
+    record {
+      pass = h;
+      idle = idle;
+      legal = legal_calls s.seen R h.whole.1 (record { rising = h.whole.0.rising; limit = h.whole.0.limit });
+      hands = subst (AllByRecursion (λ e. HandsOperations e.1)) history h.whole.0.hands;
+      short = short_calls s room.lock.table.shared.key.value.room.value R h.opening h.whole.1 h.whole.0.short;
+      marked = subst (λ (calls : List (ℕ × Call)). mark calls ≤ length s.ends) history h.whole.2;
+      within = h.within;
+      owns = owns_calls s.mine s.seen R h.mine h.whole.1 h.whole.0.rising;
+      distinct = distinct_calls s.mine h.made.0.room.value h.made.1 h.made.0.rising;
+    }
 
 -- ---- a whole turn
 

@@ -32,7 +32,8 @@ impl SharedRoom {
         requires { room.history ≡ [] }
         ensures pass { IfOk result (λ r. IsPassOf r.0 r.1) }
         ensures opening { IfOk result (λ r. opening r.0 ≡ room.opening) }
-        ensures opened { IfOk result (λ r. view r.1 ≡ record { seen = []; found = []; mine = []; drawn = 0; turns = 0; left = 2 ^ 62; lost = 0 }) }
+        ensures opened { IfOk result (λ r. view r.1
+            ≡ record { seen = []; found = []; mine = []; drawn = 0; turns = 0; left = 2 ^ 62; lost = 0 }) }
     {
         let (lock, pass) = TicketLock::new(alloc, KeptRoom::new(alloc, room)?)?;
         Ok((SharedRoom { lock }, Pass { pass }))

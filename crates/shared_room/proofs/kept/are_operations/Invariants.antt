@@ -1,7 +1,7 @@
 use Rattle.std.proofs.Common.{take}
 use Rattle.std.specs.List.{AllByRecursion}
 use Rattle.causal_clock.specs.Kinds.{IsOperation}
-use Rattle.shared_room.proofs.kept.show_each.Given as goal
+use Rattle.shared_room.proofs.kept.are_operations.Given as goal
 
 -- those that were looked at
 abbrev pub invariant-loop-op : goal.invariant-loop-op
