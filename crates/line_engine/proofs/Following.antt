@@ -51,11 +51,11 @@ module _ (S T : Type 0) (answers : S → List ℕ → List ℕ → S → Type 0)
       let k = all a (cut got) texts b v like s in (k.0, k.1, ((texts, k.2, e), end))
   serves a got left written (Err Ends.Read) b v like (lines, rest, texts, l, m, is, s, e) =
       let k = all a lines texts b v like s in (k.0, k.1, (lines, rest, texts, l, m, is, k.2, e))
-  serves a got left written (Err Ends.Write) b v like (sent, (lines, line, texts, text, mid, reaches, s, h, e, short)) =
+  serves a got left written (Err Ends.Write) b v like (text, sent, (lines, line, texts, mid, reaches, s, h, e, short)) =
       let k = all a lines texts mid v like s in
       let f = each mid line text b k.0 k.1 h in
-      (f.0, f.1, (sent, (lines, line, texts, text, k.0, reaches, k.2, f.2, e, short)))
-  serves a got left written (Err Ends.Memory) b v like (lines, line, texts, text, mid, reaches, s, h, e, short) =
+      (f.0, f.1, (text, sent, (lines, line, texts, k.0, reaches, k.2, f.2, e, short)))
+  serves a got left written (Err Ends.Memory) b v like (text, other, (lines, line, texts, mid, reaches, s, h, e, short)) =
       let k = all a lines texts mid v like s in
       let f = each mid line text b k.0 k.1 h in
-      (f.0, f.1, (lines, line, texts, text, k.0, reaches, k.2, f.2, e, short))
+      (f.0, f.1, (text, other, (lines, line, texts, k.0, reaches, k.2, f.2, e, short)))

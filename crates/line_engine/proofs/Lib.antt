@@ -9,3 +9,4 @@ pub mod Arms
 pub mod Making
 pub mod Following
 pub mod Lending
+pub mod Telling

@@ -53,14 +53,13 @@ Reaches-after left all lines first line each (each', plain, inr (some, is, end))
 
 -- what was served before, and a part of what is served of the bytes behind
 ServesPart-after : {S : Type 0} (answers : S → List ℕ → List ℕ → S → Type 0) (old mid new : S) (lines texts : List (List ℕ)) (all : List ℕ)
-    (left : Option (List ℕ)) (written sent : List ℕ)
-    → All IsLine lines → AreAnswered answers old lines texts mid → ServesPart answers mid all left written sent new
-    → ServesPart answers old (flat_map ended lines ++ all) left (flat_map ended texts ++ written) sent new
-ServesPart-after answers old mid new lines texts all left written sent each h (first, line, others, text, between, is, k, a, w, short) = (
+    (left : Option (List ℕ)) (written text sent : List ℕ)
+    → All IsLine lines → AreAnswered answers old lines texts mid → ServesPart answers mid all left written text sent new
+    → ServesPart answers old (flat_map ended lines ++ all) left (flat_map ended texts ++ written) text sent new
+ServesPart-after answers old mid new lines texts all left written text sent each h (first, line, others, between, is, k, a, w, short) = (
   lines ++ first,
   line,
   texts ++ others,
-  text,
   between,
   Reaches-after left all lines first line each is,
   AreAnswered-append answers old mid between lines first texts others h k,
@@ -94,10 +93,10 @@ Serves-after answers old mid new lines texts all left written (Err Read) each h 
   AreAnswered-append answers old mid new lines more texts others h k,
   ap (λ t. flat_map ended texts ++ t) w ∙ sym (ended-append texts others),
 )
-Serves-after answers old mid new lines texts all left written (Err Write) each h (sent, part) =
-    (sent, ServesPart-after answers old mid new lines texts all left written sent each h part)
-Serves-after answers old mid new lines texts all left written (Err Memory) each h part =
-    ServesPart-after answers old mid new lines texts all left written [] each h part
+Serves-after answers old mid new lines texts all left written (Err Write) each h (text, sent, part) =
+    (text, sent, ServesPart-after answers old mid new lines texts all left written text sent each h part)
+Serves-after answers old mid new lines texts all left written (Err Memory) each h (text, other, part) =
+    (text, other, ServesPart-after answers old mid new lines texts all left written text [] each h part)
 
 -- nothing of a line was sent
 ended-missing : (text : List ℕ) → FallsShort [] (ended text)
@@ -111,9 +110,9 @@ pub Turn-line : {S T : Type 0} (answers : S → List ℕ → List ℕ → S → 
 Turn-line answers old new all left line held text before after (Ok done) is plain a s = (ended text, s, (line, text, is, plain, a, refl))
 Turn-line answers old new all left line held text before after (Err Read) is plain a s = absurd s
 Turn-line answers old new all left line held text before after (Err Write) is plain a s =
-    (s.0, s.1, (s.0, ([], line, [], text, old, (All-nil IsLine, plain, inl (held, is)), refl, a, refl, s.2)))
+    (s.0, s.1, (text, s.0, ([], line, [], old, (All-nil IsLine, plain, inl (held, is)), refl, a, refl, s.2)))
 Turn-line answers old new all left line held text before after (Err Memory) is plain a s =
-    ([], s, ([], line, [], text, old, (All-nil IsLine, plain, inl (held, is)), refl, a, refl, ended-missing text))
+    ([], s.0, (text, s.1, ([], line, [], old, (All-nil IsLine, plain, inl (held, is)), refl, a, refl, ended-missing text)))
 
 -- a turn that serves the last line, without LF
 pub Turn-last : {S T : Type 0} (answers : S → List ℕ → List ℕ → S → Type 0) (old new : S)
@@ -134,9 +133,9 @@ Turn-last answers old new line left held text before after (Ok done) some plain 
 )
 Turn-last answers old new line left held text before after (Err Read) some plain end a s = absurd s
 Turn-last answers old new line left held text before after (Err Write) some plain end a s =
-    (s.0, s.1, (s.0, ([], line, [], text, old, (All-nil IsLine, plain, inr (some, refl, end)), refl, a, refl, s.2)))
+    (s.0, s.1, (text, s.0, ([], line, [], old, (All-nil IsLine, plain, inr (some, refl, end)), refl, a, refl, s.2)))
 Turn-last answers old new line left held text before after (Err Memory) some plain end a s =
-    ([], s, ([], line, [], text, old, (All-nil IsLine, plain, inr (some, refl, end)), refl, a, refl, ended-missing text))
+    ([], s.0, (text, s.1, ([], line, [], old, (All-nil IsLine, plain, inr (some, refl, end)), refl, a, refl, ended-missing text)))
 
 -- a turn whose read failed
 pub Turn-unread : {S : Type 0} (answers : S → List ℕ → List ℕ → S → Type 0) (old : S) (line : List ℕ) (left : Option (List ℕ))

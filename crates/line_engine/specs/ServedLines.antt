@@ -4,6 +4,7 @@ use Rattle.std.specs.Prelude.{◌≡◌, ◌⊎◌, ℕ, ◌<◌, List, [], ◌�
 use Rattle.std.specs.List.{flat_map}
 use Rattle.std.specs.Io.KnownBytes.{IsAtEnd}
 use Rattle.line_engine.specs.Lines.{IsLine, FallsShort, ended, cut}
+use Rattle.line_engine.specs.LineBytes.{TellsNoRefusal}
 use Rattle.line_engine.specs.declared.fault.ServeFault.{ServeFault}
 use Rattle.line_engine.specs.declared.fault.ServeFault.TheVariants.{Read, Write, Memory}
 
@@ -34,20 +35,24 @@ Reaches left got lines line =
     × (((rest : List ℕ) × (got ≡ flat_map ended lines ++ (line ++ 10 ∷ rest)))
     ⊎ ((0 < length line) × (got ≡ flat_map ended lines ++ line) × IsAtEnd left))
 
--- the first lines were answered, and one more, of whose answer's line only these bytes were sent
-abbrev pub ServesPart : {S : Type 0} → (S → List ℕ → List ℕ → S → Type 0) → S → List ℕ → Option (List ℕ) → List ℕ → List ℕ → S → Type 0
-ServesPart {S} answers old got left written sent new =
-    (lines : List (List ℕ)) × (line : List ℕ) × (texts : List (List ℕ)) × (text : List ℕ) × (mid : S)
+-- the first lines were answered, and one more by this text, of whose line only these bytes were sent
+abbrev pub ServesPart : {S : Type 0} → (S → List ℕ → List ℕ → S → Type 0) → S → List ℕ → Option (List ℕ) → List ℕ → List ℕ → List ℕ → S
+    → Type 0
+ServesPart {S} answers old got left written text sent new =
+    (lines : List (List ℕ)) × (line : List ℕ) × (texts : List (List ℕ)) × (mid : S)
     × Reaches left got lines line × AreAnswered answers old lines texts mid × answers mid line text new
     × (written ≡ flat_map ended texts ++ sent) × FallsShort sent (ended text)
 
--- what was served of the bytes that were read, at each end; `left` is what the reader has left, where it tells
+-- what was served of the bytes that were read, at each end; `left` is what the reader has left, where it tells. A refusal never ends it
+-- for want of memory
 abbrev pub Serves : {S T : Type 0} → (S → List ℕ → List ℕ → S → Type 0) → S → List ℕ → Option (List ℕ) → List ℕ → Result T ServeFault → S
     → Type 0
 Serves answers old got left written (Ok done) new = ServesAll answers old got written new × IsAtEnd left
 Serves answers old got left written (Err Read) new = ServesWhole answers old got written new
-Serves answers old got left written (Err Write) new = (sent : List ℕ) × ServesPart answers old got left written sent new
-Serves answers old got left written (Err Memory) new = ServesPart answers old got left written [] new
+Serves answers old got left written (Err Write) new =
+    (text : List ℕ) × (sent : List ℕ) × ServesPart answers old got left written text sent new
+Serves answers old got left written (Err Memory) new =
+    (text : List ℕ) × TellsNoRefusal text × ServesPart answers old got left written text [] new
 
 -- there was no memory for the buffer, and nothing was read or written
 pub record StartsNot {S T : Type 0} (old : S) (got written : List ℕ) (result : Result T ServeFault) (new : S) : Type 0 where

@@ -1,6 +1,7 @@
 -- What holds between the parts of the engine, over one line. No public clause cites it.
 use Rattle.std.specs.Prelude.{◌≡◌, ℕ, ◌+◌, ◌-◌, ◌*◌, ◌^◌, ◌<◌, ◌≤◌, List, [], ◌∷◌, ◌++◌, length, Bool, true, false, Option, None, Some}
 use Rattle.std.specs.Prelude.{Result, Ok, Err}
+use Rattle.line_engine.specs.LineBytes.{TellsNoRefusal}
 use Rattle.line_engine.specs.Lines.{IsLine, FallsShort, ended}
 use Rattle.line_engine.specs.ServedLines.{ServesAll, Serves}
 use Rattle.std.specs.Io.KnownBytes.{IsAtEnd, Consumes, Appends}
@@ -45,12 +46,13 @@ Turn answers old all left held written (Ok true) new =
 Turn answers old all left held written (Ok false) new = ServesAll answers old all written new × IsAtEnd left
 Turn answers old all left held written (Err why) new = Serves {T = Bool} answers old all left written (Err why) new
 
--- the answer's line was written whole; or some of it is missing, at a fault of the writer; or none of it was written, for want of memory
+-- the answer's line was written whole; or some of it is missing, at a fault of the writer; or none of it was written, for want of
+-- memory, which no refusal needs
 abbrev pub SentOn : {T : Type 0} → Option (List ℕ) → Option (List ℕ) → List ℕ → Result T ServeFault → Type 0
 SentOn before after answer (Ok done) = Appends before after (ended answer)
 SentOn before after answer (Err Read) = ⊥
 SentOn before after answer (Err Write) = (sent : List ℕ) × Appends before after sent × FallsShort sent (ended answer)
-SentOn before after answer (Err Memory) = Appends before after []
+SentOn before after answer (Err Memory) = Appends before after [] × TellsNoRefusal answer
 
 -- how the bytes that were read end a line that was too long
 abbrev pub Skips : List ℕ → Option Next → List ℕ → Type 0

@@ -127,8 +127,8 @@ fn goes_on(sent: Result<(), ServeFault>, more: bool) -> Result<bool, ServeFault>
 ///
 /// After `Ok` the input was at its end and every line was answered. After `Read` the answers to all whole lines that
 /// were read were written. After `Write` some bytes of the last answer are missing, and its line was answered. After
-/// `Memory` a line was answered and nothing of its answer was written. A read that a signal interrupts is a fault, and so
-/// is a write that takes nothing. The writer isn't flushed.
+/// `Memory` a line was answered, by no refusal, and nothing of its answer was written. A read that a signal interrupts is a
+/// fault, and so is a write that takes nothing. The writer isn't flushed.
 ///
 /// Reads into all the room behind the bytes held, at least 65,536 bytes, and writes each answer in one call, where the
 /// writer takes it whole. Takes what these calls and `Protocol::answer` take, a few steps for each byte, and memory for what the

@@ -1,17 +1,17 @@
 //! What lines mean: who answers them, and what is an answer.
-ghost use Rattle.std.specs.Prelude.{◌≡◌, IfOk};
+ghost use Rattle.std.specs.Prelude.{◌≡◌, MatchResult};
 
 use crate::reply_line::ReplyLine;
 use std::alloc::{AllocError, Global};
 
 /// A kind of lines: what each is answered by a state, which it may change.
 pub trait Protocol {
-    ghost use Rattle.std.specs.Prelude.{◌≡◌, ◌<◌, ◌≤◌, ℕ, List, length, IfOk};
+    ghost use Rattle.std.specs.Prelude.{◌≡◌, ◌<◌, ◌≤◌, ℕ, List, length, MatchResult};
     ghost use Rattle.room.specs.declared.reply.Reply.TheVariants.{No};
     ghost use Rattle.opid.specs.declared.refusal.Refusal.TheVariants.{TooLong};
     ghost use Rattle.wire_json.specs.Text.{text};
     ghost use Rattle.line_engine.specs.Lines.{ended};
-    ghost use Rattle.line_engine.specs.LineBytes.{line_bytes};
+    ghost use Rattle.line_engine.specs.LineBytes.{line_bytes, TellsNoRefusal};
 
     /// Who answers.
     type State;
@@ -34,7 +34,7 @@ pub trait Protocol {
     /// What is kept before the first line. Each kind of lines tells what it costs.
     fn scratch(alloc: Global) -> Self::Scratch;
 
-    /// Answers a line. An `Err` is for want of memory for the text; what the line did stays.
+    /// Answers a line. An `Err` is for want of memory for the text, which a refusal's never lacks; what the line did stays.
     /// Each kind of lines tells what it costs.
     fn answer(
         alloc: Global,
@@ -45,7 +45,7 @@ pub trait Protocol {
         requires { ready state.old }
         ensures ready { ready state.new }
         ensures answered { (text : List ℕ) × answers state.old line.now text state.new
-            × IfOk result (λ made. line_bytes made ≡ ended text) };
+            × MatchResult result (λ made. line_bytes made ≡ ended text) (λ _. TellsNoRefusal text) };
 
     // The limit is within what the engine's buffer has room for.
     ghost fits: { LIMIT ≤ 65600 };

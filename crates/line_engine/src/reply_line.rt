@@ -1,9 +1,10 @@
 //! The line that is sent for an answer.
-ghost use Rattle.std.specs.Prelude.{◌≡◌, IfOk};
+ghost use Rattle.std.specs.Prelude.{◌≡◌, IfOk, IsOkAnd};
+ghost use Rattle.opid.specs.declared.refusal.Refusal.{Refusal};
 ghost use Rattle.room.specs.declared.reply.Reply.TheVariants.{No};
 ghost use Rattle.wire_json.specs.Text.{text};
 ghost use Rattle.line_engine.specs.Lines.{ended};
-ghost use Rattle.line_engine.specs.LineBytes.{line_bytes};
+ghost use Rattle.line_engine.specs.LineBytes.{line_bytes, IsFixed};
 
 use crate::fixed::refusal_line;
 use opid::Refusal;
@@ -24,7 +25,8 @@ impl ReplyLine {
     /// The line of a reply. An error is for want of memory; a refusal's line needs none. Takes time and memory in
     /// proportion to the text.
     pub fn new(alloc: Global, reply: &Reply) -> Result<ReplyLine, AllocError>
-        ensures { IfOk result (λ made. line_bytes made ≡ ended (text reply.now)) }
+        ensures line { IfOk result (λ made. line_bytes made ≡ ended (text reply.now)) }
+        ensures refusal { (why : Refusal) → reply.now ≡ No why → IsOkAnd result IsFixed }
     {
         if let Reply::No(why) = reply {
             return Ok(ReplyLine::refusal(*why));
@@ -38,7 +40,8 @@ impl ReplyLine {
 
     /// The line of a refusal. Constant time, and no memory.
     pub fn refusal(why: Refusal) -> ReplyLine
-        ensures { line_bytes result ≡ ended (text (No why)) }
+        ensures line { line_bytes result ≡ ended (text (No why)) }
+        ensures fixed { IsFixed result }
     {
         ReplyLine::Fixed(refusal_line(why))
     }
