@@ -9,6 +9,7 @@ use Rattle.tungstenite.specs.declared.error.Error.TheVariants.{ConnectionClosed,
 use Rattle.shared_room.specs.declared.pass.Pass.{Pass}
 use Rattle.shared_room.specs.Views.{View}
 use Rattle.ws_server.specs.declared.conn.Conn.{Conn}
+use Rattle.line_engine.specs.LineBytes.{TellsNoRefusal}
 use Rattle.line_engine.specs.declared.fault.ServeFault.{ServeFault}
 use Rattle.line_engine.specs.declared.fault.ServeFault.TheVariants.{Read, Write, Memory}
 use Rattle.ws_server.specs.declared.hall.Hall.{Hall}
@@ -44,11 +45,12 @@ abbrev pub turn_of : {T : Type 0} → Result T ServeFault → Result Bool ServeF
 turn_of (Ok done) = Ok false
 turn_of (Err why) = Err why
 
--- an answer wasn't sent: there was no memory for its text, and no send was made; or one send failed, for a cause with which a turn
--- ends so
+-- an answer wasn't sent: there was no memory for its text, which is no refusal's, and no send was made; or one send failed, for a cause
+-- with which a turn ends so
 abbrev pub FailsToSend : {C : Type 0} → (C → Content → Result (Unit {0}) Error → C → Type 0) → C → List ℕ → C → ServeFault → Type 0
 FailsToSend sends mid answer last why =
-    ((why ≡ Memory) × (last ≡ mid)) ⊎ ((cause : Error) × sends mid (text answer) (Err cause) last × (fault_of_send cause ≡ why))
+    ((why ≡ Memory) × TellsNoRefusal answer × (last ≡ mid))
+    ⊎ ((cause : Error) × sends mid (text answer) (Err cause) last × (fault_of_send cause ≡ why))
 
 module _ {C G : Type 0} (reads : C → Result Message Error → C → Type 0) (sends : C → Content → Result (Unit {0}) Error → C → Type 0)
     (told_before : G → ℕ → View → G → Type 0) (told_after : G → ℕ → G → Type 0) (hall : Hall) where

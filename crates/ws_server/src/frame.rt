@@ -4,9 +4,9 @@ ghost use Rattle.shared_room.specs.Turns.{Answers, FaultsPass};
 ghost use Rattle.shared_room.specs.Views.{view, opening, IsPassOf};
 ghost use Rattle.line_engine.specs.declared.fault.ServeFault.TheVariants.{Memory};
 ghost use Rattle.line_engine.specs.Lines.{ended};
-ghost use Rattle.line_engine.specs.LineBytes.{line_bytes};
+ghost use Rattle.line_engine.specs.LineBytes.{line_bytes, IsFixed, TellsNoRefusal};
 ghost use Rattle.ws_server.specs.Halls.{rooms_of, IsHallPassOf, IsConnOf};
-ghost use Rattle.ws_server.specs.Frames.{AnswersOver, AnswersFrame, OpensRoom};
+ghost use Rattle.ws_server.specs.Frames.{AnswersOver, AnswersFrame, OpensRoom, IsLineOf};
 ghost use Rattle.ws_server.specs.Gates.{next_call};
 
 use crate::conn::Conn;
@@ -65,7 +65,7 @@ fn answer_over<R: Wait, G: Witness>(
     ensures answered { (answer : List ℕ) × (made : Option ℕ)
         × AnswersOver G.told_before room.now (record { desk = pass.old; calls = calls.old; gate = gate.old; made = None }) bytes.now answer
         (record { desk = pass.new; calls = calls.new; gate = gate.new; made = made })
-        × IfOk result (λ answered. (line_bytes answered.line ≡ ended answer) × (answered.call ≡ made)) }
+        × MatchResult result (λ answered. IsLineOf answer answered.line × (answered.call ≡ made)) (λ _. TellsNoRefusal answer) }
     ensures memory { IfErr result (λ why. why ≡ Memory) }
 {
     match reader.read(alloc, bytes) {
@@ -94,6 +94,7 @@ fn open(alloc: Global, hall: &Hall, opened: &mut Option<usize>, bytes: &[u8]) ->
     requires { opened.old ≡ None }
     ensures opened { (answer : List ℕ) × OpensRoom hall.now bytes.now answer opened.new × (line_bytes result ≡ ended answer) }
     ensures within { IfSome opened.new (λ at. at < length (rooms_of hall.now)) }
+    ensures fixed { IsFixed result }
 {
     let name = match read_open(alloc, bytes) {
         Ok(name) => name,
@@ -126,7 +127,7 @@ pub(crate) fn answer_message<R: Wait, G: Witness>(
         × AnswersFrame G.told_before hall.now (record { conn = conn.old; passes = pass.old.passes.items; gate = gate.old })
         bytes.now answer made
         (record { conn = conn.new; passes = pass.new.passes.items; gate = gate.new })
-        × IfOk result (λ answered. (line_bytes answered.line ≡ ended answer) × (answered.call ≡ made)) }
+        × MatchResult result (λ answered. IsLineOf answer answered.line × (answered.call ≡ made)) (λ _. TellsNoRefusal answer) }
     ensures memory { IfErr result (λ why. why ≡ Memory) }
 {
     match conn.opened {
@@ -154,8 +155,8 @@ pub(crate) fn answer_message<R: Wait, G: Witness>(
 /// room, and a further `open` is one of an unknown kind. Each call is counted, and the gate is told of its number before the
 /// room is asked, when the pass is as it was; what is told after a call is the sender's.
 ///
-/// The only fault is `Memory`, where the text finds none; what the message did stays. Waits for its turn
-/// of the room. Takes time and memory in proportion to the bytes and the answer, and the room's call.
+/// The only fault is `Memory`, where the text finds none, be it a refusal's, which is copied; what the message did stays. Waits for
+/// its turn of the room. Takes time and memory in proportion to the bytes and the answer, and the room's call.
 pub fn answer_frame<R: Wait, G: Witness>(
     rt: &R,
     alloc: Global,

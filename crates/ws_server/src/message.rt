@@ -1,6 +1,6 @@
 //! The text of an answer's line, which is the line less its LF, as a message has it.
-ghost use Rattle.std.specs.Prelude.{◌≡◌, ℕ, List, IfOk, string_bytes};
-ghost use Rattle.line_engine.specs.LineBytes.{line_bytes};
+ghost use Rattle.std.specs.Prelude.{◌≡◌, ℕ, List, IfOk, IsOk, string_bytes};
+ghost use Rattle.line_engine.specs.LineBytes.{line_bytes, IsFixed};
 ghost use Rattle.line_engine.specs.Lines.{ended};
 
 use line_engine::ReplyLine;
@@ -18,10 +18,12 @@ pub(crate) fn text_of(alloc: Global, line: ReplyLine) -> Result<String, AllocErr
     }
 }
 
-/// The text of an answer's line as that of a message. No byte is copied. An error is for want of memory.
+/// The text of an answer's line as that of a message. No byte is copied. An error is for want of memory, which a fixed line doesn't
+/// need.
 pub(crate) fn message_text_of(line: ReplyLine) -> Result<Utf8Bytes, AllocError>
     requires { (answer : List ℕ) × (line_bytes line ≡ ended answer) }
-    ensures { (answer : List ℕ) → line_bytes line ≡ ended answer → IfOk result (λ made. made ≡ answer) }
+    ensures text { (answer : List ℕ) → line_bytes line ≡ ended answer → IfOk result (λ made. made ≡ answer) }
+    ensures fixed { IsFixed line → IsOk result }
 {
     match line {
         ReplyLine::Made(line) => Utf8Bytes::from_string(made_text(line)),

@@ -13,7 +13,7 @@ returns-in-Err-clause-opened c = (
   text (No c.in-Err.why),
   opens_refused c.args.hall.now c.args.bytes.now c.in-Err.why _ c.args.opened.now c.requires c.in-Err.is c.read_open.ensures.too_long
       c.in-Err.ensures.asked,
-  c.refusal.ensures,
+  c.refusal.ensures.line,
 )
 
 pub returns-in-Some-clause-opened : goal.returns-in-Some-clause-opened
@@ -36,5 +36,5 @@ returns-clause-opened c =
       answer,
       opens_at c.args.hall.now c.args.bytes.now (string_bytes c.in-Ok.name) answer c.args.opened.now c.in-Ok.ensures.asked
           (subst P (sym place) (refl, c.requires)),
-      c.refusal-in-None.ensures,
+      c.refusal-in-None.ensures.line,
     )
