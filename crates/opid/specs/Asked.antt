@@ -1,4 +1,5 @@
--- The operations that are asked for by a place in a version of a log, and where an insertion then stands.
+-- The operations that are asked for by a place in a version of a log, and where an insertion then stands. To ask by a version is the
+-- server's own; the tree is that of Attiya and others 2016.
 use Rattle.std.specs.Prelude.{◌≡◌, ℕ, ◌+◌, ◌-◌, Bool, false, not, ◌||◌, ◌==◌, if◌then◌else◌, Option, Some, None, option_map, List, [], ◌∷◌}
 use Rattle.std.specs.Prelude.{◌++◌, map, filter, take, drop, slice_get}
 use Rattle.std.specs.Char.Utf16.{is_low_surrogate}

@@ -1,5 +1,5 @@
 -- An editor of a session: the text and the version that it makes of the replies that it is given, in whatever order
--- and however often they come.
+-- and however often they come. It is the server's own.
 use Rattle.std.specs.Prelude.{◌≡◌, ℕ, Bool, false, ◌+◌, ◌≤◌, ◌==◌, if◌then◌else◌, Option, Some, option_map}
 use Rattle.std.specs.Prelude.{option_and_then, List, [], ◌∷◌, length, take}
 use Rattle.opid.specs.declared.edit.Edit.{Edit}
