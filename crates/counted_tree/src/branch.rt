@@ -40,12 +40,7 @@ impl Branch {
 
 /// The part of the newest tree that a link names, of which the table has a row. Reads one node, or none where the tree is
 /// empty.
-pub fn branch_of(
-    nodes: &Nodes,
-    table: &[PackedRow],
-    link: Option<u32>,
-    steps: &mut Steps,
-) -> Branch
+pub fn branch_of(nodes: &Nodes, table: &[PackedRow], link: Option<u32>, steps: &mut Steps) -> Branch
     requires sound { AreSound nodes.now.nodes }
     requires link { IsLinkBelow (length nodes.now.nodes) link }
     requires row { HasRow table.now (tree_in nodes.now link) }

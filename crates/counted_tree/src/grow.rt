@@ -88,9 +88,7 @@ fn grow_left(
         // Read again, which costs less than to keep all of it.
         let node = look(nodes, at, steps);
         let right = branch_of(nodes, table, node.right, steps);
-        return Grown::Loose(rebuild(
-            nodes, table, left, left_size, node.entry, right, steps,
-        ));
+        return Grown::Loose(rebuild(nodes, table, left, left_size, node.entry, right, steps));
     }
     let on_left = Above {
         elem: node.entry.elem,
@@ -142,15 +140,7 @@ fn grow_right(
         // Read again, which costs less than to keep all of it.
         let node = look(nodes, at, steps);
         let left = branch_of(nodes, table, node.left, steps);
-        return Grown::Loose(rebuild(
-            nodes,
-            table,
-            left,
-            node.left_size,
-            node.entry,
-            right,
-            steps,
-        ));
+        return Grown::Loose(rebuild(nodes, table, left, node.left_size, node.entry, right, steps));
     }
     let on_right = Above {
         elem: node.entry.elem,

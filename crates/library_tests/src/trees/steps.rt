@@ -11,7 +11,11 @@ use std::test::Fail;
 const CALLS: u32 = 1_500;
 
 /// Random insertions in both, among which one call in so many hides an element (0: none does).
-fn grow(tree: &mut VersionTree, recursive: &mut Recursive, hidings: usize) -> Result<(), AllocError> {
+fn grow(
+    tree: &mut VersionTree,
+    recursive: &mut Recursive,
+    hidings: usize,
+) -> Result<(), AllocError> {
     let mut dice = Dice::new(31);
     for _ in 0..CALLS {
         let elements = tree.elements() as u32;
@@ -104,10 +108,12 @@ fn passes_all_by_few_looks(alloc: Global) -> Result<bool, AllocError> {
     let passed = tree.last_greater(Some(first), 6, &mut steps);
     let mut from_the_head = Steps::new();
     let all = tree.last_greater(None, 6, &mut from_the_head);
-    Ok(passed == Some(last)
-        && all == Some(last)
-        && (1..67).contains(&steps.count())
-        && (1..67).contains(&from_the_head.count()))
+    Ok(
+        passed == Some(last)
+            && all == Some(last)
+            && (1..67).contains(&steps.count())
+            && (1..67).contains(&from_the_head.count()),
+    )
 }
 
 #[test]
