@@ -23,7 +23,7 @@ pub record View : Type 0 where
   pub mine : List (ℕ × Call)
   -- the ticket that it drew last
   pub drawn : ℕ
-  -- how many finished turns it knows of: so many tickets were served before any that it doesn't know of
+  -- how many turns it knows of: the first so many, which are finished
   pub turns : ℕ
   -- how many it may still draw
   pub left : ℕ
