@@ -1,7 +1,7 @@
 //! Lines of a script, answered by a world.
-ghost use Rattle.std.specs.Prelude.{◌≡◌, ℕ, List, IfOk};
+ghost use Rattle.std.specs.Prelude.{◌≡◌, ℕ, List, MatchResult};
 ghost use Rattle.line_engine.specs.Lines.{ended};
-ghost use Rattle.line_engine.specs.LineBytes.{line_bytes};
+ghost use Rattle.line_engine.specs.LineBytes.{line_bytes, TellsNoRefusal};
 ghost use Rattle.commands.specs.Worlds.{reply_text, AnswersEvent};
 
 use crate::script::{MAX_LINE_BYTES, read_event};
@@ -54,7 +54,8 @@ impl Protocol for Scripts {
 
 // Answers an event, or tells that memory was refused for it.
 fn take(alloc: Global, world: &mut World, event: Event) -> Result<ReplyLine, AllocError>
-    ensures { (text : List ℕ) × AnswersEvent world.old event text world.new × IfOk result (λ made. line_bytes made ≡ ended text) }
+    ensures { (text : List ℕ) × AnswersEvent world.old event text world.new
+        × MatchResult result (λ made. line_bytes made ≡ ended text) (λ _. TellsNoRefusal text) }
 {
     match world.step(event) {
         Ok(reply) => reply_line(alloc, &reply),
@@ -64,7 +65,7 @@ fn take(alloc: Global, world: &mut World, event: Event) -> Result<ReplyLine, All
 
 // The line of a world's reply.
 fn reply_line(alloc: Global, reply: &WorldReply) -> Result<ReplyLine, AllocError>
-    ensures { IfOk result (λ made. line_bytes made ≡ ended (reply_text reply.now)) }
+    ensures { MatchResult result (λ made. line_bytes made ≡ ended (reply_text reply.now)) (λ _. TellsNoRefusal (reply_text reply.now)) }
 {
     match reply {
         WorldReply::Room(reply) => ReplyLine::new(alloc, reply),

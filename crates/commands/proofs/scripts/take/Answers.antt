@@ -10,4 +10,4 @@ pub returns-in-Ok : goal.returns-in-Ok
 returns-in-Ok c = (reply_text c.in-Ok.reply, inl (ap reply_text c.in-Ok.ensures.reply, c.in-Ok.ensures.next), c.reply_line.ensures)
 
 pub returns-in-Err : goal.returns-in-Err
-returns-in-Err c = (text (No Memory), inr (refl, c.in-Err.ensures.err), c.refusal.ensures)
+returns-in-Err c = (text (No Memory), inr (refl, c.in-Err.ensures.err), c.refusal.ensures.line)

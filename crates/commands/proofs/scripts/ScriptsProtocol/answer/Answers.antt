@@ -17,5 +17,5 @@ returns-in-Err-clause-answered c =
       text (No c.in-Err.why),
       answers_refusal c.args.world.now c.args.line.now c.in-Err.why
           (Err c.in-Err.why) asked.0 refl asked.1 c.in-Err.ensures.too_long asked.2,
-      c.refusal.ensures,
+      c.refusal.ensures.line,
     )
