@@ -131,8 +131,7 @@ impl SharedRoom {
     /// neither waits nor takes memory.
     ///
     /// The history is just what the pass has seen, where it has all draws but those of the finished turns that it knows of:
-    /// nobody can have taken a turn since. So it is for a pass that was never split, for one that took in all others and took
-    /// a turn since, and for two that met and were joined, where they have all other draws.
+    /// nobody can have taken a turn since. So it always is for a pass that was never split.
     ///
     /// Where a ticket is open the try is lost, and the room and the pass come back, the pass with one lost try more.
     pub fn close(self, pass: Pass) -> Result<Room, (SharedRoom, Pass)>
