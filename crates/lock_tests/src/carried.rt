@@ -17,6 +17,9 @@ use std::time::{Clock, Duration};
 // How many characters each thread types.
 const TYPED: u32 = 99;
 
+// How often a thread carries at least, while both rooms are typed in.
+const CARRIES: u32 = 64;
+
 // Two rooms, of which the one carries to the other.
 #[derive(Drop)]
 struct Ends<'a> {
@@ -74,18 +77,24 @@ fn carry_once<R: Wait>(
     carry_lent(&mut from, &mut to, after)
 }
 
-// Carries from the first operation on, until all that both type was carried.
-fn carry_all<R: Wait + Clock>(rt: &R, ends: &Ends<'_>, a: &mut Pass, b: &mut Pass) -> bool
+// Carries from the first operation on, at least so often, until all that both type was carried.
+fn carry_all<R: Wait + Clock>(
+    rt: &R,
+    ends: &Ends<'_>,
+    a: &mut Pass,
+    b: &mut Pass,
+    least: u32,
+) -> bool
     requires { IsPassOf ends.now.from.now a.old × IsPassOf ends.now.to.now b.old }
     ensures { IsPassOf ends.now.from.now a.new × IsPassOf ends.now.to.now b.new }
 {
     let mut after = 0;
-    for _ in 0..TURNS {
+    for n in 0..TURNS {
         match carry_once(rt, ends, a, b, after) {
             Ok(next) => after = next,
             Err(_) => return false,
         }
-        if after == 2 * TYPED {
+        if after == 2 * TYPED && n + 1 >= least {
             return true;
         }
         sleep(rt, Duration::from_micros(10));
@@ -164,7 +173,7 @@ fn type_at_both<R: Threads + Wait + Clock + Sync>(
 fn carry_pair<R: Wait + Clock>(rt: &R, ends: &Ends<'_>, mut pair: Pair) -> bool
     requires { IsPassOf ends.now.from.now pair.a × IsPassOf ends.now.to.now pair.b }
 {
-    carry_all(rt, ends, &mut pair.a, &mut pair.b)
+    carry_all(rt, ends, &mut pair.a, &mut pair.b, CARRIES)
 }
 
 // Two threads carry, one each way.
@@ -243,7 +252,7 @@ fn come_together<R: Threads + Wait + Clock + Sync>(
         return false;
     };
     all &= work(rt, alloc, ends, &turned, typing, there, back);
-    all && carry_all(rt, ends, a, b) && carry_all(rt, &turned, b, a)
+    all && carry_all(rt, ends, a, b, 1) && carry_all(rt, &turned, b, a, 1)
 }
 
 // Whether both rooms read one text, in which each thread's characters all stand.

@@ -6,6 +6,7 @@
 #[cfg(test)]
 mod carried;
 #[cfg(test)]
+mod crowd;
 #[cfg(test)]
 mod lengths;
 #[cfg(test)]
@@ -14,5 +15,7 @@ mod lines;
 mod locks;
 #[cfg(test)]
 mod shared;
+#[cfg(test)]
+mod tries;
 #[cfg(test)]
 mod typing;

@@ -10,8 +10,8 @@ use std::thread::{Threads, join};
 
 // How many turns were taken.
 #[derive(Drop)]
-struct Count {
-    turns: u64,
+pub(crate) struct Count {
+    pub(crate) turns: u64,
 }
 
 impl Trailed for Count {
@@ -23,7 +23,7 @@ impl Trailed for Count {
 }
 
 // Takes the turn of a ticket: its number, and how many turns were taken before it.
-fn take_turn<R: Wait>(
+pub(crate) fn take_turn<R: Wait>(
     rt: &R,
     lock: &TicketLock<Count>,
     ticket: Ticket,

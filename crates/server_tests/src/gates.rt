@@ -166,7 +166,7 @@ fn holds_one<R: Threads + Wait + Clock + Sync>(
     both.0 && both.1
 }
 
-// One of two connections is held, with the first pass or with the second.
+// One of two connections is held, the first or the second.
 fn holds_either<R: Net<Listener = TcpListener, Stream = TcpStream> + Threads + Wait + Clock + Sync>(
     rt: &R,
     alloc: Global,
@@ -180,7 +180,7 @@ fn holds_either<R: Net<Listener = TcpListener, Stream = TcpStream> + Threads + W
     Ok(if is_first_held {
         holds_one(rt, alloc, &hall, first, second, one, other)
     } else {
-        holds_one(rt, alloc, &hall, second, first, one, other)
+        holds_one(rt, alloc, &hall, second, first, other, one)
     })
 }
 

@@ -1,5 +1,5 @@
 use Rattle.shared_room.specs.Views.{IsPassOf}
 use Rattle.lock_tests.proofs.carried.carry_all.Given as goal
 
-abbrev pub invariant-loop : goal.invariant-loop
-invariant-loop g l = IsPassOf l.ends.from.now l.a × IsPassOf l.ends.to.now l.b
+abbrev pub invariant-loop-n : goal.invariant-loop-n
+invariant-loop-n g l = IsPassOf l.ends.from.now l.a × IsPassOf l.ends.to.now l.b
