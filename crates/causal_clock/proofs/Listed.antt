@@ -13,7 +13,7 @@ use Rattle.opid.specs.Delivery.{count_of, clock_of}
 use mathlib.Core.Path.{ap₂}
 use Rattle.causal_clock.specs.Listing.{count_in, clock_with}
 use Rattle.causal_clock.proofs.Changing.{length-fill}
-use Rattle.opid.specs.RisingPairs.{AreRising}
+use Rattle.opid.specs.Internal.RisingPairs.{AreRising}
 use Rattle.causal_clock.proofs.Listings.{IsListing}
 
 -- the counts with each pair's put in

@@ -5,7 +5,7 @@ use Rattle.std.specs.List.{AllByRecursion, list_all, sum_by}
 use Rattle.std.proofs.lemmas.Bool.{and_parts, ltb-true, lt-ltb, cond-true, cond-false, false_from_ne_true}
 use Rattle.std.proofs.lemmas.Bool.Decides.{nat_tests}
 use Rattle.opid.specs.declared.refusal.Refusal.TheVariants.{BadClock}
-use Rattle.opid.specs.RisingPairs.{AreRising}
+use Rattle.opid.specs.Internal.RisingPairs.{AreRising}
 use Rattle.causal_clock.specs.Listing.{clock_with, rises, tells_clock, clock_told}
 
 -- pairs that tell a clock

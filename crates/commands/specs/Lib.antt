@@ -3,4 +3,4 @@ pub mod Plays
 pub mod Endings
 pub mod Script
 pub mod Worlds
-pub mod WorldLaws
+pub mod Internal

@@ -17,7 +17,7 @@ pub(crate) struct Scripts;
 impl Protocol for Scripts {
     ghost use Rattle.std.proofs.Common.{rules};
     ghost use Rattle.commands.specs.Worlds.{AnswersLine};
-    ghost use Rattle.commands.specs.WorldLaws.{AnswersLine-long};
+    ghost use Rattle.commands.specs.Internal.WorldLaws.{AnswersLine-long};
 
     type State = World;
 

@@ -6,16 +6,16 @@ use Rattle.std.specs.Option.{IfSome}
 use Rattle.counted_tree.specs.declared.branch.Branch.{Branch}
 use Rattle.counted_tree.specs.declared.entry.Entry.{Entry}
 use Rattle.counted_tree.specs.declared.node.Node.{Node}
-use Rattle.counted_tree.specs.Size.{IsSizeOf}
+use Rattle.counted_tree.specs.Internal.Size.{IsSizeOf}
 use Rattle.counted_tree.specs.Entry.{least_key}
-use Rattle.counted_tree.specs.Arena.{AreSound}
+use Rattle.counted_tree.specs.Internal.Arena.{AreSound}
 use Rattle.counted_tree.specs.declared.row.Row.{Row}
-use Rattle.counted_tree.specs.Tree.{Tree, entries, height, IsBalanced}
-use Rattle.counted_tree.specs.Tree.Tree.{Leaf, Fork}
-use Rattle.counted_tree.specs.Store.{Store}
-use Rattle.counted_tree.specs.Change.{tree_in}
-use Rattle.counted_tree.specs.Branch.{IsBranchOf, IsBranch}
-use Rattle.counted_tree.specs.Table.{row_of, PointsTo, HasRow}
+use Rattle.counted_tree.specs.Internal.Tree.{Tree, entries, height, IsBalanced}
+use Rattle.counted_tree.specs.Internal.Tree.Tree.{Leaf, Fork}
+use Rattle.counted_tree.specs.Internal.Store.{Store}
+use Rattle.counted_tree.specs.Internal.Change.{tree_in}
+use Rattle.counted_tree.specs.Internal.Branch.{IsBranchOf, IsBranch}
+use Rattle.counted_tree.specs.Internal.Table.{row_of, PointsTo, HasRow}
 use Rattle.counted_tree.proofs.Growth.{linked_balanced}
 use Rattle.counted_tree.proofs.Counts.{height_small, least_within, least-fork}
 use Rattle.counted_tree.proofs.Tables.{IsTopBelow}

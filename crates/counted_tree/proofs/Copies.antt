@@ -3,11 +3,11 @@ use Rattle.std.proofs.Common.{◌≡◌, ℕ, ◌+◌, ◌<◌, [], ◌∷◌, �
 use Rattle.std.proofs.lemmas.List.{length_push}
 use Rattle.counted_tree.specs.declared.node.Node.{Node}
 use Rattle.counted_tree.specs.declared.size.Size.{Size}
-use Rattle.counted_tree.specs.Size.{IsSizeOf}
-use Rattle.counted_tree.specs.Store.{Store}
-use Rattle.counted_tree.specs.Tree.{entries, height}
-use Rattle.counted_tree.specs.Arena.{IsLinkBelow, IsSoundNode, AreSound, trees, tree_of}
-use Rattle.counted_tree.specs.Change.{tree_in, Adds, DifferByAtMost}
+use Rattle.counted_tree.specs.Internal.Size.{IsSizeOf}
+use Rattle.counted_tree.specs.Internal.Store.{Store}
+use Rattle.counted_tree.specs.Internal.Tree.{entries, height}
+use Rattle.counted_tree.specs.Internal.Arena.{IsLinkBelow, IsSoundNode, AreSound, trees, tree_of}
+use Rattle.counted_tree.specs.Internal.Change.{tree_in, Adds, DifferByAtMost}
 use Rattle.counted_tree.proofs.Adding.{adds_push, sound_node, tree_pushed}
 use Rattle.counted_tree.proofs.Growth.{length-trees, link_later, linked_balanced}
 

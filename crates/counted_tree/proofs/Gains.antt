@@ -6,11 +6,11 @@ use Rattle.counted_tree.specs.declared.entry.Entry.{Entry}
 use Rattle.counted_tree.specs.declared.side.Side.{Side}
 use Rattle.counted_tree.specs.declared.side.Side.TheVariants.{Left, Right}
 use Rattle.counted_tree.specs.Entry.{items_of, items, least_key}
-use Rattle.counted_tree.specs.Size.{size_of, ShowsMore}
-use Rattle.counted_tree.specs.Tree.{Tree, entries}
-use Rattle.counted_tree.specs.Tree.Tree.{Leaf, Fork}
-use Rattle.counted_tree.specs.Along.{inserted_at}
-use Rattle.counted_tree.specs.Grown.{Gains}
+use Rattle.counted_tree.specs.Internal.Size.{size_of, ShowsMore}
+use Rattle.counted_tree.specs.Internal.Tree.{Tree, entries}
+use Rattle.counted_tree.specs.Internal.Tree.Tree.{Leaf, Fork}
+use Rattle.counted_tree.specs.Internal.Along.{inserted_at}
+use Rattle.counted_tree.specs.Internal.Grown.{Gains}
 use Rattle.counted_tree.proofs.Counts.{length-items, least-fork, least_within}
 use Rattle.counted_tree.proofs.Places.{length-fork}
 

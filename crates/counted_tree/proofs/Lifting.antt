@@ -10,18 +10,18 @@ use Rattle.counted_tree.specs.declared.row.Row.{Row}
 use Rattle.counted_tree.specs.declared.side.Side.{Side}
 use Rattle.counted_tree.specs.declared.side.Side.TheVariants.{Left, Right}
 use Rattle.counted_tree.specs.declared.size.Size.{Size}
-use Rattle.counted_tree.specs.Size.{IsSizeOf, through}
-use Rattle.counted_tree.specs.Tree.{entries}
-use Rattle.counted_tree.specs.Tree.Tree.{Fork}
-use Rattle.counted_tree.specs.Arena.{trees, tree_of}
-use Rattle.counted_tree.specs.Store.{Store}
-use Rattle.counted_tree.specs.Change.{tree_in, Adds}
+use Rattle.counted_tree.specs.Internal.Size.{IsSizeOf, through}
+use Rattle.counted_tree.specs.Internal.Tree.{entries}
+use Rattle.counted_tree.specs.Internal.Tree.Tree.{Fork}
+use Rattle.counted_tree.specs.Internal.Arena.{trees, tree_of}
+use Rattle.counted_tree.specs.Internal.Store.{Store}
+use Rattle.counted_tree.specs.Internal.Change.{tree_in, Adds}
 use Rattle.counted_tree.specs.Changed.{before}
-use Rattle.counted_tree.specs.Grown.{IsGrown}
-use Rattle.counted_tree.specs.Along.{inserted_at, turned}
-use Rattle.counted_tree.specs.Settled.{grown_link, IsTold}
-use Rattle.counted_tree.specs.Inserted.{IsInserted, IsLift}
-use Rattle.counted_tree.specs.Table.{PointsTo, AreOwn, Hangs}
+use Rattle.counted_tree.specs.Internal.Grown.{IsGrown}
+use Rattle.counted_tree.specs.Internal.Along.{inserted_at, turned}
+use Rattle.counted_tree.specs.Internal.Settled.{grown_link, IsTold}
+use Rattle.counted_tree.specs.Internal.Inserted.{IsInserted, IsLift}
+use Rattle.counted_tree.specs.Internal.Table.{PointsTo, AreOwn, Hangs}
 use Rattle.counted_tree.proofs.Gains.{gains_inserted}
 use Rattle.counted_tree.proofs.Growth.{Reads, reads, length-trees, link_later}
 use Rattle.counted_tree.proofs.Hanging.{hangs_left, hangs_right}

@@ -5,18 +5,18 @@ use Rattle.std.specs.Prelude.{◌^◌}
 use Rattle.std.proofs.lemmas.Bool.{cases_lt, lt-ltb, le-ltb}
 use Rattle.counted_tree.specs.declared.entry.Entry.{Entry}
 use Rattle.counted_tree.specs.Entry.{least_key}
-use Rattle.counted_tree.specs.Tree.{Tree, entries}
-use Rattle.counted_tree.specs.Tree.Tree.{Leaf, Fork}
-use Rattle.counted_tree.specs.Arena.{AreSound}
-use Rattle.counted_tree.specs.Change.{tree_in}
-use Rattle.counted_tree.specs.Store.{Store}
+use Rattle.counted_tree.specs.Internal.Tree.{Tree, entries}
+use Rattle.counted_tree.specs.Internal.Tree.Tree.{Leaf, Fork}
+use Rattle.counted_tree.specs.Internal.Arena.{AreSound}
+use Rattle.counted_tree.specs.Internal.Change.{tree_in}
+use Rattle.counted_tree.specs.Internal.Store.{Store}
 use Rattle.counted_tree.proofs.Counts.{least-fork}
 use Rattle.counted_tree.proofs.Told.{opened}
 use Rattle.std.proofs.lemmas.Option.{slice_get_cases}
 use Rattle.std.specs.Option.{IsSome}
 use Rattle.counted_tree.specs.declared.side.Side.{Side}
 use Rattle.counted_tree.specs.declared.side.Side.TheVariants.{Left, Right}
-use Rattle.counted_tree.specs.Along.{entry_at, after_at, elem_at}
+use Rattle.counted_tree.specs.Internal.Along.{entry_at, after_at, elem_at}
 use Rattle.counted_tree.specs.Greater.{all_greater, passed, last_of, stop}
 
 -- by the least key

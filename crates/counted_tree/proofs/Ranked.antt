@@ -8,12 +8,12 @@ use Rattle.counted_tree.specs.declared.side.Side.{Side}
 use Rattle.counted_tree.specs.declared.side.Side.TheVariants.{Left, Right}
 use Rattle.counted_tree.specs.declared.size.Size.{Size}
 use Rattle.counted_tree.specs.Entry.{items_of}
-use Rattle.counted_tree.specs.Size.{through, IsSizeOf}
-use Rattle.counted_tree.specs.Tree.{Tree, entries}
-use Rattle.counted_tree.specs.Tree.Tree.{Fork}
-use Rattle.counted_tree.specs.Along.{inserted_at, before_at}
+use Rattle.counted_tree.specs.Internal.Size.{through, IsSizeOf}
+use Rattle.counted_tree.specs.Internal.Tree.{Tree, entries}
+use Rattle.counted_tree.specs.Internal.Tree.Tree.{Fork}
+use Rattle.counted_tree.specs.Internal.Along.{inserted_at, before_at}
 use Rattle.counted_tree.specs.Changed.{before}
-use Rattle.counted_tree.specs.Table.{AreOwn}
+use Rattle.counted_tree.specs.Internal.Table.{AreOwn}
 use Rattle.counted_tree.proofs.Gains.{gains_left, gains_right, gains_first, gains_inserted}
 use Rattle.counted_tree.proofs.Paths.{no_items, length-before_at-le}
 use Rattle.counted_tree.proofs.Sizes.{size_few, through_lists, through_small}

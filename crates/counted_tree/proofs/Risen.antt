@@ -13,16 +13,16 @@ use Rattle.counted_tree.specs.declared.side.Side.{Side}
 use Rattle.counted_tree.specs.declared.side.Side.TheVariants.{Left, Right}
 use Rattle.counted_tree.specs.declared.size.Size.{Size}
 use Rattle.counted_tree.specs.Entry.{items_of}
-use Rattle.counted_tree.specs.Size.{size_of, through}
-use Rattle.counted_tree.specs.Tree.{Tree, entries, height}
-use Rattle.counted_tree.specs.Tree.Tree.{Leaf, Fork}
-use Rattle.counted_tree.specs.Arena.{AreSound, trees, tree_of}
-use Rattle.counted_tree.specs.Along.{entry_at, inserted_at, turned, under}
-use Rattle.counted_tree.specs.Store.{Store}
-use Rattle.counted_tree.specs.Change.{tree_in, DifferByAtMost, IsRebuilt}
-use Rattle.counted_tree.specs.Settled.{KeepsRow}
-use Rattle.counted_tree.specs.Inserted.{IsFit, IsInserted, IsLift, IsRisen, AreAlong}
-use Rattle.counted_tree.specs.Table.{Hangs}
+use Rattle.counted_tree.specs.Internal.Size.{size_of, through}
+use Rattle.counted_tree.specs.Internal.Tree.{Tree, entries, height}
+use Rattle.counted_tree.specs.Internal.Tree.Tree.{Leaf, Fork}
+use Rattle.counted_tree.specs.Internal.Arena.{AreSound, trees, tree_of}
+use Rattle.counted_tree.specs.Internal.Along.{entry_at, inserted_at, turned, under}
+use Rattle.counted_tree.specs.Internal.Store.{Store}
+use Rattle.counted_tree.specs.Internal.Change.{tree_in, DifferByAtMost, IsRebuilt}
+use Rattle.counted_tree.specs.Internal.Settled.{KeepsRow}
+use Rattle.counted_tree.specs.Internal.Inserted.{IsFit, IsInserted, IsLift, IsRisen, AreAlong}
+use Rattle.counted_tree.specs.Internal.Table.{Hangs}
 use Rattle.counted_tree.proofs.Copies.{copied_left, copied_right}
 use Rattle.counted_tree.proofs.Counts.{one_at_most, two_at_most, units_few}
 use Rattle.counted_tree.proofs.Gains.{gains_one, gains_size, gains_inserted}

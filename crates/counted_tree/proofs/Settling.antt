@@ -6,10 +6,10 @@ use Rattle.counted_tree.specs.declared.entry.Entry.{Entry}
 use Rattle.counted_tree.specs.declared.row.Row.{Row}
 use Rattle.counted_tree.specs.declared.side.Side.TheVariants.{Left, Right}
 use Rattle.counted_tree.specs.Entry.{least_key}
-use Rattle.counted_tree.specs.Tree.{Tree, entries, height}
-use Rattle.counted_tree.specs.Tree.Tree.{Fork}
-use Rattle.counted_tree.specs.Settled.{KeepsRow}
-use Rattle.counted_tree.specs.Table.{PointsTo, IsReady, Hangs, pointed}
+use Rattle.counted_tree.specs.Internal.Tree.{Tree, entries, height}
+use Rattle.counted_tree.specs.Internal.Tree.Tree.{Fork}
+use Rattle.counted_tree.specs.Internal.Settled.{KeepsRow}
+use Rattle.counted_tree.specs.Internal.Table.{PointsTo, IsReady, Hangs, pointed}
 use Rattle.counted_tree.proofs.Counts.{least-fork}
 use Rattle.counted_tree.proofs.Tables.{absent_top, apart_turned, own_split, pointed_others}
 

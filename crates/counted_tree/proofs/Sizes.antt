@@ -7,9 +7,9 @@ use Rattle.std.specs.Option.{IfSome}
 use Rattle.counted_tree.specs.declared.entry.Entry.{Entry}
 use Rattle.counted_tree.specs.declared.size.Size.{Size}
 use Rattle.counted_tree.specs.Entry.{visible, items_of, items, units}
-use Rattle.counted_tree.specs.Size.{size_of, through, beyond, IsSizeOf, ShowsMore}
-use Rattle.counted_tree.specs.Tree.{Tree, entries}
-use Rattle.counted_tree.specs.Tree.Tree.{Fork}
+use Rattle.counted_tree.specs.Internal.Size.{size_of, through, beyond, IsSizeOf, ShowsMore}
+use Rattle.counted_tree.specs.Internal.Tree.{Tree, entries}
+use Rattle.counted_tree.specs.Internal.Tree.Tree.{Fork}
 use Rattle.counted_tree.specs.Changed.{Lists, put_after, put}
 use Rattle.counted_tree.proofs.Counts.{two_at_most, length-items, length-items-le, length-visible-le}
 use Rattle.counted_tree.proofs.Places.{length-fork}

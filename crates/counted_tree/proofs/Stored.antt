@@ -10,8 +10,8 @@ use Rattle.counted_tree.specs.declared.node.Node.{Node}
 use Rattle.counted_tree.specs.declared.entry.Entry.{Entry}
 use Rattle.counted_tree.specs.Entry.{key_and_width_of, IsKnown}
 use Rattle.counted_tree.specs.declared.packed_node.PackedNode.{PackedNode}
-use Rattle.counted_tree.specs.PackedNode.{elem_of, node_of}
-use Rattle.counted_tree.specs.Store.{nodes_of, AreElemsBelow}
+use Rattle.counted_tree.specs.Internal.PackedNode.{elem_of, node_of}
+use Rattle.counted_tree.specs.Internal.Store.{nodes_of, AreElemsBelow}
 
 -- the element of a node is one of them
 pub elem_below_at : (n : ℕ) (packed : List PackedNode) (i : ℕ) (r : PackedNode) → AreElemsBelow n packed → slice_get packed i ≡ Some r

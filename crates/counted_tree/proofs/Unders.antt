@@ -7,15 +7,15 @@ use Rattle.counted_tree.specs.declared.entry.Entry.{Entry}
 use Rattle.counted_tree.specs.declared.row.Row.{Row}
 use Rattle.counted_tree.specs.declared.side.Side.{Side}
 use Rattle.counted_tree.specs.declared.side.Side.TheVariants.{Left, Right}
-use Rattle.counted_tree.specs.Tree.{Tree, entries, height}
-use Rattle.counted_tree.specs.Tree.Tree.{Leaf, Fork}
-use Rattle.counted_tree.specs.Along.{entry_at, turned, under}
-use Rattle.counted_tree.specs.Arena.{IsLinkBelow, AreSound}
-use Rattle.counted_tree.specs.Store.{Store}
-use Rattle.counted_tree.specs.Change.{tree_in}
+use Rattle.counted_tree.specs.Internal.Tree.{Tree, entries, height}
+use Rattle.counted_tree.specs.Internal.Tree.Tree.{Leaf, Fork}
+use Rattle.counted_tree.specs.Internal.Along.{entry_at, turned, under}
+use Rattle.counted_tree.specs.Internal.Arena.{IsLinkBelow, AreSound}
+use Rattle.counted_tree.specs.Internal.Store.{Store}
+use Rattle.counted_tree.specs.Internal.Change.{tree_in}
 use Rattle.counted_tree.specs.declared.insert.Inserted.{Inserted}
 use Rattle.counted_tree.specs.declared.node.Node.{Node}
-use Rattle.counted_tree.specs.Inserted.{IsFit, IsInserted, IsLift, AreAlong}
+use Rattle.counted_tree.specs.Internal.Inserted.{IsFit, IsInserted, IsLift, AreAlong}
 use Rattle.counted_tree.proofs.Levels.{down_left, down_right}
 
 -- one step more

@@ -1,10 +1,10 @@
 //! A tree beside what a node over it has to know.
 ghost use Rattle.std.specs.Prelude.{◌≡◌, ◌+◌, ◌≤◌, length, None};
-ghost use Rattle.counted_tree.specs.Arena.{IsLinkBelow, AreSound};
-ghost use Rattle.counted_tree.specs.Branch.{IsBranchOf, IsBranch};
-ghost use Rattle.counted_tree.specs.Change.{tree_in};
-ghost use Rattle.counted_tree.specs.Table.{HasRow};
-ghost use Rattle.counted_tree.specs.Tree.Tree.{Leaf};
+ghost use Rattle.counted_tree.specs.Internal.Arena.{IsLinkBelow, AreSound};
+ghost use Rattle.counted_tree.specs.Internal.Branch.{IsBranchOf, IsBranch};
+ghost use Rattle.counted_tree.specs.Internal.Change.{tree_in};
+ghost use Rattle.counted_tree.specs.Internal.Table.{HasRow};
+ghost use Rattle.counted_tree.specs.Internal.Tree.Tree.{Leaf};
 
 use crate::build::look;
 use crate::entry::KEYS;

@@ -1,12 +1,12 @@
 //! How far one comes past entries with a greater key: by the least keys of whole subtrees.
 ghost use Rattle.std.specs.Prelude.{◌≡◌, ◌+◌, ◌-◌, ◌*◌, ◌^◌, ◌≤◌, min, length, true, None, IsSome};
-ghost use Rattle.counted_tree.specs.Tree.{entries, height};
-ghost use Rattle.counted_tree.specs.Arena.{IsLinkBelow, AreSound};
-ghost use Rattle.counted_tree.specs.Change.{tree_in};
-ghost use Rattle.counted_tree.specs.Along.{entry_at, after_at, elem_at};
+ghost use Rattle.counted_tree.specs.Internal.Tree.{entries, height};
+ghost use Rattle.counted_tree.specs.Internal.Arena.{IsLinkBelow, AreSound};
+ghost use Rattle.counted_tree.specs.Internal.Change.{tree_in};
+ghost use Rattle.counted_tree.specs.Internal.Along.{entry_at, after_at, elem_at};
 ghost use Rattle.counted_tree.specs.Greater.{all_greater, passed, last_of, stop};
 ghost use Rattle.counted_tree.specs.Steps.{IsCounted};
-ghost use Rattle.counted_tree.specs.Table.{HasRow, IsKept};
+ghost use Rattle.counted_tree.specs.Internal.Table.{HasRow, IsKept};
 
 use crate::build::look;
 use crate::nodes::Nodes;

@@ -4,14 +4,14 @@ ghost use Rattle.std.specs.Prelude.{◌≡◌, ℕ, ◌+◌, ◌-◌, ◌*◌, �
 ghost use Rattle.counted_tree.specs.declared.above.Above.{Above};
 ghost use Rattle.counted_tree.specs.declared.grown.Grown.TheVariants.{Settled, Loose};
 ghost use Rattle.counted_tree.specs.declared.side.Side.TheVariants.{Left, Right};
-ghost use Rattle.counted_tree.specs.Size.{IsSizeOf};
-ghost use Rattle.counted_tree.specs.Tree.{entries, height};
-ghost use Rattle.counted_tree.specs.Arena.{IsSoundNode, AreSound, trees, tree_of};
-ghost use Rattle.counted_tree.specs.Branch.{IsBranch};
-ghost use Rattle.counted_tree.specs.Change.{tree_in, Adds};
-ghost use Rattle.counted_tree.specs.Grown.{Gains, MayRise, IsGrown};
-ghost use Rattle.counted_tree.specs.Settled.{grown_link, IsTold};
-ghost use Rattle.counted_tree.specs.Table.{HasRow, PointsTo, IsReady, Hangs};
+ghost use Rattle.counted_tree.specs.Internal.Size.{IsSizeOf};
+ghost use Rattle.counted_tree.specs.Internal.Tree.{entries, height};
+ghost use Rattle.counted_tree.specs.Internal.Arena.{IsSoundNode, AreSound, trees, tree_of};
+ghost use Rattle.counted_tree.specs.Internal.Branch.{IsBranch};
+ghost use Rattle.counted_tree.specs.Internal.Change.{tree_in, Adds};
+ghost use Rattle.counted_tree.specs.Internal.Grown.{Gains, MayRise, IsGrown};
+ghost use Rattle.counted_tree.specs.Internal.Settled.{grown_link, IsTold};
+ghost use Rattle.counted_tree.specs.Internal.Table.{HasRow, PointsTo, IsReady, Hangs};
 
 use crate::above::Above;
 use crate::branch::{Branch, branch_of};

@@ -1,7 +1,7 @@
 //! A link to a node as it is kept in a node or a root: in 22 bits.
 ghost use Rattle.std.specs.Prelude.{◌≡◌, ◌+◌, ◌^◌, ◌<◌};
 ghost use Rattle.std.specs.Option.{ForSome};
-ghost use Rattle.counted_tree.specs.Link.{link_of};
+ghost use Rattle.counted_tree.specs.Internal.Link.{link_of};
 
 /// The number that a link is kept as. None is kept as 0, and each node's number as the one after it.
 pub fn kept_of(link: Option<u32>) -> u32

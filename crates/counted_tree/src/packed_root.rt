@@ -26,7 +26,7 @@ impl Model for PackedRoot {
 
     ghost Value = { Root };
 
-    ghost use Rattle.counted_tree.specs.PackedRoot.{unpacked_root};
+    ghost use Rattle.counted_tree.specs.Internal.PackedRoot.{unpacked_root};
 
     ghost view = { λ r. unpacked_root r.kept };
 }

@@ -1,6 +1,6 @@
 //! A row of the newest tree's table as it is kept: eight bytes.
 ghost use Rattle.std.specs.Prelude.{◌≡◌, ◌^◌, ◌<◌, ◌≤◌, IfSome};
-ghost use Rattle.counted_tree.specs.PackedRow.{above_of};
+ghost use Rattle.counted_tree.specs.Internal.PackedRow.{above_of};
 
 use crate::above::Above;
 use crate::row::Row;
@@ -26,7 +26,7 @@ impl Model for PackedRow {
 
     ghost Value = { Row };
 
-    ghost use Rattle.counted_tree.specs.PackedRow.{unpacked_row};
+    ghost use Rattle.counted_tree.specs.Internal.PackedRow.{unpacked_row};
 
     ghost view = { unpacked_row };
 }

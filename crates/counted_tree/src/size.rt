@@ -1,7 +1,7 @@
 //! How much is shown: what a node knows of its left side, and a root of its version.
 ghost use Rattle.std.specs.Prelude.{◌≡◌, ◌+◌, ◌-◌, ◌^◌, ◌<◌, ◌≤◌, length, if◌then◌else◌, true, false};
 ghost use Rattle.counted_tree.specs.Entry.{items_of};
-ghost use Rattle.counted_tree.specs.Size.{size_of, through, beyond};
+ghost use Rattle.counted_tree.specs.Internal.Size.{size_of, through, beyond};
 
 use crate::entry::Entry;
 

@@ -37,8 +37,8 @@ pub struct VersionTree {
 impl Model for VersionTree {
     ghost use Rattle.std.specs.Prelude.{◌≡◌, ◌+◌, ◌≤◌, length, vec_len, vec_capacity};
     ghost use Rattle.counted_tree.specs.Versions.{Versions, newest_root, lists_of, AreVersions};
-    ghost use Rattle.counted_tree.specs.Change.{tree_in};
-    ghost use Rattle.counted_tree.specs.Table.{IsNewest};
+    ghost use Rattle.counted_tree.specs.Internal.Change.{tree_in};
+    ghost use Rattle.counted_tree.specs.Internal.Table.{IsNewest};
 
     ghost Value = { Versions };
 

@@ -1,9 +1,9 @@
 //! The nodes on the way down a tree.
 ghost use Rattle.std.specs.Prelude.{◌≡◌, ◌+◌, ◌<◌, ◌≤◌, length, IsSome, Some};
-ghost use Rattle.counted_tree.specs.Arena.{AreSound};
-ghost use Rattle.counted_tree.specs.Change.{tree_in};
-ghost use Rattle.counted_tree.specs.Along.{entry_at};
-ghost use Rattle.counted_tree.specs.Inserted.{AreAlong};
+ghost use Rattle.counted_tree.specs.Internal.Arena.{AreSound};
+ghost use Rattle.counted_tree.specs.Internal.Change.{tree_in};
+ghost use Rattle.counted_tree.specs.Internal.Along.{entry_at};
+ghost use Rattle.counted_tree.specs.Internal.Inserted.{AreAlong};
 
 use crate::build::look;
 use crate::climb::MAX_HEIGHT;

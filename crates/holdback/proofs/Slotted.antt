@@ -14,7 +14,7 @@ use Rattle.std.proofs.lemmas.Map.Keys.{IsDistinct-IsPermutation}
 use Rattle.std.proofs.Math.Seq.{take-suc, take-length, get_or-append_seam}
 use Rattle.opid.specs.Operations.{Operation}
 use Rattle.holdback.proofs.Numbers.{one_removed}
-use Rattle.holdback.specs.Slots.{arranged, in_no_slot, AreSlots}
+use Rattle.holdback.specs.Internal.Slots.{arranged, in_no_slot, AreSlots}
 
 pub arranged_length : (slots : List Operation) (order : List ℕ) (n : ℕ) → n ≤ length order → length (arranged slots order n) ≡ n
 arranged_length slots order n l = length-map (take n order) (λ s. get_or slots s in_no_slot) ∙ length-take-le n order l

@@ -2,6 +2,5 @@
 pub mod Same
 pub mod Offered
 pub mod Ready
-pub mod Packed
-pub mod Slots
 pub mod First
+pub mod Internal

@@ -9,7 +9,7 @@ ghost use Rattle.opid.specs.Operations.{number_of};
 ghost use Rattle.holdback.specs.declared.held.Arrival.TheVariants as arrivals;
 ghost use Rattle.holdback.specs.Same.{is_same_operation};
 ghost use Rattle.holdback.specs.Offered.{look_for, offered, after_arrival};
-ghost use Rattle.holdback.specs.Packed.{unpacked, AreDue, NoneDue, NoneReadyIn, IsFirstReadyIn};
+ghost use Rattle.holdback.specs.Internal.Packed.{unpacked, AreDue, NoneDue, NoneReadyIn, IsFirstReadyIn};
 ghost use Rattle.holdback.specs.Ready.{first_ready, without_first_ready};
 
 use crate::in_order::InOrder;
@@ -46,7 +46,7 @@ impl Model for Held {
     ghost use Rattle.std.specs.Prelude.{◌≡◌, ◌≤◌, map, length, vec_capacity};
     ghost use Rattle.opid.specs.Operations.{number_of};
     ghost use Rattle.holdback.specs.Offered.{HeldOperations};
-    ghost use Rattle.holdback.specs.Packed.{unpacked};
+    ghost use Rattle.holdback.specs.Internal.Packed.{unpacked};
 
     ghost Value = { HeldOperations };
 

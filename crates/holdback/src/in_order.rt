@@ -22,7 +22,7 @@ pub(crate) struct InOrder {
 impl Model for InOrder {
     ghost use Rattle.std.specs.Prelude.{◌≡◌, ◌≤◌, vec_len, vec_capacity};
     ghost use Rattle.holdback.specs.Offered.{HeldOperations};
-    ghost use Rattle.holdback.specs.Slots.{arranged, AreSlots};
+    ghost use Rattle.holdback.specs.Internal.Slots.{arranged, AreSlots};
 
     ghost Value = { HeldOperations };
 

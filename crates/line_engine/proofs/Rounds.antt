@@ -5,7 +5,7 @@ use Rattle.std.specs.Io.KnownBytes.{Consumes, Appends}
 use Rattle.std.proofs.lemmas.List.Elements.{All-push}
 use Rattle.line_engine.specs.Lines.{IsLine, ended}
 use Rattle.line_engine.specs.ServedLines.{AreAnswered, Serves}
-use Rattle.line_engine.specs.Turns.{Turn}
+use Rattle.line_engine.specs.Internal.Turns.{Turn}
 use Rattle.line_engine.specs.declared.fault.ServeFault.{ServeFault}
 use Rattle.line_engine.specs.declared.fault.ServeFault.TheVariants.{Read, Write, Memory}
 use Rattle.line_engine.proofs.Known.{Consumes-then, Appends-then}

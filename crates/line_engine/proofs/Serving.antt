@@ -5,7 +5,7 @@ use Rattle.std.specs.List.{flat_map}
 use Rattle.std.proofs.lemmas.List.Elements.{All-append, All-nil}
 use Rattle.line_engine.specs.Lines.{IsLine, FallsShort, ended, cut}
 use Rattle.line_engine.specs.ServedLines.{AreAnswered, Serves, ServesPart, Reaches}
-use Rattle.line_engine.specs.Turns.{Turn, SentOn, after_sending}
+use Rattle.line_engine.specs.Internal.Turns.{Turn, SentOn, after_sending}
 use Rattle.std.specs.Io.KnownBytes.{Appends, IsAtEnd}
 use Rattle.std.proofs.lemmas.List.{append-nil}
 use Rattle.line_engine.specs.declared.fault.ServeFault.{ServeFault}

@@ -1,10 +1,9 @@
 pub mod Lines
 pub mod AnsweredRequests
-pub mod AnswerLaws
 pub mod LineBytes
 pub mod ServedLines
 pub mod Calls
 pub mod Counting
-pub mod Turns
 pub mod PassSteps
 pub mod Carrying
+pub mod Internal

@@ -8,7 +8,7 @@ ghost use Rattle.line_engine.specs.AnsweredRequests.{AnswersRequest};
 ghost use Rattle.line_engine.specs.ServedLines.{Serves, StartsNot};
 ghost use Rattle.line_engine.specs.Calls.{for_a_block, of_bytes, CountsReads, CountsWrites};
 ghost use Rattle.line_engine.specs.Counting.{Rises};
-ghost use Rattle.line_engine.specs.Turns.{Turn, after_sending, SentOn, work};
+ghost use Rattle.line_engine.specs.Internal.Turns.{Turn, after_sending, SentOn, work};
 
 use crate::counted::Counted;
 use crate::fault::ServeFault;

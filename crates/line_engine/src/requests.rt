@@ -15,7 +15,7 @@ pub struct Requests<D>(PhantomData<D>);
 
 impl<D: Desk> Protocol for Requests<D> {
     ghost use Rattle.line_engine.specs.AnsweredRequests.{AnswersRequest};
-    ghost use Rattle.line_engine.specs.AnswerLaws.{AnswersRequest-long};
+    ghost use Rattle.line_engine.specs.Internal.AnswerLaws.{AnswersRequest-long};
     ghost use Rattle.std.proofs.Common.{rules};
 
     type State = D;

@@ -4,7 +4,7 @@ ghost use Rattle.std.specs.Prelude.{IsNone, IsSome, OnSome, MatchOption, All, So
 ghost use Rattle.std.specs.Io.KnownBytes.{Keeps, Consumes, IsAtEnd};
 ghost use Rattle.line_engine.specs.Calls.{for_a_block, CountsReads};
 ghost use Rattle.line_engine.specs.Lines.{IsLine};
-ghost use Rattle.line_engine.specs.Turns.{work, Cuts, Skips, EndsAtLast, Fills};
+ghost use Rattle.line_engine.specs.Internal.Turns.{work, Cuts, Skips, EndsAtLast, Fills};
 
 use crate::counted::Counted;
 use crate::source::Source;

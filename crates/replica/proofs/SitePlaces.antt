@@ -4,7 +4,7 @@ use Rattle.std.proofs.Common.{◌∙◌, sym, subst, arith, ◌⊎◌, inl, inr,
 use Rattle.std.specs.List.{AllByRecursion as Each}
 use mathlib.Core.Path.{ap₂}
 use Rattle.std.proofs.lemmas.Bool.{cases_eq}
-use Rattle.replica.specs.Numbered.{PlacesOfOne}
+use Rattle.replica.specs.Internal.Numbered.{PlacesOfOne}
 
 abbrev places : List PlacesOfOne → List (List ℕ)
 places rows = map (λ r. r.places) rows

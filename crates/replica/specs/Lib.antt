@@ -3,6 +3,5 @@ pub mod Refused
 pub mod Settle
 pub mod Deliver
 pub mod Part
-pub mod Numbered
-pub mod Kept
 pub mod Settled
+pub mod Internal

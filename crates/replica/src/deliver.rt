@@ -7,7 +7,7 @@ ghost use Rattle.holdback.specs.Offered.{look_for};
 ghost use Rattle.replica.specs.Refused.{refusal_of};
 ghost use Rattle.replica.specs.Settle.{settle};
 ghost use Rattle.replica.specs.Deliver.{claims_site, deliver, taken_by};
-ghost use Rattle.replica.specs.Kept.{settling_of, HasRoomFor, AreReserved};
+ghost use Rattle.replica.specs.Internal.Kept.{settling_of, HasRoomFor, AreReserved};
 
 use crate::delivery::Delivery;
 use crate::log::Log;

@@ -2,7 +2,7 @@
 ghost use Rattle.std.specs.Prelude.{◌≡◌, ◌<◌, ◌≤◌, ◌-◌, ℕ, map, ◌++◌, [], ◌∷◌, max, replicate, slice_get, slice_set, OnOk, OnErr, IfErr};
 ghost use Rattle.std.specs.List.{AllByRecursion};
 ghost use Rattle.opid.specs.declared.refusal.Refusal.TheVariants.{Memory};
-ghost use Rattle.replica.specs.Numbered.{places_at};
+ghost use Rattle.replica.specs.Internal.Numbered.{places_at};
 
 use opid::{Refusal, SITES, Site};
 use std::alloc::Global;
@@ -21,7 +21,7 @@ struct SitePlaces {
 
 impl Model for SitePlaces {
     ghost use Rattle.std.specs.Prelude.{◌+◌, ◌≤◌, vec_len, vec_capacity};
-    ghost use Rattle.replica.specs.Numbered.{PlacesOfOne};
+    ghost use Rattle.replica.specs.Internal.Numbered.{PlacesOfOne};
 
     ghost Value = { PlacesOfOne };
 
@@ -79,7 +79,7 @@ pub(crate) struct Places {
 impl Model for Places {
     ghost use Rattle.std.specs.Prelude.{◌≤◌, map};
     ghost use Rattle.std.specs.List.{AllByRecursion};
-    ghost use Rattle.replica.specs.Numbered.{AllPlaces};
+    ghost use Rattle.replica.specs.Internal.Numbered.{AllPlaces};
 
     ghost Value = { AllPlaces };
 

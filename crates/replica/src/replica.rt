@@ -36,7 +36,7 @@ pub struct Replica {
 
 impl Model for Replica {
     ghost use Rattle.replica.specs.Deliver.{ReplicaState};
-    ghost use Rattle.replica.specs.Kept.{AreReserved};
+    ghost use Rattle.replica.specs.Internal.Kept.{AreReserved};
 
     ghost Value = { ReplicaState };
 

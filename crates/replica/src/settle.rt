@@ -2,7 +2,7 @@
 ghost use Rattle.std.specs.Prelude.{◌≡◌, ◌<◌, ◌≤◌, ◌+◌, ◌-◌, ◌^◌, false, min, length};
 ghost use Rattle.opid.specs.Lawful.{IsLawful};
 ghost use Rattle.replica.specs.Settle.{round, settle};
-ghost use Rattle.replica.specs.Kept.{settling_of, HasRoomFor, start_of};
+ghost use Rattle.replica.specs.Internal.Kept.{settling_of, HasRoomFor, start_of};
 
 use crate::log::Log;
 use holdback::Held;

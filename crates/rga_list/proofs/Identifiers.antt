@@ -6,7 +6,7 @@ use Rattle.std.specs.List.{AllByRecursion as Each}
 use Rattle.std.specs.List.Sorted.{IsNonDecreasingBy, IsPartitionPoint}
 use Rattle.std.proofs.lemmas.Bool.{cases_lt, cond-true, cond-false, false_from_ne_true}
 use Rattle.std.proofs.lemmas.Bool.Decides.{nat_tests}
-use Rattle.opid.specs.RisingPairs.{AreRising}
+use Rattle.opid.specs.Internal.RisingPairs.{AreRising}
 use Rattle.rga_list.specs.Internal.SiteIds.{find_id, IsGreatest}
 
 eqb-self : (a : ℕ) → eqb a a ≡ true

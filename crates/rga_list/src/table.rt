@@ -19,7 +19,7 @@ pub struct SiteTable {
 
 impl Model for SiteTable {
     ghost use Rattle.std.specs.Prelude.{◌+◌, ◌≤◌, vec_len, vec_capacity};
-    ghost use Rattle.opid.specs.RisingPairs.{AreRising};
+    ghost use Rattle.opid.specs.Internal.RisingPairs.{AreRising};
     ghost use Rattle.rga_list.specs.Internal.SiteIds.{SiteIds};
 
     ghost Value = { SiteIds };

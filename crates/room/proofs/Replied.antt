@@ -12,7 +12,7 @@ use Rattle.room.specs.declared.call.Call.{Call}
 use Rattle.room.specs.declared.reply.Reply.{Reply}
 use Rattle.room.specs.declared.reply.Reply.TheVariants as replies
 use Rattle.room.specs.Machine.{State, Finding, check, found_in_submission, accepted_answer, accepted_next, found_answer, found_next}
-use Rattle.room.specs.Parts.{state_with, Does, reply_at_once, Submits, Accepts}
+use Rattle.room.specs.Internal.Parts.{state_with, Does, reply_at_once, Submits, Accepts}
 
 -- what a call is found to be tells what it is answered, and what it does
 found : (S : State) (c : Call) (f : Finding) (reply : Reply) (T : State) → check S c ≡ f → reply ≡ found_answer S c f → T ≡ found_next S c f

@@ -12,7 +12,7 @@ ghost use Rattle.session_outbox.specs.Sessions.{Outbox, session_with, MayAccept}
 ghost use Rattle.session_outbox.specs.Answers.{submission_of};
 ghost use Rattle.room.specs.declared.call.Call.TheVariants.{Join, Ins, Del, Pull, Leave, Ops, Put, Read};
 ghost use Rattle.room.specs.Machine.{counts_units, edits_between_in};
-ghost use Rattle.room.specs.Parts.{Does, MayLackMemory, state_with, reply_at_once, Submits, Accepts, IsHandedOver};
+ghost use Rattle.room.specs.Internal.Parts.{Does, MayLackMemory, state_with, reply_at_once, Submits, Accepts, IsHandedOver};
 
 use crate::call::Call;
 use crate::edits::Edits;

@@ -29,7 +29,7 @@ impl Model for Room {
 
     ghost Value = { Account };
 
-    ghost use Rattle.room.specs.Kept.{opening_of, IsRoom};
+    ghost use Rattle.room.specs.Internal.Kept.{opening_of, IsRoom};
 
     ghost view = { λ r. record { opening = opening_of r.opened r.machine; history = r.history.items; state = r.machine } };
 

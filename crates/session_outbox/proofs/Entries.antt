@@ -7,7 +7,7 @@ use Rattle.std.proofs.lemmas.Bool.{eqb-true}
 use Rattle.indexmap.specs.IndexMap.{insert_entry}
 use Rattle.session_outbox.specs.declared.facts.Facts.{Facts}
 use Rattle.session_outbox.specs.Sessions.{Session, HaveRisingNumbers, change_session, without_session, session_with}
-use Rattle.session_outbox.specs.Kept.{session_of, sessions_of}
+use Rattle.session_outbox.specs.Internal.Kept.{session_of, sessions_of}
 use Rattle.session_outbox.proofs.Numbered.{low_below, change_session-at}
 
 pub found : (s : ℕ) (es : List (ℕ × Facts)) → option_map (λ w. session_of (s, w)) (lookup (nat_eq s) es) ≡ session_with s (sessions_of es)

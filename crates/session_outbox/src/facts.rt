@@ -1,7 +1,7 @@
 //! What is kept of one session beside its number.
 ghost use Rattle.std.specs.Prelude.{◌≡◌, Some};
 ghost use Rattle.session_outbox.specs.Answers.{submission_of, pull_of};
-ghost use Rattle.session_outbox.specs.Kept.{session_of};
+ghost use Rattle.session_outbox.specs.Internal.Kept.{session_of};
 
 use crate::submission::Submission;
 use opid::{Refusal, is_bad_count};

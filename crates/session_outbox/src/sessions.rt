@@ -7,7 +7,7 @@ ghost use Rattle.session_outbox.specs.declared.submission.Submission.TheVariants
 ghost use Rattle.session_outbox.specs.Sessions.{session_with, change_session, without_session, MayAccept, HaveRisingNumbers, empty_outbox};
 ghost use Rattle.session_outbox.specs.Sessions.{with_accepted, sent_to, after_join, after_leave, after_accept, after_pull};
 ghost use Rattle.session_outbox.specs.Answers.{submission_of, pull_of, units_of_session, join_refusal};
-ghost use Rattle.session_outbox.specs.Kept.{sessions_of, session_of};
+ghost use Rattle.session_outbox.specs.Internal.Kept.{sessions_of, session_of};
 
 use crate::facts::Facts;
 use crate::submission::Submission;
@@ -88,7 +88,7 @@ pub struct Sessions {
 
 impl Model for Sessions {
     ghost use Rattle.session_outbox.specs.Sessions.{Outbox, HaveRisingNumbers};
-    ghost use Rattle.session_outbox.specs.Kept.{sessions_of};
+    ghost use Rattle.session_outbox.specs.Internal.Kept.{sessions_of};
 
     ghost Value = { Outbox };
 

@@ -15,7 +15,7 @@ use Rattle.shared_room.specs.declared.kept.Item.TheVariants.{Opened, Made}
 use Rattle.shared_room.specs.Trails.{made, trail_of, calls_of, opening_in}
 use Rattle.room.specs.Desks.{Owns}
 use Rattle.room.specs.Desks.{AreDistinct}
-use Rattle.room.specs.DeskLaws.{one_place}
+use Rattle.room.specs.Internal.DeskLaws.{one_place}
 
 pub calls_made : (h : List (ℕ × Call)) → calls_of (map made h) ≡ h
 calls_made [] = refl

@@ -5,6 +5,7 @@ use Rattle.room.specs.declared.call.Call.{Call}
 use Rattle.room.specs.Machine.{State}
 use Rattle.room.specs.History.{IsLegal, HandsOperations, state_of, mark}
 use Rattle.room.specs.Desks.{Owns, AreDistinct}
+use Rattle.room.specs.Desks as desks
 use Rattle.history_lock.specs.declared.pass.Sight.{Sight}
 use Rattle.history_lock.specs.Locks as locks
 use Rattle.shared_room.specs.declared.kept.Item.{Item}
@@ -53,6 +54,10 @@ left p = (view p).left
 -- how the room was opened
 abbrev pub opening : SharedRoom → State
 opening room = opening_in (locks.opening_of (λ (kept : KeptRoom). trail_of kept.room.value) room.lock)
+
+-- what a pass has seen, as a desk's
+abbrev pub sight_through : State → View → desks.Sight
+sight_through opening v = record { opening = opening; seen = v.seen; mine = v.mine }
 
 -- it is a pass of this room, between two calls
 pub record IsPassOf (room : SharedRoom) (p : Pass) : Type 0 where

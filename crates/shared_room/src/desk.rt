@@ -26,9 +26,9 @@ impl<'a, R: Wait> PassDesk<'a, R> {
 }
 
 impl<'a, R: Wait> Desk for PassDesk<'a, R> {
-    ghost use Rattle.shared_room.specs.Views.{view, opening, IsPassOf};
+    ghost use Rattle.shared_room.specs.Views.{view, opening, sight_through, IsPassOf};
     ghost use Rattle.shared_room.specs.Turns.{Answers, FaultsPass};
-    ghost use Rattle.shared_room.specs.DeskLaws.{sight_through, pass_sight, pass_answers, pass_passes};
+    ghost use Rattle.shared_room.specs.Internal.DeskLaws.{pass_sight, pass_answers, pass_passes};
     ghost use Rattle.std.proofs.Common.{ap};
 
     ghost sight = { λ desk. sight_through (opening desk.room.now) (view desk.pass.now) };

@@ -6,9 +6,9 @@ ghost use Rattle.causal_clock.specs.Kinds.{IsOperation};
 ghost use Rattle.room.specs.declared.reply.Reply.TheVariants.{No};
 ghost use Rattle.room.specs.Machine.{answer, may_record};
 ghost use Rattle.room.specs.History.{state_of, mark, called, AreRisingFrom, HandsOperations, IsConsistent};
-ghost use Rattle.room.specs.Legal.{AreRisingFrom-prop};
+ghost use Rattle.room.specs.Internal.Legal.{AreRisingFrom-prop};
 ghost use Rattle.shared_room.specs.Trails.{trail_of};
-ghost use Rattle.shared_room.specs.Handing.{AllHand-prop};
+ghost use Rattle.shared_room.specs.Internal.Handing.{AllHand-prop};
 
 use causal_clock::Op;
 use history_lock::Trailed;

@@ -19,7 +19,7 @@ use Rattle.wire_json.specs.Members.{◌>>=◌}
 use Rattle.wire_json.specs.Operations.{each, items_told, op_of}
 use Rattle.wire_json.specs.PackedOperations.{ItemOffer, item_offer_of, item_sited, item_operations, concatenated, all_operations}
 use Rattle.snapshot.specs.Snapshot.{LacksSite, ops_told}
-use Rattle.snapshot.specs.Values.{value_told}
+use Rattle.snapshot.specs.Internal.Values.{value_told}
 
 -- ---- only whether all faults are absent counts: so each value tells its operations by itself
 

@@ -17,8 +17,8 @@ use Rattle.wire_json.proofs.Spelt.{told_back}
 use Rattle.wire_json.proofs.Calling.{five_deep, whole}
 use Rattle.wire_json.proofs.Steps.{json_read}
 use Rattle.snapshot.specs.Snapshot.{StandsForNone, ops_told, told_by, told_in}
-use Rattle.snapshot.specs.Values.{value_told}
-use Rattle.snapshot.specs.Coming.{ReadsFormat, OpensLog, TellsLog, ReadsLog}
+use Rattle.snapshot.specs.Internal.Values.{value_told}
+use Rattle.snapshot.specs.Internal.Coming.{ReadsFormat, OpensLog, TellsLog, ReadsLog}
 use Rattle.snapshot.proofs.Loaded.{then, first_told, only_ok}
 
 -- ---- one more value

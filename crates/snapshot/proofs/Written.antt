@@ -20,7 +20,7 @@ use Rattle.wire_json.specs.Members.{◌>>=◌}
 use Rattle.opid.specs.Lawful.{IsLawful}
 use Rattle.wire_json.specs.Packing.{packed_items}
 use Rattle.wire_json.specs.Text.{item_text, packed_text}
-use Rattle.wire_json.specs.Written.{each_data, item_data}
+use Rattle.wire_json.specs.Internal.Written.{each_data, item_data}
 use Rattle.wire_json.proofs.ListTexts.{regroup_3, list_compact}
 use Rattle.wire_json.proofs.PackedBack.{are_packed, packed_back}
 use Rattle.wire_json.proofs.PackedTexts.{item_compact, items_numbers, items_shallow, items_read}

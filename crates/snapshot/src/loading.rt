@@ -6,7 +6,7 @@ ghost use Rattle.opid.specs.Operations.{Operation};
 ghost use Rattle.opid.specs.Lawful.{IsLawful, MayFollow, GoesOn};
 ghost use Rattle.wire_json.specs.Operations.{items_told};
 ghost use Rattle.snapshot.specs.Snapshot.{StandsFor, StandsForNone, LacksSite, HasSite, format_of, ops_told};
-ghost use Rattle.snapshot.specs.Values.{value_told};
+ghost use Rattle.snapshot.specs.Internal.Values.{value_told};
 
 use crate::spelled::read_spelled;
 use causal_clock::Op;

@@ -4,7 +4,7 @@ ghost use Rattle.opid.specs.declared.refusal.Refusal.TheVariants.{Memory, BadSna
 ghost use Rattle.json.specs.Token.{end_array};
 ghost use Rattle.wire_json.specs.Packing.{unfolded_all};
 ghost use Rattle.snapshot.specs.Snapshot.{StandsFor, StandsForNone};
-ghost use Rattle.snapshot.specs.Coming.{ReadsFormat, OpensLog, ReadsLog, TellsLog};
+ghost use Rattle.snapshot.specs.Internal.Coming.{ReadsFormat, OpensLog, ReadsLog, TellsLog};
 
 use crate::gathered::{Gathered, integrate_gathered};
 use arrayvec::ArrayString;

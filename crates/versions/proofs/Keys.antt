@@ -20,7 +20,7 @@ use Rattle.versions.proofs.Integrated.{sites-listed}
 use Rattle.counted_tree.specs.declared.entry.Entry.{Entry}
 use Rattle.counted_tree.specs.Changed.{Lists, put, put_after}
 use Rattle.counted_tree.specs.Greater.{passed, last_greater}
-use Rattle.versions.specs.Joined.{key_of, plain}
+use Rattle.versions.specs.Internal.Joined.{key_of, plain}
 use Rattle.versions.proofs.Joins.{has_elem, elem_listed}
 
 -- the keys of two stamps are ordered as these are

@@ -21,7 +21,7 @@ use Rattle.rga_list.specs.Entries.{Entry, AreOfOwn, entry_of}
 use Rattle.rga_list.specs.Listed.{entry_for, listed}
 use Rattle.counted_tree.specs.Entry.{units}
 use Rattle.counted_tree.specs.Versions.{Versions, version_list}
-use Rattle.versions.specs.Joined.{is_wide, plain, list_of, TellsVersions}
+use Rattle.versions.specs.Internal.Joined.{is_wide, plain, list_of, TellsVersions}
 use Rattle.versions.proofs.Widths.{width}
 use Rattle.versions.proofs.Joins.{get-map}
 use Rattle.versions.proofs.Versions.{number_at, IsFound, found_each, same_stamp}

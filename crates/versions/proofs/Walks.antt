@@ -11,7 +11,7 @@ use Rattle.rga_list.specs.Entries as rga
 use Rattle.counted_tree.specs.declared.entry.Entry.{Entry}
 use Rattle.counted_tree.specs.Changed.{Lists}
 use Rattle.counted_tree.specs.Greater.{passed, last_greater}
-use Rattle.versions.specs.Joined.{key_of, plain}
+use Rattle.versions.specs.Internal.Joined.{key_of, plain}
 use Rattle.versions.proofs.Keys.{key_before}
 
 -- an element that stands further on is another one

@@ -3,7 +3,7 @@ use Rattle.std.proofs.Common.{◌≡◌, ℕ, Bool, true, false, cond, [], ◌�
 use Rattle.std.specs.Prelude.{nat_lt}
 use Rattle.std.proofs.lemmas.Bool.Decides.{nat_tests}
 use Rattle.opid.specs.Units.{is_character, units_of}
-use Rattle.versions.specs.Joined.{is_wide}
+use Rattle.versions.specs.Internal.Joined.{is_wide}
 
 -- it has two units where it is wide, else one
 pub width : (ch : ℕ) → length (units_of ch) ≡ cond (is_wide ch) 2 1

@@ -47,7 +47,7 @@ impl Model for Doc {
 
     ghost Value = { Document };
 
-    ghost use Rattle.versions.specs.Kept.{IsDocument, AreReserved};
+    ghost use Rattle.versions.specs.Internal.Kept.{IsDocument, AreReserved};
 
     ghost view = { λ d. record { log = d.log.ops; room = d.room } };
 

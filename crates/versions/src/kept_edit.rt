@@ -2,7 +2,7 @@
 ghost use Rattle.std.specs.Prelude.{◌≡◌, ◌≤◌, ◌<◌, ◌*◌, ◌/◌, ◌%◌, ◌^◌, Bool, if◌then◌else◌};
 ghost use Rattle.opid.specs.Units.{is_character};
 ghost use Rattle.opid.specs.declared.edit.Edit.TheVariants as changes;
-ghost use Rattle.versions.specs.KeptEdits.{edit_in};
+ghost use Rattle.versions.specs.Internal.KeptEdits.{edit_in};
 
 use opid::Edit;
 

@@ -14,7 +14,7 @@ use Rattle.wire_json.specs.Members.{◌>>=◌}
 use Rattle.wire_json.specs.Operations.{Offer, each, items_told, pair_of, stamp_told, parent_of, offer_of, site_of, sited_pair}
 use Rattle.wire_json.specs.Operations.{sited_kind, sited, with_clock, operation, op_of}
 use Rattle.wire_json.specs.Text.{IsStampInRange, IsKindInRange, pairs_of}
-use Rattle.wire_json.specs.Written.{each_data, two_data, pair_data, stamp_data, op_data_of, op_data}
+use Rattle.wire_json.specs.Internal.Written.{each_data, two_data, pair_data, stamp_data, op_data_of, op_data}
 use Rattle.causal_clock.specs.Listing.{clock_told}
 use Rattle.causal_clock.proofs.Listings.{tells}
 use Rattle.wire_json.proofs.Pairs.{listing_of, clock_with_pairs, pairs_sited, pairs_small}

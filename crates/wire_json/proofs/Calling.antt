@@ -9,9 +9,9 @@ use Rattle.json.specs.Token.{Token, begin_object, end_object, key}
 use Rattle.serde_json.specs.Data.{Data, object, string, number, unsigned, no_members}
 use Rattle.room.specs.declared.call.Call.{Call}
 use Rattle.room.specs.declared.call.Call.TheVariants.{Ins, Del, Pull, Ops, Read, Join, Leave}
-use Rattle.wire_json.specs.Flat.{lone_value, value_of_tokens}
+use Rattle.wire_json.specs.Internal.Flat.{lone_value, value_of_tokens}
 use Rattle.wire_json.specs.Coming.{Comes, put_entries}
-use Rattle.wire_json.specs.Handed.{ReadsField, ReadsPlace, ReadsRest, ReadsKind, ReadsCall, AsksFor}
+use Rattle.wire_json.specs.Internal.Handed.{ReadsField, ReadsPlace, ReadsRest, ReadsKind, ReadsCall, AsksFor}
 use Rattle.wire_json.proofs.Come.{object_comes}
 use Rattle.wire_json.proofs.Steps.{json_read}
 

@@ -10,7 +10,7 @@ use Rattle.serde_json.specs.declared.value.Value.{Value}
 use Rattle.opid.specs.declared.refusal.Refusal.{Refusal}
 use Rattle.wire_json.specs.Members.{◌>>=◌}
 use Rattle.wire_json.specs.Operations.{each, site_of, sited_pair}
-use Rattle.wire_json.specs.Offers.{pair_in, pairs_in}
+use Rattle.wire_json.specs.Internal.Offers.{pair_in, pairs_in}
 
 pairs_more : (vs : List Value) (i : ℕ) (v : Value) (p : ℕ × ℕ) → i < length vs → v ≡ get_or vs i v → pair_in (view v) ≡ p
     → pairs_in (take (i + 1) vs) ≡ pairs_in (take i vs) ++ p ∷ []

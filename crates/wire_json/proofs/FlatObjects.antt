@@ -29,8 +29,8 @@ use Rattle.wire_json.specs.declared.flat.Next.TheVariants as nexts
 use Rattle.wire_json.specs.Members.{or_refuse, is_known, are_among, only_keys}
 use Rattle.wire_json.specs.Operations.{items_told, list_at}
 use Rattle.wire_json.proofs.Lists.{list_any-map}
-use Rattle.wire_json.specs.Flat.{lone_value, value_of_tokens, primitive_data, put_all, flat_data}
-use Rattle.wire_json.specs.Flat.{IsPrimitive, ReadsNext, TellsMembers}
+use Rattle.wire_json.specs.Internal.Flat.{lone_value, value_of_tokens, primitive_data, put_all, flat_data}
+use Rattle.wire_json.specs.Internal.Flat.{IsPrimitive, ReadsNext, TellsMembers}
 
 -- ---- members one after another
 

@@ -11,7 +11,7 @@ use Rattle.wire_json.specs.Request.{call_in}
 use Rattle.wire_json.specs.Packing.{typed_behind}
 use Rattle.wire_json.specs.PackedOperations.{ItemOffer, item_offer_of, item_sited, item_operations, item_ops_of, concatenated, handed_over}
 use Rattle.wire_json.specs.Coming.{Comes, TellsItems, ReadsItem, items_of, put_entries}
-use Rattle.wire_json.specs.Handed.{TellsOps, ReadsOps, ReadsRest}
+use Rattle.wire_json.specs.Internal.Handed.{TellsOps, ReadsOps, ReadsRest}
 use Rattle.wire_json.proofs.Come.{array_comes, one_more_item}
 use Rattle.wire_json.proofs.Spelling.{each_more}
 use Rattle.wire_json.proofs.Spelt.{told_back}

@@ -23,7 +23,7 @@ use Rattle.wire_json.specs.Packing.{with_one_more, packed_behind, packed_items}
 use Rattle.wire_json.specs.PackedOperations.{ItemOffer, lone, item_offer_of, item_sited, unfolded_if_counted, item_operations}
 use Rattle.wire_json.specs.PackedOperations.{concatenated, packed_ops_of}
 use Rattle.wire_json.specs.Text.{IsOperationInRange, IsKindInRange, pairs_of}
-use Rattle.wire_json.specs.Written.{each_data, op_data_of, run_data_of, item_data_of, item_data}
+use Rattle.wire_json.specs.Internal.Written.{each_data, op_data_of, run_data_of, item_data_of, item_data}
 use Rattle.wire_json.proofs.Back.{offer_with, offer_back, sited_back, operation_back, pairs_back, parent_back}
 use Rattle.opid.proofs.Counts.{sum-raised}
 use Rattle.wire_json.proofs.Packed.{unfolded-more, unfolds}

@@ -21,7 +21,7 @@ use Rattle.wire_json.specs.Packing.{Item, packed_items}
 use Rattle.wire_json.specs.PackedOperations.{packed_ops_of}
 use Rattle.wire_json.specs.Text.{IsOperationInRange, IsKindInRange, pairs_of, quote, clock_text, parent_text, run_text_of, item_text_of}
 use Rattle.wire_json.specs.Text.{item_text, packed_text}
-use Rattle.wire_json.specs.Written.{each_data, run_data_of, item_data_of, item_data}
+use Rattle.wire_json.specs.Internal.Written.{each_data, run_data_of, item_data_of, item_data}
 use Rattle.wire_json.proofs.ListTexts.{list_compact}
 use Rattle.wire_json.proofs.OperationTexts.{op_compact, regroup_9, clock_compact, parent_compact}
 use Rattle.wire_json.proofs.Pairs.{pairs_small}

@@ -9,7 +9,7 @@ use Rattle.std.proofs.lemmas.List.Sums.{sum_by-cons, sum-map}
 use Rattle.opid.specs.Clocks.{sites, entry}
 use Rattle.causal_clock.specs.Kinds.{IsClock}
 use Rattle.causal_clock.specs.Listing.{count_in, clock_with}
-use Rattle.opid.specs.RisingPairs.{AreRising}
+use Rattle.opid.specs.Internal.RisingPairs.{AreRising}
 use Rattle.causal_clock.proofs.Listings.{IsListing}
 use Rattle.wire_json.specs.Text.{pairs_of}
 use Rattle.wire_json.proofs.Clocks.{pair_at, pairs_from}

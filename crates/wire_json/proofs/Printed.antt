@@ -5,7 +5,7 @@ use Rattle.json.specs.Print.{print}
 use Rattle.serde_json.specs.Data.{Data}
 use Rattle.serde_json.specs.Written.{compact_text}
 use Rattle.serde_json.proofs.Texts.{print-outline}
-use Rattle.wire_json.specs.Written.{tokens_of}
+use Rattle.wire_json.specs.Internal.Written.{tokens_of}
 
 -- a writer that had no token prints the value's compact text
 pub print-tokens_of : (d : Data) (old new : List Token) → old ≡ [] → new ≡ old ++ tokens_of d → print new ≡ compact_text d

@@ -13,7 +13,7 @@ use Rattle.wire_json.specs.Operations.{items_told}
 use Rattle.wire_json.specs.Packing.{packed_items}
 use Rattle.wire_json.specs.PackedOperations.{packed_ops_of, first_65_of, handed_over}
 use Rattle.wire_json.specs.Text.{IsInRange, text}
-use Rattle.wire_json.specs.Written.{part_data}
+use Rattle.wire_json.specs.Internal.Written.{part_data}
 use Rattle.wire_json.proofs.Read.{small, text_read}
 use Rattle.wire_json.proofs.PackedBack.{are_packed, packed_back}
 use Rattle.wire_json.proofs.PackedTexts.{items_shallow, items_read}

@@ -35,7 +35,7 @@ use Rattle.wire_json.specs.Text.{IsInRange, IsEditInRange, IsOutcomeInRange, out
 use Rattle.wire_json.specs.Text.{edit_text, item_text, packed_text}
 use Rattle.wire_json.specs.Packing.{packed_items}
 use Rattle.wire_json.proofs.ListTexts.{regroup_3, regroup_5, regroup_7, list_compact}
-use Rattle.wire_json.specs.Written.{data_of, item_data, outcome_data, edit_data, each_data}
+use Rattle.wire_json.specs.Internal.Written.{data_of, item_data, outcome_data, edit_data, each_data}
 
 edit_compact : (e : edit.Edit) → compact_text (edit_data e) ≡ edit_text e
 unfolding escape_byte

@@ -4,7 +4,7 @@ use Rattle.std.specs.List.{AllByRecursion}
 use Rattle.std.proofs.lemmas.Bool.{false_from_ne_true}
 use Rattle.opid.specs.declared.refusal.Refusal.TheVariants.{BadClock}
 use Rattle.causal_clock.specs.Listing.{tells_clock, clock_told}
-use Rattle.opid.specs.RisingPairs.{AreRising}
+use Rattle.opid.specs.Internal.RisingPairs.{AreRising}
 use Rattle.causal_clock.proofs.Listings.{listing}
 
 -- the sites rise from the first, below 32

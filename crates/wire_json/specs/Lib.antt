@@ -1,13 +1,10 @@
 pub mod Members
 pub mod Given
 pub mod Operations
-pub mod Offers
 pub mod Packing
 pub mod PackedOperations
 pub mod Text
-pub mod Written
-pub mod Flat
 pub mod Plain
 pub mod Coming
 pub mod Request
-pub mod Handed
+pub mod Internal

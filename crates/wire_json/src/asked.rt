@@ -4,7 +4,7 @@ ghost use Rattle.std.specs.Prelude.{◌≡◌, true, codes, IfOk, IfErr, IfSome}
 ghost use Rattle.std.specs.List.{list_all};
 ghost use Rattle.opid.specs.declared.refusal.Refusal.TheVariants.{Memory};
 ghost use Rattle.wire_json.specs.Plain.{is_plain};
-ghost use Rattle.wire_json.specs.Handed.{ReadsField, ReadsPlace, ReadsRest, ReadsKind, ReadsCall, AsksFor};
+ghost use Rattle.wire_json.specs.Internal.Handed.{ReadsField, ReadsPlace, ReadsRest, ReadsKind, ReadsCall, AsksFor};
 
 use crate::handed::rest_of_put;
 use crate::plain::{MAX_TEXT, PlainReader};

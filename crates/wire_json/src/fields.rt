@@ -3,7 +3,7 @@ ghost use Rattle.std.specs.Prelude.{◌≡◌, true, map, is_some, option_map, o
 ghost use Rattle.serde_json.specs.Find.{get, as_number, as_u64, as_str};
 ghost use Rattle.serde_json.specs.View.{view};
 ghost use Rattle.std.specs.List.{list_all};
-ghost use Rattle.wire_json.specs.Flat.{primitive_data, flat_data, fields_data};
+ghost use Rattle.wire_json.specs.Internal.Flat.{primitive_data, flat_data, fields_data};
 ghost use Rattle.wire_json.specs.PackedOperations.{operations_at};
 ghost use Rattle.wire_json.specs.Members.{is_known, only_keys, number_told, number_at, text_at};
 ghost use Rattle.wire_json.specs.Given.{Tells, Gives};

@@ -4,7 +4,7 @@ ghost use Rattle.serde_json.specs.Data.{unsigned};
 ghost use Rattle.serde_json.specs.Read.{number_of};
 ghost use Rattle.json.specs.Token.{begin_object};
 ghost use Rattle.wire_json.specs.Request.{json_of};
-ghost use Rattle.wire_json.specs.Flat.{value_of_tokens, flat_data, IsPrimitive, ReadsNext, ReadsMember};
+ghost use Rattle.wire_json.specs.Internal.Flat.{value_of_tokens, flat_data, IsPrimitive, ReadsNext, ReadsMember};
 ghost use Rattle.json.specs.Reads.{token_of};
 
 use crate::plain_number::leading_number;

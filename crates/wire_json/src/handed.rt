@@ -1,7 +1,7 @@
 //! What a `put` hands over read byte by byte, with no tree, where its operations are spelled as servers spell them.
 ghost use Rattle.std.specs.Prelude.{◌≡◌, ◌≤◌, codes, length, IfOk, IfErr, IfSome};
 ghost use Rattle.opid.specs.declared.refusal.Refusal.TheVariants.{Memory};
-ghost use Rattle.wire_json.specs.Handed.{ReadsOps, ReadsRest};
+ghost use Rattle.wire_json.specs.Internal.Handed.{ReadsOps, ReadsRest};
 
 use crate::items::{behind_first, unfold_run};
 use crate::plain::{MAX_TEXT, PlainReader};

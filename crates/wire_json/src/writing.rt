@@ -2,8 +2,8 @@
 ghost use Rattle.std.specs.Prelude.{◌≡◌, ◌++◌, Ok, IfOk, IfErr, OnOk, string_bytes};
 ghost use Rattle.opid.specs.declared.refusal.Refusal.TheVariants.{Memory};
 ghost use Rattle.wire_json.specs.Text.{IsInRange, text};
-ghost use Rattle.wire_json.specs.Written.{tokens_of, joined_data, left_data};
-ghost use Rattle.wire_json.specs.Written.{text_data, no_data, data_of, IsByTokens};
+ghost use Rattle.wire_json.specs.Internal.Written.{tokens_of, joined_data, left_data};
+ghost use Rattle.wire_json.specs.Internal.Written.{text_data, no_data, data_of, IsByTokens};
 
 use crate::pieces::{edits_text, ok_text, ops_text, put_text};
 use crate::tokens::{append_number, append_text, text_of, writer};

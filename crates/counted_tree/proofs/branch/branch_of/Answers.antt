@@ -1,6 +1,6 @@
 use Rattle.std.proofs.Common.{Some, refl, ◌∙◌, subst}
-use Rattle.counted_tree.specs.Change.{tree_in}
-use Rattle.counted_tree.specs.Table.{HasRow}
+use Rattle.counted_tree.specs.Internal.Change.{tree_in}
+use Rattle.counted_tree.specs.Internal.Table.{HasRow}
 use Rattle.counted_tree.proofs.Told.{opened}
 use Rattle.counted_tree.proofs.Branches.{read_row, row_there}
 use Rattle.counted_tree.proofs.branch.branch_of.Goals as goal

@@ -1,6 +1,6 @@
 use Rattle.std.proofs.Common.{arith}
-use Rattle.counted_tree.specs.Tree.{entries}
-use Rattle.counted_tree.specs.Change.{tree_in}
+use Rattle.counted_tree.specs.Internal.Tree.{entries}
+use Rattle.counted_tree.specs.Internal.Change.{tree_in}
 use Rattle.counted_tree.proofs.Growth.{link_later, length-trees}
 use Rattle.counted_tree.proofs.Counts.{units_few}
 use Rattle.counted_tree.proofs.Sizes.{size_few}

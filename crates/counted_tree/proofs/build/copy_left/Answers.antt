@@ -1,7 +1,7 @@
 use Rattle.std.proofs.Common.{arith}
 use Rattle.std.proofs.lemmas.Option.{slice_get_within}
-use Rattle.counted_tree.specs.Tree.{entries}
-use Rattle.counted_tree.specs.Change.{tree_in}
+use Rattle.counted_tree.specs.Internal.Tree.{entries}
+use Rattle.counted_tree.specs.Internal.Change.{tree_in}
 use Rattle.counted_tree.proofs.Copies.{copied_left}
 use Rattle.counted_tree.proofs.Counts.{units_few}
 use Rattle.counted_tree.proofs.Sizes.{size_few}

@@ -1,8 +1,8 @@
 use Rattle.std.proofs.Common.{◌≡◌, length, Some, arith, sym, ap, ◌∙◌, subst, refl}
 use Rattle.std.specs.Option.{IsSome, IfSome}
-use Rattle.counted_tree.specs.Tree.{entries}
-use Rattle.counted_tree.specs.Along.{entry_at, after_at, elem_at}
-use Rattle.counted_tree.specs.Change.{tree_in}
+use Rattle.counted_tree.specs.Internal.Tree.{entries}
+use Rattle.counted_tree.specs.Internal.Along.{entry_at, after_at, elem_at}
+use Rattle.counted_tree.specs.Internal.Change.{tree_in}
 use Rattle.counted_tree.specs.Changed.{Lists}
 use Rattle.counted_tree.specs.Greater.{passed, last_greater}
 use Rattle.counted_tree.proofs.Growth.{linked_balanced}

@@ -1,5 +1,5 @@
-use Rattle.counted_tree.specs.Tree.{height}
-use Rattle.counted_tree.specs.Change.{tree_in}
+use Rattle.counted_tree.specs.Internal.Tree.{height}
+use Rattle.counted_tree.specs.Internal.Change.{tree_in}
 use Rattle.counted_tree.proofs.greater.+last_in.Given as goal
 
 abbrev pub decreases-last_in : goal.decreases-last_in

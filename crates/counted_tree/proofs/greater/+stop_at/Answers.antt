@@ -1,10 +1,10 @@
 use Rattle.std.proofs.Common.{◌≡◌, ◌∷◌, ◌++◌, true, Some, None, ap, sym, ◌∙◌, subst, arith}
 use Rattle.std.specs.Option.{IsSome}
 use Rattle.counted_tree.specs.declared.side.Side.TheVariants.{Left}
-use Rattle.counted_tree.specs.Tree.{entries, height}
-use Rattle.counted_tree.specs.Tree.Tree.{Fork}
-use Rattle.counted_tree.specs.Change.{tree_in}
-use Rattle.counted_tree.specs.Along.{entry_at, after_at, elem_at}
+use Rattle.counted_tree.specs.Internal.Tree.{entries, height}
+use Rattle.counted_tree.specs.Internal.Tree.Tree.{Fork}
+use Rattle.counted_tree.specs.Internal.Change.{tree_in}
+use Rattle.counted_tree.specs.Internal.Along.{entry_at, after_at, elem_at}
 use Rattle.counted_tree.specs.Greater.{all_greater, last_of, stop}
 use Rattle.counted_tree.proofs.Passing.{stop_before, stop_none, stop_here, stop_later, last_there, elem_there, last_of-some}
 use Rattle.counted_tree.proofs.greater.+stop_at.Goals as goal

@@ -1,12 +1,12 @@
 use Rattle.std.proofs.Common.{◌≡◌, ◌∷◌, ◌-◌, ◌<◌, length, Some, ap, ◌∙◌, arith, refl, sym, subst, inl, inr}
 use Rattle.std.proofs.lemmas.Bool.{cases_lt}
-use Rattle.counted_tree.specs.Tree.{entries, height}
-use Rattle.counted_tree.specs.Tree.Tree.{Fork}
-use Rattle.counted_tree.specs.Arena.{trees, tree_of}
-use Rattle.counted_tree.specs.Branch.{IsBranchOf}
-use Rattle.counted_tree.specs.Change.{tree_in, IsRebuilt}
-use Rattle.counted_tree.specs.Settled.{KeepsRow, IsTold}
-use Rattle.counted_tree.specs.Table.{Hangs}
+use Rattle.counted_tree.specs.Internal.Tree.{entries, height}
+use Rattle.counted_tree.specs.Internal.Tree.Tree.{Fork}
+use Rattle.counted_tree.specs.Internal.Arena.{trees, tree_of}
+use Rattle.counted_tree.specs.Internal.Branch.{IsBranchOf}
+use Rattle.counted_tree.specs.Internal.Change.{tree_in, IsRebuilt}
+use Rattle.counted_tree.specs.Internal.Settled.{KeepsRow, IsTold}
+use Rattle.counted_tree.specs.Internal.Table.{Hangs}
 use Rattle.counted_tree.proofs.Branches.{branch_small, read_row, row_of_branch}
 use Rattle.counted_tree.proofs.Gains.{gains_left, gains_least}
 use Rattle.counted_tree.proofs.Growth.{linked_balanced}

@@ -1,11 +1,11 @@
 use Rattle.std.proofs.Common.{true, false, Some, ap, arith, sym, subst}
 use Rattle.counted_tree.specs.declared.grown.Grown.{Grown}
 use Rattle.counted_tree.specs.declared.size.Size.{Size}
-use Rattle.counted_tree.specs.Tree.{entries}
-use Rattle.counted_tree.specs.Arena.{trees, tree_of}
-use Rattle.counted_tree.specs.Change.{tree_in}
-use Rattle.counted_tree.specs.Grown.{IsGrown}
-use Rattle.counted_tree.specs.Settled.{grown_link, KeepsRow, IsTold}
+use Rattle.counted_tree.specs.Internal.Tree.{entries}
+use Rattle.counted_tree.specs.Internal.Arena.{trees, tree_of}
+use Rattle.counted_tree.specs.Internal.Change.{tree_in}
+use Rattle.counted_tree.specs.Internal.Grown.{IsGrown}
+use Rattle.counted_tree.specs.Internal.Settled.{grown_link, KeepsRow, IsTold}
 use Rattle.counted_tree.proofs.Counts.{two_at_most}
 use Rattle.counted_tree.proofs.Gains.{gains_one}
 use Rattle.counted_tree.proofs.Settling.{settled_left}

@@ -1,9 +1,9 @@
 use Rattle.std.proofs.Common.{Some, sym, subst}
 use Rattle.counted_tree.specs.declared.grown.Grown.{Grown}
-use Rattle.counted_tree.specs.Arena.{trees, tree_of}
-use Rattle.counted_tree.specs.Change.{tree_in}
-use Rattle.counted_tree.specs.Grown.{IsGrown}
-use Rattle.counted_tree.specs.Settled.{grown_link, KeepsRow, IsTold}
+use Rattle.counted_tree.specs.Internal.Arena.{trees, tree_of}
+use Rattle.counted_tree.specs.Internal.Change.{tree_in}
+use Rattle.counted_tree.specs.Internal.Grown.{IsGrown}
+use Rattle.counted_tree.specs.Internal.Settled.{grown_link, KeepsRow, IsTold}
 use Rattle.counted_tree.proofs.Settling.{settled_right}
 use Rattle.counted_tree.proofs.grow.lift_right.Goals as goal
 

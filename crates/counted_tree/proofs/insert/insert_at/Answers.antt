@@ -1,9 +1,9 @@
 use Rattle.std.proofs.Common.{◌≡◌, ◌+◌, ◌-◌, length, drop, take, get_or, refl, sym, ap, subst, arith}
 use Rattle.std.proofs.lemmas.Option.{slice_get-get_or}
 use Rattle.counted_tree.specs.declared.side.Side.TheVariants.{Left}
-use Rattle.counted_tree.specs.Along.{under}
-use Rattle.counted_tree.specs.Change.{tree_in}
-use Rattle.counted_tree.specs.Inserted.{IsInserted, AreAlong}
+use Rattle.counted_tree.specs.Internal.Along.{under}
+use Rattle.counted_tree.specs.Internal.Change.{tree_in}
+use Rattle.counted_tree.specs.Internal.Inserted.{IsInserted, AreAlong}
 use Rattle.counted_tree.proofs.Risen.{risen}
 use Rattle.counted_tree.proofs.Unders.{fit_there, lift_there, lifted_there, made_there}
 use Rattle.counted_tree.proofs.insert.insert_at.Goals as goal

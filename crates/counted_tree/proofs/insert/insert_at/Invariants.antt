@@ -1,7 +1,7 @@
 use Rattle.std.proofs.Common.{◌+◌, ◌*◌, ◌≤◌, length, drop, take}
-use Rattle.counted_tree.specs.Along.{under}
-use Rattle.counted_tree.specs.Change.{tree_in}
-use Rattle.counted_tree.specs.Inserted.{IsInserted}
+use Rattle.counted_tree.specs.Internal.Along.{under}
+use Rattle.counted_tree.specs.Internal.Change.{tree_in}
+use Rattle.counted_tree.specs.Internal.Inserted.{IsInserted}
 use Rattle.counted_tree.proofs.insert.insert_at.Given as goal
 
 abbrev pub invariant-loop-level : goal.invariant-loop-level

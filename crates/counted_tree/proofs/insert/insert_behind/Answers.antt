@@ -1,8 +1,8 @@
 use Rattle.std.proofs.Common.{◌≡◌, ◌-◌, ◌<◌, [], ◌∷◌, rules, length, Some, refl, ap, arith, subst, length-append}
-use Rattle.counted_tree.specs.Tree.{entries, height}
-use Rattle.counted_tree.specs.Tree.Tree.{Fork}
-use Rattle.counted_tree.specs.Change.{tree_in}
-use Rattle.counted_tree.specs.Settled.{grown_link}
+use Rattle.counted_tree.specs.Internal.Tree.{entries, height}
+use Rattle.counted_tree.specs.Internal.Tree.Tree.{Fork}
+use Rattle.counted_tree.specs.Internal.Change.{tree_in}
+use Rattle.counted_tree.specs.Internal.Settled.{grown_link}
 use Rattle.counted_tree.proofs.Adding.{read_again, sound_node, still_there}
 use Rattle.counted_tree.proofs.Gains.{gains_first}
 use Rattle.counted_tree.proofs.Hanging.{hangs_right}

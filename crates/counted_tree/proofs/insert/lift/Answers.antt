@@ -1,8 +1,8 @@
 use Rattle.std.proofs.Common.{◌∷◌, ◌<◌, length, Some, sym, subst}
 use Rattle.counted_tree.specs.declared.side.Side.TheVariants.{Right}
-use Rattle.counted_tree.specs.Tree.{entries}
-use Rattle.counted_tree.specs.Change.{tree_in}
-use Rattle.counted_tree.specs.Inserted.{IsInserted, IsLift}
+use Rattle.counted_tree.specs.Internal.Tree.{entries}
+use Rattle.counted_tree.specs.Internal.Change.{tree_in}
+use Rattle.counted_tree.specs.Internal.Inserted.{IsInserted, IsLift}
 use Rattle.counted_tree.proofs.Lifting.{below_right, lift_node, lift_up_left, lift_up_right, lifted_left, lifted_right, own_right}
 use Rattle.counted_tree.proofs.Ranked.{rank_small}
 use Rattle.counted_tree.proofs.insert.lift.Goals as goal

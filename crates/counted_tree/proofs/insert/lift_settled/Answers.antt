@@ -3,8 +3,8 @@ use Rattle.std.proofs.lemmas.Option.{slice_get-get_or}
 use Rattle.counted_tree.specs.declared.grown.Grown.TheVariants.{Settled}
 use Rattle.counted_tree.specs.declared.insert.Inserted.{Inserted}
 use Rattle.counted_tree.specs.declared.side.Side.TheVariants.{Left}
-use Rattle.counted_tree.specs.Along.{under}
-use Rattle.counted_tree.specs.Inserted.{IsInserted}
+use Rattle.counted_tree.specs.Internal.Along.{under}
+use Rattle.counted_tree.specs.Internal.Inserted.{IsInserted}
 use Rattle.counted_tree.proofs.Unders.{lift_there, lifted_there}
 use Rattle.counted_tree.proofs.insert.lift_settled.Goals as goal
 

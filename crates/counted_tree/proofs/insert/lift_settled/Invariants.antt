@@ -1,9 +1,9 @@
 use Rattle.std.proofs.Common.{◌+◌, ◌*◌, ◌≤◌, length, List}
 use Rattle.counted_tree.specs.declared.grown.Grown.TheVariants.{Settled}
 use Rattle.counted_tree.specs.declared.row.Row.{Row}
-use Rattle.counted_tree.specs.Tree.{Tree}
-use Rattle.counted_tree.specs.Store.{Store}
-use Rattle.counted_tree.specs.Inserted.{IsRisen}
+use Rattle.counted_tree.specs.Internal.Tree.{Tree}
+use Rattle.counted_tree.specs.Internal.Store.{Store}
+use Rattle.counted_tree.specs.Internal.Inserted.{IsRisen}
 use Rattle.counted_tree.proofs.insert.lift_settled.Given as goal
 
 abbrev pub invariant-loop-level : goal.invariant-loop-level

@@ -3,8 +3,8 @@ use Rattle.std.proofs.lemmas.List.{length_push}
 use Rattle.counted_tree.specs.declared.grown.Grown.TheVariants.{Settled}
 use Rattle.counted_tree.specs.declared.side.Side.TheVariants.{Right}
 use Rattle.counted_tree.specs.declared.size.Size.{Size}
-use Rattle.counted_tree.specs.Change.{tree_in}
-use Rattle.counted_tree.specs.Inserted.{IsInserted, IsLift}
+use Rattle.counted_tree.specs.Internal.Change.{tree_in}
+use Rattle.counted_tree.specs.Internal.Inserted.{IsInserted, IsLift}
 use Rattle.counted_tree.proofs.Counts.{one_at_most}
 use Rattle.counted_tree.proofs.Risen.{step_there, stepped_left, stepped_right}
 use Rattle.counted_tree.proofs.insert.step_settled.Goals as goal

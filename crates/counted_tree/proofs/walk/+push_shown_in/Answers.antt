@@ -1,9 +1,9 @@
 use Rattle.std.proofs.Common.{◌≡◌, ℕ, ◌+◌, ◌-◌, ◌*◌, ◌<◌, ◌≤◌, max, length, ap, sym, subst, ◌∙◌, arith}
 use Rattle.std.proofs.lemmas.Bool.Decides.{nat_tests}
 use Rattle.counted_tree.specs.Entry.{visible}
-use Rattle.counted_tree.specs.Tree.{entries, height}
-use Rattle.counted_tree.specs.Tree.Tree.{Fork}
-use Rattle.counted_tree.specs.Change.{tree_in}
+use Rattle.counted_tree.specs.Internal.Tree.{entries, height}
+use Rattle.counted_tree.specs.Internal.Tree.Tree.{Fork}
+use Rattle.counted_tree.specs.Internal.Change.{tree_in}
 use Rattle.counted_tree.proofs.Looked.{few_below}
 use Rattle.counted_tree.proofs.Sizes.{shown-fork}
 use Rattle.counted_tree.proofs.walk.+push_shown_in.Goals as goal

@@ -2,9 +2,9 @@ use Rattle.std.proofs.Common.{◌≡◌, ◌+◌, arith, length, get_or, drop, t
 use Rattle.std.proofs.lemmas.Option.{slice_get-get_or}
 use Rattle.std.specs.Option.{IsSome}
 use Rattle.counted_tree.specs.declared.side.Side.TheVariants.{Left}
-use Rattle.counted_tree.specs.Along.{entry_at, turned, under}
-use Rattle.counted_tree.specs.Arena.{IsLinkBelow}
-use Rattle.counted_tree.specs.Change.{tree_in}
+use Rattle.counted_tree.specs.Internal.Along.{entry_at, turned, under}
+use Rattle.counted_tree.specs.Internal.Arena.{IsLinkBelow}
+use Rattle.counted_tree.specs.Internal.Change.{tree_in}
 use Rattle.counted_tree.proofs.Unders.{along_pushed, entry_under, side_below, side_tree, under_step}
 use Rattle.counted_tree.proofs.way.numbers_along.Goals as goal
 

@@ -1,7 +1,7 @@
 use Rattle.std.proofs.Common.{◌≡◌, ◌+◌, ◌<◌, ◌≤◌, length, take, Some}
-use Rattle.counted_tree.specs.Change.{tree_in}
-use Rattle.counted_tree.specs.Along.{under}
-use Rattle.counted_tree.specs.Inserted.{AreAlong}
+use Rattle.counted_tree.specs.Internal.Change.{tree_in}
+use Rattle.counted_tree.specs.Internal.Along.{under}
+use Rattle.counted_tree.specs.Internal.Inserted.{AreAlong}
 use Rattle.counted_tree.proofs.way.numbers_along.Given as goal
 
 abbrev pub invariant-loop-side : goal.invariant-loop-side

@@ -1,7 +1,7 @@
 -- The lines that were cut off were answered, the bytes held are those after them, and nothing failed.
 use Rattle.std.proofs.Common.{◌≡◌}
 use Rattle.line_engine.specs.Calls.{for_a_block, of_bytes, CountsReads, CountsWrites}
-use Rattle.line_engine.specs.Turns.{work}
+use Rattle.line_engine.specs.Internal.Turns.{work}
 use Rattle.line_engine.proofs.Rounds.{HasServed}
 use Rattle.line_engine.proofs.engine.serve.Given as goal
 

@@ -2,7 +2,7 @@
 use Rattle.std.proofs.Common.{◌≡◌, ℕ, List, ◌++◌}
 use Rattle.std.specs.Io.KnownBytes.{Consumes}
 use Rattle.line_engine.specs.Lines.{IsLine}
-use Rattle.line_engine.specs.Turns.{work}
+use Rattle.line_engine.specs.Internal.Turns.{work}
 use Rattle.line_engine.proofs.taking.first_line.Given as goal
 
 abbrev pub invariant-reading : goal.invariant-reading

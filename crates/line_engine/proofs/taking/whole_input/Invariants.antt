@@ -1,7 +1,7 @@
 -- What was held at first and what was read are the bytes kept, and those held.
 use Rattle.std.proofs.Common.{◌≡◌, ℕ, List, ◌++◌}
 use Rattle.std.specs.Io.KnownBytes.{Consumes}
-use Rattle.line_engine.specs.Turns.{work}
+use Rattle.line_engine.specs.Internal.Turns.{work}
 use Rattle.line_engine.proofs.taking.whole_input.Given as goal
 
 abbrev pub invariant-reading : goal.invariant-reading

@@ -4,7 +4,7 @@ use Rattle.std.specs.Prelude.{List}
 use Rattle.opid.specs.Operations.{Operation}
 use Rattle.std.proofs.lemmas.List.{take_more, length-take-le}
 use Rattle.std.proofs.lemmas.Option.{get_or_from_slice_get}
-use Rattle.replica.specs.Numbered.{AllPlaces, AreNumbered}
+use Rattle.replica.specs.Internal.Numbered.{AllPlaces, AreNumbered}
 use Rattle.versions.proofs.Left.{left_after}
 use Rattle.replica.proofs.Numbers.{AreNumbered-push, AreNumbered-none}
 use Rattle.replica.proofs.log.places_of.Goals as goal

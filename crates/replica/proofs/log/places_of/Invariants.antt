@@ -1,5 +1,5 @@
 use Rattle.std.proofs.Common.{◌≡◌, take, drop}
-use Rattle.replica.specs.Numbered.{AreNumbered}
+use Rattle.replica.specs.Internal.Numbered.{AreNumbered}
 use Rattle.replica.proofs.log.places_of.Given as goal
 
 -- the operations so far stand in their sites' rows, and the walk has those that are left

@@ -1,6 +1,6 @@
 -- A row that gets room keeps its places; one whose memory is refused stays.
 use Rattle.std.proofs.Common.{◌≡◌, ◌∙◌, ◌<◌, ◌≤◌, length, ap, sym, arith}
-use Rattle.replica.specs.Numbered.{PlacesOfOne}
+use Rattle.replica.specs.Internal.Numbered.{PlacesOfOne}
 use Rattle.replica.proofs.SitePlaces.{kept_places, kept_room, each_row, enough_more}
 use Rattle.replica.proofs.places.reserve_each.Goals as goal
 

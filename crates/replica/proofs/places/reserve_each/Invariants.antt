@@ -1,7 +1,7 @@
 -- What the loop over the rows keeps.
 use Rattle.std.proofs.Common.{◌≡◌, ℕ, ◌≤◌, ◌<◌, map, get_or}
 use Rattle.std.specs.List.{AllByRecursion}
-use Rattle.replica.specs.Numbered.{PlacesOfOne}
+use Rattle.replica.specs.Internal.Numbered.{PlacesOfOne}
 use Rattle.replica.proofs.places.reserve_each.Given as goal
 
 -- each row keeps its places and its room, and each so far has room for n

@@ -1,7 +1,7 @@
 -- The rounds that are left lead to the end; the last one changes nothing.
 use Rattle.std.proofs.Common.{◌≡◌, ◌∙◌, ◌-◌, sym, arith}
 use Rattle.replica.specs.Settle.{Settling, round}
-use Rattle.replica.specs.Kept.{settling_of}
+use Rattle.replica.specs.Internal.Kept.{settling_of}
 use Rattle.replica.proofs.Rounds.{rounds-stay, rounds-step}
 use Rattle.replica.proofs.settle.settle.Goals as goal
 

@@ -2,7 +2,7 @@
 use Rattle.std.proofs.Common.{◌≡◌, ◌+◌, ◌-◌, ◌≤◌, length}
 use Rattle.opid.specs.Lawful.{IsLawful}
 use Rattle.replica.specs.Settle.{rounds, settle}
-use Rattle.replica.specs.Kept.{settling_of, HasRoomFor, start_of}
+use Rattle.replica.specs.Internal.Kept.{settling_of, HasRoomFor, start_of}
 use Rattle.replica.proofs.settle.settle.Given as goal
 
 -- as many rounds as are left lead to the end

@@ -5,7 +5,7 @@ use Rattle.session_outbox.specs.Sessions.{session_with}
 use Rattle.session_outbox.specs.Answers.{submission_of}
 use Rattle.room.specs.declared.call.Call.TheVariants.{Del}
 use Rattle.room.specs.Machine.{counts_units}
-use Rattle.room.specs.Parts.{Submits}
+use Rattle.room.specs.Internal.Parts.{Submits}
 use Rattle.room.proofs.Replied.{at_once, carried}
 use Rattle.room.proofs.calls.delete.Goals as goal
 

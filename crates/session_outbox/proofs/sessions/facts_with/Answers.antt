@@ -1,7 +1,7 @@
 use Rattle.std.proofs.Common.{◌≡◌, ◌∙◌, nat_eq, ap}
 use Rattle.std.specs.Map.{lookup}
 use Rattle.std.specs.Option.{option_map}
-use Rattle.session_outbox.specs.Kept.{session_of}
+use Rattle.session_outbox.specs.Internal.Kept.{session_of}
 use Rattle.session_outbox.proofs.Entries.{found}
 use Rattle.session_outbox.proofs.sessions.facts_with.Goals as goal
 

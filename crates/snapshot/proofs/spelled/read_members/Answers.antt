@@ -3,7 +3,7 @@ use Rattle.std.specs.Prelude.{IfSome}
 use Rattle.json.specs.Token.{end_array}
 use Rattle.wire_json.specs.Packing.{unfolded_all}
 use Rattle.snapshot.specs.declared.gathered.Gathered.{Gathered}
-use Rattle.snapshot.specs.Coming.{TellsLog}
+use Rattle.snapshot.specs.Internal.Coming.{TellsLog}
 use Rattle.snapshot.proofs.Telling.{log_read}
 use Rattle.snapshot.proofs.spelled.read_members.Goals as goal
 

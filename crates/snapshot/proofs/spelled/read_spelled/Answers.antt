@@ -6,7 +6,7 @@ use Rattle.opid.specs.Operations.{Operation}
 use Rattle.wire_json.specs.Packing.{unfolded_all}
 use Rattle.snapshot.specs.declared.gathered.Gathered.{Gathered}
 use Rattle.snapshot.specs.Snapshot.{told_in}
-use Rattle.snapshot.specs.Coming.{ReadsLog}
+use Rattle.snapshot.specs.Internal.Coming.{ReadsLog}
 use Rattle.snapshot.proofs.Telling.{bytes_told}
 use Rattle.snapshot.proofs.spelled.read_spelled.Goals as goal
 

@@ -2,7 +2,7 @@ use Rattle.std.proofs.Common.{◌≡◌, ◌-◌, length, take, arith, true, fal
 use Rattle.std.proofs.lemmas.List.{take_all}
 use Rattle.serde_json.specs.Data.{no_members}
 use Rattle.serde_json.specs.Find.{get_member}
-use Rattle.wire_json.specs.Flat.{put_all}
+use Rattle.wire_json.specs.Internal.Flat.{put_all}
 use Rattle.wire_json.proofs.FlatObjects.{looked_up}
 use Rattle.wire_json.proofs.fields.value_among.Goals as goal
 

@@ -2,7 +2,7 @@
 use Rattle.std.proofs.Common.{◌≡◌, take}
 use Rattle.serde_json.specs.Data.{no_members}
 use Rattle.serde_json.specs.Find.{get_member}
-use Rattle.wire_json.specs.Flat.{put_all}
+use Rattle.wire_json.specs.Internal.Flat.{put_all}
 use Rattle.wire_json.proofs.fields.value_among.Given as goal
 
 abbrev pub invariant-loop-i : goal.invariant-loop-i

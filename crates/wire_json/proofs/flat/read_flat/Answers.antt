@@ -1,6 +1,6 @@
 use Rattle.std.proofs.Common.{◌≡◌, List, Some, subst}
 use Rattle.json.specs.Token.{Token}
-use Rattle.wire_json.specs.Flat.{value_of_tokens, flat_data}
+use Rattle.wire_json.specs.Internal.Flat.{value_of_tokens, flat_data}
 use Rattle.wire_json.proofs.Steps.{json_read}
 use Rattle.wire_json.proofs.flat.read_flat.Goals as goal
 

@@ -1,6 +1,6 @@
 use Rattle.std.proofs.Common.{◌∷◌, ap, sym, subst, ◌∙◌}
 use Rattle.json.specs.Reads.{token_of}
-use Rattle.wire_json.specs.Flat.{TellsMembers}
+use Rattle.wire_json.specs.Internal.Flat.{TellsMembers}
 use Rattle.wire_json.proofs.FlatObjects.{one_more, whole_object}
 use Rattle.wire_json.proofs.flat.read_members.Goals as goal
 

@@ -1,5 +1,5 @@
 -- The members so far were told by the tokens that are taken.
-use Rattle.wire_json.specs.Flat.{TellsMembers}
+use Rattle.wire_json.specs.Internal.Flat.{TellsMembers}
 use Rattle.wire_json.proofs.flat.read_members.Given as goal
 
 abbrev pub invariant-loop : goal.invariant-loop

@@ -3,7 +3,7 @@ use Rattle.std.specs.Str.{chars}
 use Rattle.opid.specs.Operations.{Operation}
 use Rattle.wire_json.specs.Packing.{typed_behind}
 use Rattle.wire_json.specs.PackedOperations.{concatenated}
-use Rattle.wire_json.specs.Handed.{TellsOps}
+use Rattle.wire_json.specs.Internal.Handed.{TellsOps}
 use Rattle.wire_json.proofs.Unfolding.{few_kept}
 use Rattle.wire_json.proofs.Handing.{no_ops, ops_more, ops_read}
 use Rattle.wire_json.proofs.handed.next_ops.Goals as goal

@@ -1,7 +1,7 @@
 -- the pairs so far, and what the rest gives, is what the whole list gives
 use Rattle.std.proofs.Common.{◌≡◌, take, drop}
 use Rattle.wire_json.specs.Operations.{each, sited_pair}
-use Rattle.wire_json.specs.Offers.{pairs_in}
+use Rattle.wire_json.specs.Internal.Offers.{pairs_in}
 use Rattle.wire_json.proofs.Loops.{with_front}
 use Rattle.wire_json.proofs.operations.check_pair_sites.Given as goal
 

@@ -2,7 +2,7 @@
 use Rattle.std.proofs.Common.{◌≡◌, take, drop}
 use Rattle.serde_json.specs.View.{items_view}
 use Rattle.wire_json.specs.Operations.{each, pair_of, items_told}
-use Rattle.wire_json.specs.Offers.{pairs_in}
+use Rattle.wire_json.specs.Internal.Offers.{pairs_in}
 use Rattle.wire_json.proofs.Loops.{with_front}
 use Rattle.wire_json.proofs.operations.check_pairs.Given as goal
 

@@ -3,7 +3,7 @@ use Rattle.std.proofs.Common.{◌≡◌, ◌<◌, length, take, sym, ap, ◌∙�
 use Rattle.std.proofs.lemmas.List.{length-map, take_all}
 use Rattle.causal_clock.specs.Listing.{clock_told}
 use Rattle.wire_json.specs.Operations.{sited_pair}
-use Rattle.wire_json.specs.Offers.{pairs_in}
+use Rattle.wire_json.specs.Internal.Offers.{pairs_in}
 use Rattle.wire_json.proofs.Told.{too_many}
 use Rattle.wire_json.proofs.Checked.{all_sited, same_at, put_more}
 use Rattle.wire_json.proofs.operations.read_clock.Goals as goal

@@ -1,6 +1,6 @@
 -- the list begins with the pairs so far
 use Rattle.std.proofs.Common.{◌≡◌, length, take}
-use Rattle.wire_json.specs.Offers.{pairs_in}
+use Rattle.wire_json.specs.Internal.Offers.{pairs_in}
 use Rattle.wire_json.proofs.operations.read_clock.Given as goal
 
 abbrev pub invariant-loop-place : goal.invariant-loop-place

@@ -1,6 +1,6 @@
 -- The compact text of a reply's value is the reply's text.
 use Rattle.std.proofs.Common.{◌∙◌}
-use Rattle.wire_json.specs.Written.{data_of}
+use Rattle.wire_json.specs.Internal.Written.{data_of}
 use Rattle.wire_json.proofs.Printed.{print-tokens_of}
 use Rattle.wire_json.proofs.Texts.{compact}
 use Rattle.wire_json.proofs.writing.text_by_tokens.Goals as goal

@@ -2,8 +2,8 @@ use Rattle.std.proofs.Common.{◌≡◌, length, Some, ap, ◌∙◌, sym, subst
 use Rattle.std.specs.List.{slice_get}
 use Rattle.counted_tree.specs.declared.node.Node.{Node}
 use Rattle.counted_tree.specs.Entry.{key_and_width_of}
-use Rattle.counted_tree.specs.PackedNode.{elem_of, node_of}
-use Rattle.counted_tree.specs.Store.{Store, nodes_of}
+use Rattle.counted_tree.specs.Internal.PackedNode.{elem_of, node_of}
+use Rattle.counted_tree.specs.Internal.Store.{Store, nodes_of}
 use Rattle.counted_tree.proofs.Stored.{elem_below_at, read_at, node_at, key_and_width_back, length-nodes_of}
 use Rattle.counted_tree.proofs.nodes.Nodes.look.Goals as goal
 

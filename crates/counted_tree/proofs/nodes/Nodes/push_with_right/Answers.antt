@@ -1,7 +1,7 @@
 use Rattle.std.proofs.Common.{◌≡◌, ◌∷◌, ◌++◌, [], length, Some, ap, ◌∙◌, sym, subst, arith}
 use Rattle.std.specs.List.{slice_get}
 use Rattle.counted_tree.specs.declared.node.Node.{Node}
-use Rattle.counted_tree.specs.Store.{Store, nodes_of, AreElemsBelow}
+use Rattle.counted_tree.specs.Internal.Store.{Store, nodes_of, AreElemsBelow}
 use Rattle.counted_tree.proofs.Stored.{elem_below_at, elems_below_push, length-nodes_of, nodes_copied, read_at}
 use Rattle.counted_tree.proofs.nodes.Nodes.push_with_right.Goals as goal
 

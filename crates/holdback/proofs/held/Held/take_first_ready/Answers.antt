@@ -3,7 +3,7 @@ use Rattle.std.proofs.Common.{length, ◌≡◌, ◌∙◌, None, Some, List, ap
 use Rattle.opid.specs.Clocks.{is_next}
 use Rattle.opid.specs.Operations.{Operation, number_of}
 use Rattle.holdback.specs.Offered.{HeldOperations}
-use Rattle.holdback.specs.Packed.{unpacked}
+use Rattle.holdback.specs.Internal.Packed.{unpacked}
 use Rattle.holdback.specs.Ready.{first_ready, without_first_ready}
 use Rattle.holdback.proofs.Places.{none_taken, all_left, taken-ready}
 use Rattle.holdback.proofs.Numbers.{both_removed, no_more}

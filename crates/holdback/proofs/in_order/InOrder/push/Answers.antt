@@ -1,7 +1,7 @@
 use Rattle.std.proofs.Common.{◌≡◌, ◌++◌, ◌∷◌, [], List, ap, sym, ◌∙◌, arith, get_or, length, subst, vec_len, rules}
 use Rattle.opid.specs.Operations.{Operation}
 use Rattle.holdback.specs.Offered.{HeldOperations}
-use Rattle.holdback.specs.Slots.{AreSlots}
+use Rattle.holdback.specs.Internal.Slots.{AreSlots}
 use Rattle.holdback.proofs.Slotted.{arranged_length, put_free, put_new, more_slots}
 use Rattle.holdback.proofs.in_order.InOrder.push.Goals as goal
 

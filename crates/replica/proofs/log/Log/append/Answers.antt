@@ -6,7 +6,7 @@ use Rattle.opid.specs.Lawful.{IsLawful, IsRisingAt, MayFollow}
 use Rattle.opid.proofs.Logs.{IsLawful-push}
 use Rattle.versions.specs.Document.{Document}
 use Rattle.versions.proofs.Integrated.{may_follow}
-use Rattle.replica.specs.Numbered.{AllPlaces, AreNumbered}
+use Rattle.replica.specs.Internal.Numbered.{AllPlaces, AreNumbered}
 use Rattle.replica.proofs.Numbers.{AreNumbered-push}
 use Rattle.replica.proofs.log.Log.append.Goals as goal
 

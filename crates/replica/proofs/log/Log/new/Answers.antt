@@ -2,7 +2,7 @@
 use Rattle.std.proofs.Common.{[], ap, arith, sym, subst}
 use Rattle.opid.specs.Lawful.{IsLawful}
 use Rattle.versions.specs.Document.{Document}
-use Rattle.replica.specs.Numbered.{AllPlaces, AreNumbered}
+use Rattle.replica.specs.Internal.Numbered.{AllPlaces, AreNumbered}
 use Rattle.replica.proofs.Numbers.{AreNumbered-none}
 use Rattle.replica.proofs.log.Log.new.Goals as goal
 

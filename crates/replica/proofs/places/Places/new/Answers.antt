@@ -1,6 +1,6 @@
 -- The rows are empty.
 use Rattle.std.proofs.Common.{◌≡◌, ◌<◌, ℕ, [], List, refl, ap, rules, get_or}
-use Rattle.replica.specs.Numbered.{AllPlaces, PlacesOfOne}
+use Rattle.replica.specs.Internal.Numbered.{AllPlaces, PlacesOfOne}
 use Rattle.replica.proofs.SitePlaces.{no_places}
 use Rattle.replica.proofs.places.Places.new.Goals as goal
 

@@ -1,6 +1,6 @@
 -- The place stands behind those of its site.
 use Rattle.std.proofs.Common.{◌<◌, ◌∙◌, ap, arith, length}
-use Rattle.replica.specs.Numbered.{AllPlaces, PlacesOfOne}
+use Rattle.replica.specs.Internal.Numbered.{AllPlaces, PlacesOfOne}
 use Rattle.replica.proofs.SitePlaces.{pushed}
 use Rattle.replica.proofs.places.Places.push.Goals as goal
 

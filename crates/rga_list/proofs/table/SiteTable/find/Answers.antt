@@ -1,7 +1,7 @@
 -- The last one, and else the search by halves, is what is found along the row.
 use Rattle.std.proofs.Common.{◌≡◌, ◌∙◌, ◌<◌, ◌-◌, ℕ, Some, None, sym, subst, ap, arith, get_or, length, rules}
 use Rattle.std.proofs.lemmas.List.Sorted.{answers_always}
-use Rattle.opid.specs.RisingPairs.{AreRising}
+use Rattle.opid.specs.Internal.RisingPairs.{AreRising}
 use Rattle.rga_list.specs.Internal.SiteIds.{SiteIds, find_id}
 use Rattle.rga_list.proofs.Identifiers.{find_id-at, halves-found, halves-none}
 use Rattle.rga_list.proofs.table.SiteTable.find.Goals as goal

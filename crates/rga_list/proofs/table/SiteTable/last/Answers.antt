@@ -1,6 +1,6 @@
 -- The last of a row in rising order is the greatest.
 use Rattle.std.proofs.Common.{◌≡◌, ◌∙◌, ◌<◌, sym, subst, ap, get_or, rules, length, ◌-◌}
-use Rattle.opid.specs.RisingPairs.{AreRising}
+use Rattle.opid.specs.Internal.RisingPairs.{AreRising}
 use Rattle.rga_list.specs.Internal.SiteIds.{SiteIds, IsGreatest}
 use Rattle.rga_list.proofs.Identifiers.{IsGreatest-last}
 use Rattle.rga_list.proofs.table.SiteTable.last.Goals as goal

@@ -2,7 +2,7 @@
 use Rattle.std.proofs.Common.{sym, subst, ap, arith}
 use Rattle.std.specs.Prelude.{◌<◌}
 use Rattle.std.specs.List.{AllByRecursion as Each}
-use Rattle.opid.specs.RisingPairs.{AreRising}
+use Rattle.opid.specs.Internal.RisingPairs.{AreRising}
 use Rattle.rga_list.specs.Internal.SiteIds.{SiteIds}
 use Rattle.rga_list.proofs.Identifiers.{AreRising-push}
 use Rattle.rga_list.proofs.table.SiteTable.push.Goals as goal

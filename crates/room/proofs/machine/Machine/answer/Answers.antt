@@ -2,7 +2,7 @@
 use Rattle.std.proofs.Common.{Result, Ok, Err, subst}
 use Rattle.std.specs.Prelude.{OnErr}
 use Rattle.room.specs.Machine.{State}
-use Rattle.room.specs.Parts.{MayLackMemory}
+use Rattle.room.specs.Internal.Parts.{MayLackMemory}
 use Rattle.room.proofs.machine.Machine.answer.Goals as goal
 
 on_err : {A E : Type 0} (result : Result A E) (P : Type 0) → P → OnErr result P

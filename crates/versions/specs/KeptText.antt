@@ -1,9 +1,0 @@
--- What a kept text stands for. No public clause cites this: it is the code's alone.
-use Rattle.std.specs.Prelude.{ℕ, List, string_bytes}
-use Rattle.versions.specs.declared.characters.KeptText.{KeptText}
-use Rattle.versions.specs.declared.characters.KeptText.TheVariants.{Short, Long}
-
--- its bytes
-abbrev pub bytes_of : KeptText → List ℕ
-bytes_of (Short text) = text.bytes
-bytes_of (Long text) = string_bytes text

@@ -1,0 +1,6 @@
+-- What is the code's alone: how its values are kept, and proofs that its types cite. No public clause cites these files, so nothing
+-- in them has to be believed.
+pub mod Offers
+pub mod Written
+pub mod Flat
+pub mod Handed
