@@ -17,7 +17,7 @@ use std::time::{Clock, Duration};
 // How many characters each thread types.
 const TYPED: u32 = 99;
 
-// How often a thread carries at least, while both rooms are typed in.
+// How often a thread carries at least.
 const CARRIES: u32 = 64;
 
 // Two rooms, of which the one carries to the other.

@@ -52,7 +52,7 @@ impl Shape {
 }
 
 /// Puts an element in at the place, in both.
-pub(crate) fn put_in_both(
+fn put_in_both(
     tree: &mut VersionTree,
     recursive: &mut Recursive,
     place: u32,
