@@ -7,7 +7,8 @@
 The first runs beside each server: what its room has goes to a stream of the broker Redis, and what others put there comes to
 the room. The second carries between two servers without a broker. The servers need different site numbers. Nothing is kept
 here: a bridge may be started anew at any time, since what comes again is answered `again`. Each poll is a call that the room
-records, so an idle bridge polls once a second. It needs the libraries `websockets` and, for the broker, `redis`.
+records, so an idle bridge polls once a second. A room that is full (12) takes no more, and what it has is carried on. It needs
+the libraries `websockets` and, for the broker, `redis`.
 """
 import json
 import sys
@@ -18,7 +19,14 @@ from client import Lost, Refused, Socket
 MOST = 64  # operations of an `ops` or a `put`, a run counting as many as it has characters
 SOON, LATE = 0.02, 1.0  # seconds between two polls
 NOT_YET = 18  # too many wait for what hasn't come
-NEVER = (17, 19, 20, 21)  # a forged operation, or one of another life of the room
+OWN_SITE = 17  # an operation of the room's own site, which its log doesn't have
+FULL = 12
+NEVER = (19, 20, 21)  # a forged operation, or one of another life of the room
+MEANING = {
+    4: "has no room of this name",
+    13: "has recorded all the calls that its room takes: start it anew, with its text in a new room",
+    OWN_SITE: "has the site of another server's operations, or lost its own: start it anew with another --site, then the bridge",
+}
 
 
 def unfolded(it):
@@ -37,15 +45,21 @@ class Room:
     """A server's room, and how much of its log was seen."""
 
     def __init__(self, address, name):
+        self.address = address
         self.socket = Socket(address, name)
         self.seen = 0
+        self.is_full = False
+
+    def stop(self, number):
+        """Ends the bridge, and says why."""
+        sys.exit(f"{self.address} {MEANING.get(number, f'refused a request with {number}')}")
 
     def ask(self, request):
         reply = self.socket(request)
         if reply["r"] == "no" and reply["n"] in (25, 26):
             raise Lost
         if reply["r"] == "no":
-            raise Refused(reply["n"])
+            self.stop(reply["n"])
         return reply
 
     def news(self):
@@ -55,14 +69,19 @@ class Room:
 
     def put(self, operations):
         """Puts operations, at most 64, and gives those that have to come again since too many wait."""
-        if not operations:
+        if not operations or self.is_full:
             return []
         outcomes = self.ask({"t": "put", "ops": operations})["os"]
         for operation, outcome in zip(operations, outcomes):
-            if outcome[0] == "no" and outcome[1] in NEVER:
-                print(f"left out, refused {outcome[1]}: {json.dumps(operation)}", file=sys.stderr)
-            elif outcome[0] == "no" and outcome[1] != NOT_YET:
-                raise Refused(outcome[1])
+            if outcome[0] != "no" or outcome[1] == NOT_YET:
+                continue
+            if outcome[1] == FULL:
+                self.is_full = True
+                print(f"the room at {self.address} is full: nothing more is carried to it", file=sys.stderr)
+                return []
+            if outcome[1] not in NEVER:
+                self.stop(outcome[1])
+            print(f"left out, refused {outcome[1]}: {json.dumps(operation)}", file=sys.stderr)
         return [operation for operation, outcome in zip(operations, outcomes) if outcome == ["no", NOT_YET]]
 
 
@@ -84,8 +103,10 @@ class Stream:
     """The room's stream at the broker, read from its beginning."""
 
     def __init__(self, url, name):
-        import redis
-
+        try:
+            import redis
+        except ImportError:
+            sys.exit("the library redis isn't there: apt-get install python3-redis")
         self.broker = redis.Redis.from_url(url)
         self.key = f"rgatext:{name}"
         self.run = self.run_id()
@@ -149,8 +170,10 @@ def main():
     while True:  # from the beginning, whenever a server or the broker was away
         try:
             run()
-        except Refused as why:
-            sys.exit(str(why))
+        except Refused as why:  # of the room that is opened
+            sys.exit(f"a server {MEANING.get(why.number, f'refused a request with {why.number}')}")
+        except ImportError as why:
+            sys.exit(f"the library {why.name} isn't there: apt-get install python3-{why.name}")
         except Lost:
             print("the server was away, or the broker was started anew or lost its stream", file=sys.stderr)
         except OSError as why:

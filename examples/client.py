@@ -27,7 +27,13 @@ class Refused(Exception):
 
 
 class JoinAnew(Refused):
-    """The room and this session no longer speak of one text: leave and join anew, and carry unsent work over by the new text."""
+    """The room and this session no longer speak of one text, or it is another run of the server (5): join anew, and carry unsent work
+    over by the new text."""
+
+
+def spelled(request):
+    """A request as docs/PROTOCOL.md spells it: characters stand as themselves."""
+    return json.dumps(request, ensure_ascii=False, separators=(",", ":"))
 
 
 class Pipe:
@@ -37,7 +43,7 @@ class Pipe:
         self.child = subprocess.Popen(words, stdin=subprocess.PIPE, stdout=subprocess.PIPE)
 
     def __call__(self, request):
-        self.child.stdin.write(json.dumps(request).encode() + b"\n")
+        self.child.stdin.write(spelled(request).encode() + b"\n")
         self.child.stdin.flush()
         if not (line := self.child.stdout.readline()):
             raise Lost
@@ -50,8 +56,8 @@ class Pipe:
 
 
 class Socket:
-    """Asks a room of a server, as Socket("ws://127.0.0.1:8000", "notes"). After a lost answer it connects anew, and wants a
-    new session: nobody tells whether it is the same run of the server."""
+    """Asks a room of a server, as Socket("ws://127.0.0.1:8000", "notes"). After a lost answer it connects anew, and counts that: a
+    session then finds out whether it is the same run of the server."""
 
     def __init__(self, address, room):
         import asyncio
@@ -59,20 +65,21 @@ class Socket:
 
         self.run, self.wait, self.connect = asyncio.new_event_loop().run_until_complete, asyncio.wait_for, websockets.connect
         self.gone = (OSError, asyncio.TimeoutError, websockets.WebSocketException)
-        self.address, self.room, self.line, self.is_anew = address, room, None, False
+        self.address, self.room, self.line, self.lines = address, room, None, 0
 
     async def opened(self):
         line = await self.connect(self.address, max_size=None, ping_interval=None)
-        await line.send(json.dumps({"t": "open", "room": self.room}))
+        await line.send(spelled({"t": "open", "room": self.room}))
         reply = json.loads(await line.recv())
         if reply["r"] == "no":
             await line.close()
             raise Refused(reply["n"])
+        self.lines += 1
         return line
 
     async def answer(self, request):
         self.line = self.line or await self.opened()
-        await self.line.send(json.dumps(request))
+        await self.line.send(spelled(request))
         reply = json.loads(await self.line.recv())
         if reply.get("n") == 25:  # this line's calls are used up: the next request connects again
             await self.line.close()
@@ -80,15 +87,12 @@ class Socket:
         return reply
 
     def __call__(self, request):
-        self.is_anew = self.is_anew and request["t"] != "join"
-        if self.is_anew and "s" in request:
-            raise JoinAnew(5)
         try:
             return self.run(self.wait(self.answer(request), 60))
         except self.gone:
             if self.line:
                 self.line.transport.abort()
-            self.line, self.is_anew = None, True
+            self.line = None
             raise Lost from None
 
     def close(self):
@@ -107,6 +111,15 @@ def carried(place, edits):
     return place
 
 
+def play(text, edits):
+    """Plays edits on a text, a list of characters."""
+    for edit in edits:
+        if edit[0] == "i":
+            text.insert(edit[1], edit[2])
+        elif edit[0] == "d":
+            del text[edit[1] : edit[1] + 1]
+
+
 class Session:
     """A session: the text and the version that it has, and the number of its last accepted submission."""
 
@@ -114,12 +127,15 @@ class Session:
         self.ask = ask
         self.tries = tries  # how often a request is sent whose answer is lost
         self.pause = pause  # seconds before a request is sent again that found no memory
+        self.under_way = None  # the submission whose answer wasn't seen
         self.join()
 
     def _answer(self, request):
         """The reply, where it isn't refused, to a request that may be sent again: nothing is carried out twice."""
         for _ in range(self.tries):
             try:
+                if request["t"] != "join" and self.lines != getattr(self.ask, "lines", 0):
+                    self._find_out()
                 reply = self.ask(request)
             except Lost:
                 continue
@@ -138,10 +154,45 @@ class Session:
         """Opens a session. If the answer is lost, a session of the room stays unused."""
         reply = self._answer({"t": "join"})
         self.session, self.version, self.text = reply["s"], reply["v"], list(reply["x"])
-        self.number = self.reached = 0
+        self.lines = getattr(self.ask, "lines", 0)
+        self.number, self.came, self.reached = 0, 0, 0
+
+    def _find_out(self):
+        """On another line: whether the server is in the same run, where the last accepted submission has the answer that it had, or
+        one was under way and has been accepted since. Else a new session is wanted, as docs/CLIENTS.md tells."""
+        lines = getattr(self.ask, "lines", 0)
+        again = lambda n: self.ask({"t": "ins", "s": self.session, "n": n, "v": 0, "k": 0, "x": ""})
+        reply = again(self.number)
+        same = (reply["r"], reply.get("from"), reply.get("to")) == ("ok", self.came, self.reached)
+        if not same and reply.get("n") == 7:
+            next_one = again(self.number + 1)
+            same = self._is_mine(next_one) or self.number == 0 and next_one.get("n") in (8, 10) and self._reads_the_same()
+        if not same:
+            raise JoinAnew(5)
+        self.lines = lines
+
+    def _is_mine(self, reply):
+        """Whether this is the answer to what is under way: its operations are those that were asked for."""
+        if reply["r"] != "ok" or not self.under_way:
+            return False
+        ops = self.ask({"t": "ops", "after": reply["from"], "max": min(MOST, reply["to"] - reply["from"])})["ops"]
+        text, count = self.under_way.get("x", ""), self.under_way.get("c", len(self.under_way.get("x", "")))
+        return reply["to"] - reply["from"] == count and "".join(it.get("x", "") for it in ops) == text
+
+    def _reads_the_same(self):
+        """Whether pulls by the session, which has submitted nothing, lead to the text that is read."""
+        text, version = list(self.text), self.version
+        while True:
+            reply = self.ask({"t": "pull", "s": self.session, "have": version, "max": MOST})
+            if reply["r"] == "no":
+                return False
+            play(text, reply["es"])
+            version += len(reply["es"])
+            if len(reply["es"]) < MOST and (read := self.ask({"t": "read"}))["v"] == version:
+                return text == list(read["x"])
 
     def leave(self):
-        """Ends the session, where it is there: a `Socket` that wants a new session doesn't send it."""
+        """Ends the session, where it is there and the run of the server is the same."""
         try:
             self._answer({"t": "leave", "s": self.session})
         except JoinAnew:
@@ -151,12 +202,8 @@ class Session:
         """Plays a reply, whenever and however often it comes, and gives the edits that it played."""
         if reply["r"] != "edits" or reply["from"] != self.version:
             return []
-        for edit in reply["es"]:
-            if edit[0] == "i":
-                self.text.insert(edit[1], edit[2])
-            elif edit[0] == "d":
-                del self.text[edit[1]]
-            self.version += 1
+        play(self.text, reply["es"])
+        self.version += len(reply["es"])
         return reply["es"]
 
     def pull(self):
@@ -171,10 +218,11 @@ class Session:
     def _submit(self, kind, place, **what):
         """Submits at a place of the session's text, as its next number. The version that it names is always one that
         was sent, so 8 doesn't come."""
-        reply = self._answer({"t": kind, "s": self.session, "n": self.number + 1, "v": self.version, "k": place, **what})
+        self.under_way = {"t": kind, "s": self.session, "n": self.number + 1, "v": self.version, "k": place, **what}
+        reply = self._answer(self.under_way)
         if reply["from"] < self.reached:
             self._refuse(7)
-        self.number, self.reached = self.number + 1, reply["to"]
+        self.number, self.came, self.reached, self.under_way = self.number + 1, reply["from"], reply["to"], None
 
     def insert(self, place, text):
         """Puts a text in at a place. Its parts all name one version and place, so the last one is sent first."""

@@ -1,0 +1,404 @@
+/**
+ * The text of an editor over a room's text: what is shown, with the changes that the room doesn't have yet. It has no socket and knows
+ * no session; rgatext.js speaks the protocol for it. All places count UTF-16 units, as JavaScript does.
+ *
+ * The text is a list of pieces. A piece is the room's, or it was put in here and is new or under way; and it may be gone, which is a
+ * deletion that is new or under way. What is shown are the pieces that aren't gone. The room's text are the pieces that are its own.
+ */
+
+/** The most characters of an insertion, and the most units of a deletion, that one submission has. */
+export const MOST = 64;
+
+/**
+ * A change of the shown text: at a place, so many units are removed, and a text is put in.
+ * @typedef {{at: number, removed: number, text: string}} Change
+ */
+
+/**
+ * An edit as docs/PROTOCOL.md has it, of a session that counts UTF-16 units.
+ * @typedef {["i", number, string] | ["d", number, number] | ["n"]} Edit
+ */
+
+/**
+ * What is to be sent next: its kind, its place in the room's text at the document's version, and its text or how many units it deletes.
+ * @typedef {{t: "ins", k: number, x: string} | {t: "del", k: number, c: number}} Submission
+ */
+
+/** A piece: its text; whose it is; what becomes of it; and, where something of it is new, when that was made. */
+class Piece {
+  constructor(text, owner, gone = null, order = 0) {
+    this.text = text;
+    this.owner = owner; // "room", "new" or "sent"
+    this.gone = gone; // null, "new" or "sent"
+    this.order = order;
+  }
+
+  get isShown() {
+    return this.gone === null;
+  }
+
+  get isRooms() {
+    return this.owner === "room";
+  }
+
+  /** Takes what stands behind the place off, and gives it as a piece of its own. */
+  cut(place) {
+    const rest = new Piece(this.text.slice(place), this.owner, this.gone, this.order);
+    this.text = this.text.slice(0, place);
+    return rest;
+  }
+
+  /** Whether both are of one kind, so that they may be one piece. */
+  isLike(other) {
+    return this.owner === other.owner && this.gone === other.gone && this.order === other.order;
+  }
+}
+
+/** Whether the place of the text is inside of a pair of units. */
+export function isInside(text, place) {
+  return (text.charCodeAt(place - 1) & 0xfc00) === 0xd800 && (text.charCodeAt(place) & 0xfc00) === 0xdc00;
+}
+
+/** A place carried over changes of the text. At equality it stays before what is put in. */
+export function carried(place, changes) {
+  for (const { at, removed, text } of changes) {
+    if (place > at) {
+      const left = Math.max(at, place - removed);
+      place = left > at ? left + text.length : at;
+    }
+  }
+  return place;
+}
+
+/**
+ * The one change that leads from a text to another. What both end with counts first in the last `behind` units, as behind a caret, then
+ * what they begin with, and then what they end with. No end of it is inside of a pair.
+ * @returns {Change}
+ */
+export function difference(from, to, behind = 0) {
+  const most = Math.min(from.length, to.length);
+  const isSameEnd = (end) => from[from.length - 1 - end] === to[to.length - 1 - end];
+  let start = 0;
+  let end = 0;
+  while (end < Math.min(behind, most) && isSameEnd(end)) end += 1;
+  while (start < most - end && from[start] === to[start]) start += 1;
+  while (end < most - start && isSameEnd(end)) end += 1;
+  if (isInside(from, start) || isInside(to, start)) start -= 1;
+  if (isInside(from, from.length - end) || isInside(to, to.length - end)) end -= 1;
+  return { at: start, removed: from.length - end - start, text: to.slice(start, to.length - end) };
+}
+
+/** The first so many characters of a text. */
+function beginning(text, characters) {
+  let end = 0;
+  for (let n = 0; n < characters && end < text.length; n += 1) end += text.codePointAt(end) > 0xffff ? 2 : 1;
+  return text.slice(0, end);
+}
+
+/** How many characters a text has. */
+function characters(text) {
+  let count = 0;
+  for (const _ of text) count += 1;
+  return count;
+}
+
+/** Adds a change, or lengthens the last one where it goes on there. */
+function add(changes, change) {
+  const last = changes.at(-1);
+  if (last !== undefined && last.removed === 0 && change.removed === 0 && change.at === last.at + last.text.length) last.text += change.text;
+  else if (last !== undefined && last.text === "" && change.text === "" && change.at === last.at) last.removed += change.removed;
+  else changes.push(change);
+}
+
+export class Document {
+  /** @type {Piece[]} */
+  #pieces;
+  #orders = 0;
+  /** What is under way: nothing, or what was sent; once it is accepted, from and to which version it leads. */
+  #sent = null;
+
+  /** The document of a room's text at a version. */
+  constructor(text = "", version = 0) {
+    this.#pieces = text === "" ? [] : [new Piece(text, "room")];
+    this.version = version;
+  }
+
+  /** The text that is shown. */
+  get text() {
+    return this.#pieces.map((piece) => (piece.isShown ? piece.text : "")).join("");
+  }
+
+  /** The room's text at the document's version. */
+  get roomText() {
+    return this.#pieces.map((piece) => (piece.isRooms ? piece.text : "")).join("");
+  }
+
+  /** The texts that were put in here and that the room isn't known to have. */
+  get unsent() {
+    return this.#pieces.filter((piece) => !piece.isRooms && piece.isShown).map((piece) => piece.text);
+  }
+
+  /** How many changes of the room's text are new or under way: characters to put in, and such to delete. */
+  get pending() {
+    let count = 0;
+    for (const piece of this.#pieces) {
+      if (!piece.isRooms) count += characters(piece.text);
+      if (piece.gone !== null) count += characters(piece.text);
+    }
+    return count;
+  }
+
+  /** Whether a submission is under way, accepted or not, whose edits weren't played yet. */
+  get isWaiting() {
+    return this.#sent !== null;
+  }
+
+  /**
+   * What the user does: removes so many units at a place of the shown text, and puts a text in there. Neither end is inside of a pair.
+   * A unit of a pair that stands alone in the text, which no room takes, becomes U+FFFD. Gives the change that was made.
+   * @returns {Change}
+   */
+  replace(at, removed, text) {
+    const shown = this.text;
+    if (at < 0 || removed < 0 || at + removed > shown.length) throw new RangeError("beyond the text");
+    if (isInside(shown, at) || isInside(shown, at + removed)) throw new RangeError("inside of a pair");
+    const put = text.toWellFormed();
+    this.#remove(at, removed);
+    if (put !== "") this.#insert(at, put);
+    return { at, removed, text: put };
+  }
+
+  /** Puts a text in behind what is shown before the place. What is new there already takes it in. */
+  #insert(at, text) {
+    const index = this.#behind(at);
+    const left = this.#pieces[index - 1];
+    if (left !== undefined && left.owner === "new" && left.isShown) {
+      left.text += text;
+      return;
+    }
+    this.#pieces.splice(index, 0, new Piece(text, "new", null, (this.#orders += 1)));
+  }
+
+  /** Removes so many units of what is shown. What is new is taken out; all else is gone, and that is sent when its turn comes. */
+  #remove(at, removed) {
+    if (removed === 0) return;
+    const order = (this.#orders += 1);
+    let index = this.#behind(at);
+    let rest = removed;
+    while (rest > 0) {
+      const piece = this.#pieces[index];
+      if (!piece.isShown) {
+        index += 1;
+        continue;
+      }
+      if (piece.text.length > rest) this.#pieces.splice(index + 1, 0, piece.cut(rest));
+      rest -= piece.text.length;
+      if (piece.owner === "new") {
+        this.#pieces.splice(index, 1);
+      } else {
+        piece.gone = "new";
+        piece.order = order;
+        index += 1;
+      }
+    }
+  }
+
+  /** The number of the piece right behind what is shown before the place; a piece that the place is inside of is cut there. */
+  #behind(at) {
+    if (at === 0) return 0;
+    let before = 0;
+    for (let index = 0; index < this.#pieces.length; index += 1) {
+      const piece = this.#pieces[index];
+      if (!piece.isShown) continue;
+      if (at <= before + piece.text.length) {
+        if (at < before + piece.text.length) this.#pieces.splice(index + 1, 0, piece.cut(at - before));
+        return index + 1;
+      }
+      before += piece.text.length;
+    }
+    return this.#pieces.length;
+  }
+
+  /**
+   * What is to be sent next, and marks it as under way; nothing where all is sent, or something is under way. What was done first is
+   * sent first.
+   * @returns {Submission | null}
+   */
+  next() {
+    if (this.#sent !== null) return null;
+    let first = -1;
+    for (const [index, piece] of this.#pieces.entries()) {
+      const isNew = piece.owner === "new" || (piece.isRooms && piece.gone === "new");
+      if (isNew && (first < 0 || piece.order < this.#pieces[first].order)) first = index;
+    }
+    if (first < 0) return null;
+    const k = this.#roomPlace(first);
+    this.#sent = this.#pieces[first].isRooms ? this.#deletion(first, k) : this.#insertion(first, k);
+    return this.#sent.submission;
+  }
+
+  #insertion(index, k) {
+    const piece = this.#pieces[index];
+    const x = beginning(piece.text, MOST);
+    if (x.length < piece.text.length) this.#pieces.splice(index + 1, 0, piece.cut(x.length));
+    piece.owner = "sent";
+    return { submission: { t: "ins", k, x }, from: null, to: null };
+  }
+
+  /** The deletion of what is gone from a piece on, without a gap in the room's text. */
+  #deletion(first, k) {
+    let c = 0;
+    for (let index = first; index < this.#pieces.length; index += 1) {
+      const piece = this.#pieces[index];
+      if (!piece.isRooms) continue;
+      if (piece.gone !== "new") break;
+      let most = Math.min(MOST - c, piece.text.length);
+      if (isInside(piece.text, most)) most -= 1;
+      if (most === 0) break;
+      if (most < piece.text.length) this.#pieces.splice(index + 1, 0, piece.cut(most));
+      piece.gone = "sent";
+      c += most;
+    }
+    return { submission: { t: "del", k, c }, from: null, to: null };
+  }
+
+  /** What is under way was accepted: it leads from a version to another, and the edits between them are its own. */
+  accept(from, to) {
+    this.#sent.from = from;
+    this.#sent.to = to;
+  }
+
+  /** What is under way wasn't accepted: it is new again. */
+  takeBack() {
+    this.#sent = null;
+    for (const piece of this.#pieces) {
+      if (piece.owner === "sent") piece.owner = "new";
+      if (piece.gone === "sent") piece.gone = "new";
+    }
+  }
+
+  /**
+   * Plays edits that lead from the document's version on, and gives the changes of the shown text, each of the text that the ones before
+   * lead to. While something is under way it has to be accepted before.
+   * @param {Edit[]} edits
+   * @returns {Change[]}
+   */
+  play(edits) {
+    const changes = [];
+    for (const edit of edits) {
+      const isOwn = this.#sent !== null && this.#sent.from !== null && this.#sent.from <= this.version && this.version < this.#sent.to;
+      if (edit[0] === "i") {
+        if (isOwn) this.#settle(edit[1], edit[2], changes);
+        else this.#put(edit[1], edit[2], changes);
+      } else if (edit[0] === "d") {
+        this.#take(edit[1], edit[2], changes);
+      }
+      this.version += 1;
+      if (isOwn && this.version === this.#sent.to) this.#sent = null;
+    }
+    return changes;
+  }
+
+  /** The room has another text by now, of a version whose way from this one isn't known: what both have in common stays. */
+  follow(text, version) {
+    const changes = [];
+    const { at, removed, text: put } = difference(this.roomText, text);
+    this.#take(at, removed, changes);
+    if (put !== "") this.#put(at, put, changes);
+    this.version = version;
+    return changes;
+  }
+
+  /** A text that others put in: behind what is pending at its place, which stands right behind what is before it. */
+  #put(k, text, changes) {
+    const index = this.#atRooms(k);
+    add(changes, { at: this.#shownPlace(index), removed: 0, text });
+    const left = this.#pieces[index - 1];
+    if (left !== undefined && left.isRooms && left.isShown) left.text += text;
+    else this.#pieces.splice(index, 0, new Piece(text, "room"));
+    this.#joinAt(index);
+  }
+
+  /** Units of the room's text that are deleted, by whom ever. What was gone is gone for good. */
+  #take(k, units, changes) {
+    let rest = units;
+    const index = rest > 0 ? this.#atRooms(k) : 0;
+    for (let at = index; rest > 0; ) {
+      const piece = this.#pieces[at];
+      if (!piece.isRooms) {
+        at += 1;
+        continue;
+      }
+      if (piece.text.length > rest) this.#pieces.splice(at + 1, 0, piece.cut(rest));
+      rest -= piece.text.length;
+      if (piece.isShown) add(changes, { at: this.#shownPlace(at), removed: piece.text.length, text: "" });
+      this.#pieces.splice(at, 1);
+    }
+    this.#joinAt(index);
+  }
+
+  /** A character that was under way is the room's now. Where it stands elsewhere than it is shown, what is pending there moves. */
+  #settle(k, ch, changes) {
+    let index = this.#pieces.findIndex((piece) => piece.owner === "sent");
+    if (index < 0 || !this.#pieces[index].text.startsWith(ch)) throw new Error("an edit of another submission");
+    if (this.#roomPlace(index) !== k) index = this.#move(index, k, changes);
+    const piece = this.#pieces[index];
+    if (ch.length < piece.text.length) this.#pieces.splice(index + 1, 0, piece.cut(ch.length));
+    piece.owner = "room";
+    if (piece.isShown) piece.order = 0;
+    this.#joinAt(index);
+  }
+
+  /** Moves what is pending from a piece on to a place of the room's text, and gives the number that the piece has there. */
+  #move(index, k, changes) {
+    let end = index;
+    while (end < this.#pieces.length && !this.#pieces[end].isRooms) end += 1;
+    const at = this.#shownPlace(index);
+    const moved = this.#pieces.splice(index, end - index);
+    const text = moved.map((piece) => (piece.isShown ? piece.text : "")).join("");
+    const there = this.#atRooms(k);
+    if (text !== "") changes.push({ at, removed: text.length, text: "" }, { at: this.#shownPlace(there), removed: 0, text });
+    this.#pieces.splice(there, 0, ...moved);
+    return there;
+  }
+
+  /** The number of the piece of the room's that begins at the place of its text: one that the place is inside of is cut there. */
+  #atRooms(k) {
+    let before = 0;
+    for (const [index, piece] of this.#pieces.entries()) {
+      if (!piece.isRooms) continue;
+      if (k === before) return index;
+      if (k < before + piece.text.length) {
+        this.#pieces.splice(index + 1, 0, piece.cut(k - before));
+        return index + 1;
+      }
+      before += piece.text.length;
+    }
+    if (k !== before) throw new RangeError("beyond the room's text");
+    return this.#pieces.length;
+  }
+
+  /** How many units of the room's text stand before a piece. */
+  #roomPlace(index) {
+    let units = 0;
+    for (let i = 0; i < index; i += 1) if (this.#pieces[i].isRooms) units += this.#pieces[i].text.length;
+    return units;
+  }
+
+  /** How many units that are shown stand before a piece. */
+  #shownPlace(index) {
+    let units = 0;
+    for (let i = 0; i < index; i += 1) if (this.#pieces[i].isShown) units += this.#pieces[i].text.length;
+    return units;
+  }
+
+  /** Joins the pieces round a number that are of one kind. */
+  #joinAt(index) {
+    for (let at = Math.min(index + 1, this.#pieces.length - 1); at >= Math.max(1, index - 1); at -= 1) {
+      if (this.#pieces[at - 1].isLike(this.#pieces[at])) {
+        this.#pieces[at - 1].text += this.#pieces[at].text;
+        this.#pieces.splice(at, 1);
+      }
+    }
+  }
+}
