@@ -98,7 +98,7 @@ class Window:
 
     def __init__(self, port, room="notes"):
         options = webdriver.ChromeOptions()
-        for word in ("--headless", "--no-sandbox", "--disable-gpu", "--window-size=800,640"):
+        for word in ("--headless", "--no-sandbox", "--disable-gpu", "--window-size=800,720"):
             options.add_argument(word)
         self.driver = webdriver.Chrome(options=options)
         self.open(port, room)
@@ -375,6 +375,7 @@ try:
             it.type(Keys.CONTROL + Keys.END)
             it.type(text)
             same("a picture")
+        windows[0].run("scrollTo(0, 0)")
         windows[0].driver.save_screenshot(sys.argv[2])
         clear("a picture")
     for attempt in (tries_65_windows, tries_full_room, tries_bad_addresses, tries_codemirror):
