@@ -19,9 +19,9 @@ from client import Lost, Refused, Socket
 MOST = 64  # operations of an `ops` or a `put`, a run counting as many as it has characters
 SOON, LATE = 0.02, 1.0  # seconds between two polls
 NOT_YET = 18  # too many wait for what hasn't come
-OWN_SITE = 17  # an operation of the room's own site, which its log doesn't have
+OWN_SITE = 16  # an operation of the room's own site, which its log doesn't have
 FULL = 12
-NEVER = (19, 20, 21)  # a forged operation, or one of another life of the room
+NEVER = (17, 19, 20, 21)  # a forged operation, or one of another life of the room
 MEANING = {
     4: "has no room of this name",
     13: "has recorded all the calls that its room takes: start it anew, with its text in a new room",
@@ -44,7 +44,10 @@ def unfolded(it):
 class Room:
     """A server's room, and how much of its log was seen."""
 
+    all = []
+
     def __init__(self, address, name):
+        Room.all.append(self)
         self.address = address
         self.socket = Socket(address, name)
         self.seen = 0
@@ -52,6 +55,8 @@ class Room:
 
     def stop(self, number):
         """Ends the bridge, and says why."""
+        for it in Room.all:
+            it.socket.close()
         sys.exit(f"{self.address} {MEANING.get(number, f'refused a request with {number}')}")
 
     def ask(self, request):
