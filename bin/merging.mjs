@@ -228,6 +228,12 @@ async function goOnInAnotherRun() {
   await until(() => !editors[0].session.isAhead && editors[0].session.state === "up to date");
   editors[1].session.takeTheirs();
   await until(() => editors[1].shown === "hello!" && editors[0].shown === "hello!");
+  const late = editorOf(connect);
+  let whole = "";
+  late.session.addEventListener("changes", () => (whole = late.session.text));
+  await until(() => late.shown === "hello!");
+  assert.equal(whole, "hello!", "what is told of is there already");
+  editors.push(late);
   for (const { session } of editors) await session.close();
   room.close();
 }

@@ -19,13 +19,15 @@ from client import Lost, Refused, Socket
 MOST = 64  # operations of an `ops` or a `put`, a run counting as many as it has characters
 SOON, LATE = 0.02, 1.0  # seconds between two polls
 NOT_YET = 18  # too many wait for what hasn't come
-OWN_SITE = 16  # an operation of the room's own site, which its log doesn't have
+OWN_SITE, OTHER = 16, 17  # an operation of the room's own site that its log doesn't have; another one has its number there
 FULL = 12
-NEVER = (17, 19, 20, 21)  # a forged operation, or one of another life of the room
+NEVER = (19, 20, 21)  # a forged operation, or one of another life of the room
 MEANING = {
     4: "has no room of this name",
     13: "has recorded all the calls that its room takes: start it anew, with its text in a new room",
-    OWN_SITE: "has the site of another server's operations, or lost its own: start it anew with another --site, then the bridge",
+    **dict.fromkeys(
+        (OWN_SITE, OTHER), "has the site of another server's operations, or lost its own: start it anew with another --site, then the bridge"
+    ),
 }
 
 
@@ -187,6 +189,9 @@ def main():
             if type(why).__module__.split(".")[0] != "redis":
                 raise
             print(f"the broker is away: {why}", file=sys.stderr)
+        for it in Room.all:
+            it.socket.close()
+        Room.all.clear()
         time.sleep(LATE)
 
 

@@ -74,7 +74,6 @@ class Socket:
         if reply["r"] == "no":
             await line.close()
             raise Refused(reply["n"])
-        self.lines += 1
         return line
 
     async def answer(self, request):
@@ -92,7 +91,7 @@ class Socket:
         except self.gone:
             if self.line:
                 self.line.transport.abort()
-            self.line = None
+            self.line, self.lines = None, self.lines + 1
             raise Lost from None
 
     def close(self):
@@ -163,10 +162,16 @@ class Session:
         lines = getattr(self.ask, "lines", 0)
         again = lambda n: self.ask({"t": "ins", "s": self.session, "n": n, "v": 0, "k": 0, "x": ""})
         reply = again(self.number)
+        if reply.get("n") == 26:
+            raise Lost
+        if reply.get("n") == 13:
+            raise Refused(13)
         same = (reply["r"], reply.get("from"), reply.get("to")) == ("ok", self.came, self.reached)
         if not same and reply.get("n") == 7:
             next_one = again(self.number + 1)
-            same = self._is_mine(next_one) or self.number == 0 and next_one.get("n") in (8, 10) and self._reads_the_same()
+            same = self._is_mine(next_one)
+            if self.number == 0 and next_one.get("n") in (8, 10) and self._reads_the_same():
+                self.ask({"t": "leave", "s": self.session})  # unused: in another run it may be another client's, so no two share it
         if not same:
             raise JoinAnew(5)
         self.lines = lines

@@ -1,5 +1,5 @@
 // A room in CodeMirror 5: index.html?server=ws://127.0.0.1:7878&room=notes
-import { Full, open } from "../web/rgatext.js";
+import { carried, Full, open } from "../web/rgatext.js";
 import { Undo } from "../web/undo.js";
 
 /** Milliseconds for which what others put in is marked. */
@@ -14,8 +14,11 @@ export function bind(editor, session, tell) {
   let whose = "user"; // or "others", or "undo"
   const as = (who, make) => {
     whose = who;
-    editor.operation(make);
-    whose = "user";
+    try {
+      editor.operation(make);
+    } finally {
+      whose = "user";
+    }
   };
   const put = ({ at, removed, text }) => editor.replaceRange(text, editor.posFromIndex(at), editor.posFromIndex(at + removed));
   editor.on("beforeChange", (_, change) => {
@@ -33,6 +36,7 @@ export function bind(editor, session, tell) {
   });
   session.addEventListener("changes", ({ detail }) => {
     undo.follow(detail);
+    const selected = editor.listSelections().map(({ anchor, head }) => [anchor, head].map((it) => carried(editor.indexFromPos(it), detail)));
     as("others", () => {
       for (const change of detail) {
         put(change);
@@ -41,6 +45,8 @@ export function bind(editor, session, tell) {
         const mark = editor.markText(from, to, { className: "others" });
         setTimeout(() => mark.clear(), SHOWN);
       }
+      const places = selected.map(([anchor, head]) => ({ anchor: editor.posFromIndex(anchor), head: editor.posFromIndex(head) }));
+      editor.setSelections(places, null, { scroll: false });
     });
   });
   const replace = (at, removed, text) => {

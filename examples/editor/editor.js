@@ -18,8 +18,8 @@ class Editor {
     this.undo = new Undo();
     this.isComposing = false;
     this.waiting = []; // changes that came while a character was composed
-    this.session.addEventListener("changes", ({ detail }) => this.follow(detail));
-    this.session.addEventListener("state", () => this.tell());
+    this.session.addEventListener("changes", ({ detail }) => editor === this && this.follow(detail));
+    this.session.addEventListener("state", () => editor === this && this.tell());
     this.show(0, 0, "none");
     this.tell();
   }
@@ -84,6 +84,11 @@ class Editor {
 
   /** Undoes or does again the user's own last step. */
   turn(isRedo) {
+    if (this.isComposing || area.readOnly) return;
+    if (this.undo.cost(isRedo) > this.session.left) {
+      this.tell(`the room takes ${this.session.left} more changes: that didn't fit`);
+      return;
+    }
     let place = area.selectionStart;
     const replace = (at, removed, text) => {
       const made = this.session.replace(at, removed, text);
@@ -101,7 +106,7 @@ class Editor {
     of("state").textContent = trouble || (why === "" ? state : `${state}: ${why}`) + scarce;
     of("state").className = trouble || why || state === "offline" ? "trouble" : "";
     of("choice").hidden = state !== "another text";
-    area.readOnly = state === "refused";
+    area.readOnly = state === "refused" || state === "closed";
   }
 
   get mayBeLost() {
@@ -115,9 +120,10 @@ const question = "Some of the text isn't in the room. Leave it?";
 of("where").addEventListener("submit", (event) => {
   event.preventDefault();
   if (editor?.mayBeLost && !confirm(question)) return;
-  editor?.session.close();
+  const last = editor;
   try {
     editor = new Editor(of("host").value, of("room").value);
+    last?.session.close();
   } catch (fault) {
     if (!(fault instanceof TypeError)) throw fault;
     of("state").textContent = `that is no address: ${fault.message}`;

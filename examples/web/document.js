@@ -148,6 +148,19 @@ export class Document {
     return count;
   }
 
+  /** How many more changes are pending where the shown text is changed so; fewer than none where what is new is taken out. */
+  cost(at, removed, text) {
+    let count = characters(text.toWellFormed());
+    let before = 0;
+    for (const piece of this.#pieces) {
+      if (!piece.isShown) continue;
+      const part = piece.text.slice(Math.max(0, at - before), Math.max(0, at + removed - before));
+      count += piece.owner === "new" ? -characters(part) : characters(part);
+      before += piece.text.length;
+    }
+    return count;
+  }
+
   /** Whether a submission is under way, accepted or not, whose edits weren't played yet. */
   get isWaiting() {
     return this.#sent !== null;

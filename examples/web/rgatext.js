@@ -123,7 +123,7 @@ export class Session extends EventTarget {
   #last = { n: 0, from: 0, to: 0 }; // the last accepted submission
   #underWay = null; // the request of a submission whose answer wasn't seen
   #known = { version: 0, operations: "" }; // what the log was known to have last, for whether another run goes on with it
-  #other = null; // what another run of the server reads, until the user chooses
+  #other = null; // the document of another run of the server, until the user chooses
   #wake = () => {};
   #isClosed = false;
 
@@ -138,7 +138,9 @@ export class Session extends EventTarget {
     /** @type {State} */
     this.state = "joining";
     this.why = "";
+    /** Settles when the session has ended; `state` and `why` tell how. */
     this.ended = this.#run();
+    this.ended.catch(() => {});
   }
 
   /** The text that is shown. */
@@ -180,7 +182,7 @@ export class Session extends EventTarget {
    * @returns {Change}
    */
   replace(at, removed, text) {
-    if (removed + text.length > this.left && removed + [...text].length > this.left) throw new Full(this.left);
+    if (this.document.cost(at, removed, text) > this.left) throw new Full(this.left);
     const change = this.document.replace(at, removed, text);
     this.#wake();
     return change;
@@ -188,20 +190,19 @@ export class Session extends EventTarget {
 
   /** Another run of the server has another text: shows that, and lets go of what was shown. */
   takeTheirs() {
-    const { text, version } = this.#other;
-    const change = difference(this.text, text);
-    this.document = new Document(text, version);
+    const change = difference(this.text, this.#other.roomText);
+    this.document = this.#other;
     this.#tellChanges([change]);
     this.#goOn();
   }
 
   /** Another run of the server has another text: makes it the one that is shown. */
   putMine() {
-    const { text, version } = this.#other;
-    const mine = this.text;
-    this.document = new Document(text, version);
-    const { at, removed, text: put } = difference(text, mine);
-    this.document.replace(at, removed, put);
+    const { at, removed, text } = difference(this.#other.roomText, this.text);
+    const left = OPERATIONS - this.#other.version;
+    if (this.#other.cost(at, removed, text) > left) throw new Full(left);
+    this.document = this.#other;
+    this.document.replace(at, removed, text);
     this.#goOn();
   }
 
@@ -285,19 +286,13 @@ export class Session extends EventTarget {
   async #resume() {
     if (this.#number === null) {
       const { v, x } = await this.#join();
-      this.#tellChanges([difference(this.text, x)]);
-      const mine = this.document;
+      const mine = this.text; // what was typed before the first answer stands at the beginning
       this.document = new Document(x, v);
-      if (mine.pending > 0) this.#bring(mine);
+      if (mine !== "") this.document.replace(0, 0, mine);
+      this.#tellChanges([{ at: mine.length, removed: 0, text: x }]);
     } else if (!(await this.#isSameRun())) {
       await this.#joinAnew();
     }
-  }
-
-  /** What was typed before the first answer stands at the beginning. */
-  #bring(mine) {
-    this.document.replace(0, 0, mine.text);
-    this.#tellChanges([{ at: 0, removed: 0, text: mine.text }]);
   }
 
   async #join() {
@@ -321,7 +316,12 @@ export class Session extends EventTarget {
     if (reply.n !== 7) return false;
     reply = await again(n + 1);
     if (reply.r === "ok") return this.#underWay !== null && (await this.#isMine(reply));
-    return n === 0 && (reply.n === 8 || reply.n === 10) && (await this.#readsTheSame());
+    if (n > 0 || (reply.n !== 8 && reply.n !== 10) || !(await this.#readsTheSame())) return false;
+    await this.#ask({ t: "leave", s: this.#number }); // unused, and perhaps another client's in another run: no two may share it
+    this.document.takeBack();
+    const { v, x } = await this.#join();
+    this.#tellChanges(this.document.follow(x, v));
+    return true;
   }
 
   /** Whether the operations of an answer are those of the submission that is under way. */
@@ -334,8 +334,8 @@ export class Session extends EventTarget {
 
   /** Whether the session, which has submitted nothing, leads to the text that is read. */
   async #readsTheSame() {
-    const { text, version } = this.#other ?? { text: this.document.roomText, version: this.document.version };
-    const trial = new Document(text, version);
+    const { roomText, version } = this.#other ?? this.document;
+    const trial = new Document(roomText, version);
     for (;;) {
       const reply = await this.#ask({ t: "pull", s: this.#number, have: trial.version, max: MOST });
       if (reply.r === "no") return false;
@@ -354,13 +354,15 @@ export class Session extends EventTarget {
   /** Joins another run of the server. What it doesn't know isn't thrown away. */
   async #joinAnew() {
     const known = this.#known;
+    const wasUnderWay = this.document.isWaiting;
     this.document.takeBack();
     const { v, x } = await this.#join();
-    const isKnown = 0 < known.version && this.document.version <= v;
+    const isWhole = !wasUnderWay && (known.version === this.document.version || difference(this.document.roomText, x).removed === 0);
+    const isKnown = isWhole && 0 < known.version && this.document.version <= v;
     if (x === this.document.roomText || (isKnown && (await this.#operations(known.version)) === known.operations)) {
       this.#tellChanges(this.document.follow(x, v));
     } else {
-      this.#other = { text: x, version: v };
+      this.#other = new Document(x, v);
       this.#tell("another text", "the room has another text by now");
     }
   }
@@ -378,15 +380,35 @@ export class Session extends EventTarget {
     let began = 0;
     let isQuiet = false;
     while (!this.#isClosed) {
-      if (this.document.pending <= MOST) await pause(Math.max(0, began + TYPING - Date.now()));
+      if (this.document.pending <= MOST || this.#other !== null) await this.#rest(began + TYPING);
+      if (this.#isClosed) return;
       began = Date.now();
-      if (this.#other === null) {
+      if (this.#other !== null) {
+        await this.#watch();
+      } else {
         if (isQuiet && !this.isAhead && this.#known.version !== this.document.version) await this.#remember();
         else isQuiet = !(await this.#round());
         this.#tell(this.isAhead ? "sending" : "up to date");
       }
-      if (!this.isAhead || this.#other !== null) await this.#sleep(Math.max(0, began + IDLE - Date.now()));
+      if (!this.#isClosed && (!this.isAhead || this.#other !== null)) await this.#sleep(Math.max(0, began + IDLE - Date.now()));
     }
+  }
+
+  /** Waits until a time, but not longer than until the session is closed. */
+  async #rest(until) {
+    while (!this.#isClosed && Date.now() < until) await this.#sleep(until - Date.now());
+  }
+
+  /** Follows another run, as long as the user hasn't chosen; where it comes to read what is known here, it is gone on with. */
+  async #watch() {
+    for (let isMore = true; isMore; ) {
+      const { es } = await this.#must({ t: "pull", s: this.#number, have: this.#other.version, max: MOST });
+      this.#other?.play(es);
+      isMore = es.length === MOST && this.#other !== null;
+    }
+    if (this.#other === null || this.#other.roomText !== this.document.roomText) return;
+    this.#tellChanges(this.document.follow(this.#other.roomText, this.#other.version));
+    this.#goOn();
   }
 
   /** Sends a submission, if there is one, and right behind it a pull; and pulls on, as long as there is more. Whether any came. */
@@ -400,11 +422,12 @@ export class Session extends EventTarget {
     const { version } = this.document;
     for (let reply = replies.at(-1); ; reply = await this.#pull()) {
       if (reply.r === "no") {
-        if (reply.n === 26) continue;
-        throw reply.n === 22 || reply.n === 5 ? this.#isLost() : new Refused(reply.n);
+        if (reply.n !== 26) throw reply.n === 22 || reply.n === 5 ? this.#isLost() : new Refused(reply.n);
+        await pause(RETRY);
+        continue;
       }
       if (reply.from === this.document.version) this.#tellChanges(this.document.play(reply.es));
-      if ((reply.es.length < MOST && !this.document.isWaiting) || this.#isClosed) return this.document.version > version;
+      if ((reply.es.length < MOST && (this.#underWay !== null || !this.document.isWaiting)) || this.#isClosed) return this.document.version > version;
     }
   }
 

@@ -68,6 +68,13 @@ export class Undo {
     for (const change of changes) this.#carry(change);
   }
 
+  /** How many units the next undoing puts in and takes out at most, or the next doing again. */
+  cost(isRedo) {
+    const step = (isRedo ? this.#undone : this.#done).at(-1);
+    if (step === undefined) return 0;
+    return step.stretches.reduce((sum, [from, to]) => sum + to - from, 0) + step.taken.reduce((sum, { text }) => sum + text.length, 0);
+  }
+
   /** Undoes the user's last step by `replace`, a call as that of a session, on a text that `read` gives. */
   undo(read, replace) {
     this.#turn(this.#done, this.#undone, read, replace);
