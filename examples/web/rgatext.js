@@ -190,6 +190,7 @@ export class Session extends EventTarget {
 
   /** Another run of the server has another text: shows that, and lets go of what was shown. */
   takeTheirs() {
+    if (this.#other === null) return;
     const change = difference(this.text, this.#other.roomText);
     this.document = this.#other;
     this.#tellChanges([change]);
@@ -198,6 +199,7 @@ export class Session extends EventTarget {
 
   /** Another run of the server has another text: makes it the one that is shown. */
   putMine() {
+    if (this.#other === null) return;
     const { at, removed, text } = difference(this.#other.roomText, this.text);
     const left = OPERATIONS - this.#other.version;
     if (this.#other.cost(at, removed, text) > left) throw new Full(left);
