@@ -11,6 +11,21 @@ const area = of("text");
 // What the text area has of a text. It would make CR to LF, and CR LF to one LF, so CR has a sign.
 const signs = (text) => text.replaceAll("\r", "\u240d");
 
+/** Where so many units from a place on are after changes: the stretches that others' text stands between. */
+function stretches(at, units, changes) {
+  let places = Array.from({ length: units }, (_, n) => at + n);
+  for (const change of changes) {
+    const past = change.at + change.removed;
+    places = places.filter((it) => it < change.at || it >= past).map((it) => (it < change.at ? it : it - change.removed + change.text.length));
+  }
+  const found = [];
+  for (const it of places) {
+    if (found.at(-1)?.[1] === it) found.at(-1)[1] += 1;
+    else found.push([it, it + 1]);
+  }
+  return found;
+}
+
 /** The text area over a session. */
 class Editor {
   constructor(address, room) {
@@ -59,10 +74,19 @@ class Editor {
     const came = this.waiting.splice(0);
     this.undo.follow(came);
     const start = carried(at, came);
-    const end = carried(at + removed, came);
-    const taken = this.session.text.slice(start, end);
+    const [first = [start, start], ...others] = stretches(at, removed, came);
+    const replace = (from, to, put) => {
+      const taken = this.session.text.slice(from, to);
+      this.undo.note(this.session.replace(from, to - from, put), taken);
+    };
     this.change(() => {
-      this.undo.note(this.session.replace(start, end - start, text), taken);
+      for (const [from, to] of others.reverse()) replace(from, to, "");
+      if (first[0] === start) {
+        replace(...first, text);
+      } else {
+        replace(...first, "");
+        replace(start, start, text);
+      }
       if (came.length > 0) this.show(start + text.length, start + text.length, "none");
       else this.shown = signs(this.session.text);
     });
