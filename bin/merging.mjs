@@ -205,7 +205,7 @@ async function goOnOverBrokenLines() {
   await until(() => editors.every(({ session, shown }) => !session.isAhead && shown === editors[0].shown && shown.length === 80));
   assert.equal(editors[0].shown.replaceAll("b", "").length, 40);
   assert.equal((await room.ask({ t: "join" })).s, 3, "a line that breaks costs a session");
-  assert.ok(lines > 20);
+  assert.ok(lines > 8, `${lines} lines alone`);
   for (const { session } of editors) await session.close();
   room.close();
   return lines;
