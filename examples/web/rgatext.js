@@ -452,9 +452,10 @@ export class Session extends EventTarget {
       this.#last = { n: request.n, from: reply.from, to: reply.to };
       this.#underWay = null;
       this.document.accept(reply.from, reply.to);
-    } else if (reply.r === "no" && (reply.n === 26 || reply.n === 25)) {
-      if (reply.n === 25) throw new Refused(25);
+    } else if (reply.n === 26) {
       await pause(RETRY);
+    } else if (reply.n === 25) {
+      throw new Refused(25);
     } else if (reply.r === "no" && ![5, 7, 8, 9].includes(reply.n)) {
       this.#underWay = null;
       this.document.takeBack();
