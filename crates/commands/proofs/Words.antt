@@ -6,7 +6,8 @@ use Rattle.std.specs.Str.Parse.{AllDigits, IsNumeral, digits_value, without_lead
 use Rattle.std.proofs.lemmas.Bool.{ne_eqb}
 use Rattle.std.proofs.lemmas.Fmt.{decimal_is_IsNumeral, decimal-digits_value, decimal_digit, first_decimal, parse-decimal}
 use Rattle.std.proofs.lemmas.Str.Parse.{numerals_by_value, tells_digits, digit_from_value}
-use Rattle.commands.specs.Script.{spaced, IsWord, IsPlainNumber}
+use Rattle.commands.specs.Script.{spaced}
+use Rattle.commands.specs.Internal.Words.{IsWord, IsPlainNumber}
 
 heads : (a b : ℕ) (x y : List ℕ) → a ∷ x ≡ b ∷ y → a ≡ b
 heads a b x y e = ap (λ (l : List ℕ). get_or l 0 0) e

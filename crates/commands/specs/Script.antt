@@ -1,13 +1,11 @@
 -- Scripts of a world: each line asks for one event, in one of three forms. Words have one space between them, numbers are
 -- written in decimal. The forms are the server's own.
-use Rattle.std.specs.Prelude.{◌≡◌, ◌≢◌, ◌⊎◌, ℕ, ◌^◌, ◌<◌, ◌≤◌, Result, Ok, Err, List, ◌∷◌, ◌++◌, length, slice_index}
+use Rattle.std.specs.Prelude.{◌≡◌, ◌⊎◌, ℕ, ◌^◌, ◌<◌, ◌≤◌, Result, Ok, Err, List, ◌∷◌, ◌++◌, length}
 use Rattle.std.specs.Prelude.{codes, decimal}
-use Rattle.std.specs.List.{AllByRecursion}
 use Rattle.opid.specs.declared.refusal.Refusal.{Refusal}
 use Rattle.opid.specs.declared.refusal.Refusal.TheVariants.{BadField, TooLong}
 use Rattle.replica_world.specs.declared.event.Event.{Event}
 use Rattle.replica_world.specs.declared.event.Event.TheVariants as events
-use Rattle.wire_json.specs.Members.{◌>>=◌}
 use Rattle.wire_json.specs.Operations.{site_of}
 use Rattle.wire_json.specs.Request.{request}
 use Rattle.commands.specs.declared.script.Form.{Form}
@@ -56,13 +54,3 @@ Asks line asked =
     ((65600 < length line) × (asked ≡ Err TooLong))
     ⊎ ((length line ≤ 65600) × ((form : Form) × IsForm line form × (asked ≡ event_of form)))
     ⊎ ((length line ≤ 65600) × ((form : Form) → IsForm line form → ⊥) × (asked ≡ Err BadField))
-
--- ---- for the code alone
-
--- no byte is a space
-abbrev pub IsWord : List ℕ → Type 0
-IsWord bytes = AllByRecursion (λ byte. byte ≢ 32) bytes
-
--- neither `+` nor a `0` that isn't alone stands first
-abbrev pub IsPlainNumber : List ℕ → Type 0
-IsPlainNumber word = (slice_index word 0 ≢ 43) × (slice_index word 0 ≡ 48 → length word ≡ 1)

@@ -5,7 +5,8 @@ ghost use Rattle.opid.specs.declared.refusal.Refusal.TheVariants.{TooLong};
 ghost use Rattle.replica_world.specs.declared.event.Event.{Event};
 ghost use Rattle.wire_json.specs.Given.{Gives, same};
 ghost use Rattle.commands.specs.declared.script.Form.{Form};
-ghost use Rattle.commands.specs.Script.{IsWord, IsPlainNumber, IsForm, spaced, event_of, Asks};
+ghost use Rattle.commands.specs.Script.{IsForm, spaced, event_of, Asks};
+ghost use Rattle.commands.specs.Internal.Words.{IsWord, IsPlainNumber};
 
 use memchr::memchr;
 use opid::Refusal;

@@ -7,7 +7,7 @@ use Rattle.counted_tree.specs.declared.branch.Branch.{Branch}
 use Rattle.counted_tree.specs.declared.entry.Entry.{Entry}
 use Rattle.counted_tree.specs.declared.node.Node.{Node}
 use Rattle.counted_tree.specs.Internal.Size.{IsSizeOf}
-use Rattle.counted_tree.specs.Entry.{least_key}
+use Rattle.counted_tree.specs.Internal.Keys.{least_key}
 use Rattle.counted_tree.specs.Internal.Arena.{AreSound}
 use Rattle.counted_tree.specs.declared.row.Row.{Row}
 use Rattle.counted_tree.specs.Internal.Tree.{Tree, entries, height, IsBalanced}

@@ -5,7 +5,8 @@ use Rattle.std.proofs.lemmas.Grind.{flat_map-append}
 use Rattle.counted_tree.specs.declared.entry.Entry.{Entry}
 use Rattle.counted_tree.specs.declared.side.Side.{Side}
 use Rattle.counted_tree.specs.declared.side.Side.TheVariants.{Left, Right}
-use Rattle.counted_tree.specs.Entry.{items_of, items, least_key}
+use Rattle.counted_tree.specs.Entry.{items_of, items}
+use Rattle.counted_tree.specs.Internal.Keys.{least_key}
 use Rattle.counted_tree.specs.Internal.Size.{size_of, ShowsMore}
 use Rattle.counted_tree.specs.Internal.Tree.{Tree, entries}
 use Rattle.counted_tree.specs.Internal.Tree.Tree.{Leaf, Fork}

@@ -4,7 +4,7 @@ use Rattle.std.proofs.Common.{refl, sym, ap, ◌∙◌, arith, inl, inr}
 use Rattle.std.specs.Prelude.{◌^◌}
 use Rattle.std.proofs.lemmas.Bool.{cases_lt, lt-ltb, le-ltb}
 use Rattle.counted_tree.specs.declared.entry.Entry.{Entry}
-use Rattle.counted_tree.specs.Entry.{least_key}
+use Rattle.counted_tree.specs.Internal.Keys.{least_key}
 use Rattle.counted_tree.specs.Internal.Tree.{Tree, entries}
 use Rattle.counted_tree.specs.Internal.Tree.Tree.{Leaf, Fork}
 use Rattle.counted_tree.specs.Internal.Arena.{AreSound}
@@ -17,7 +17,8 @@ use Rattle.std.specs.Option.{IsSome}
 use Rattle.counted_tree.specs.declared.side.Side.{Side}
 use Rattle.counted_tree.specs.declared.side.Side.TheVariants.{Left, Right}
 use Rattle.counted_tree.specs.Internal.Along.{entry_at, after_at, elem_at}
-use Rattle.counted_tree.specs.Greater.{all_greater, passed, last_of, stop}
+use Rattle.counted_tree.specs.Greater.{passed}
+use Rattle.counted_tree.specs.Internal.Stops.{all_greater, last_of, stop}
 
 -- by the least key
 below_least : (key : ℕ) (xs : List Entry) → key < least_key xs → all_greater key xs ≡ true

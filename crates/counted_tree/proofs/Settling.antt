@@ -5,7 +5,7 @@ use Rattle.counted_tree.specs.declared.above.Above.{Above}
 use Rattle.counted_tree.specs.declared.entry.Entry.{Entry}
 use Rattle.counted_tree.specs.declared.row.Row.{Row}
 use Rattle.counted_tree.specs.declared.side.Side.TheVariants.{Left, Right}
-use Rattle.counted_tree.specs.Entry.{least_key}
+use Rattle.counted_tree.specs.Internal.Keys.{least_key}
 use Rattle.counted_tree.specs.Internal.Tree.{Tree, entries, height}
 use Rattle.counted_tree.specs.Internal.Tree.Tree.{Fork}
 use Rattle.counted_tree.specs.Internal.Settled.{KeepsRow}

@@ -8,7 +8,7 @@ use Rattle.std.proofs.lemmas.List.{get_or_append_left, get_or_push, map_push, le
 use Rattle.std.proofs.lemmas.Option.{slice_get-get_or, slice_get-map, get_or_from_slice_get}
 use Rattle.counted_tree.specs.declared.node.Node.{Node}
 use Rattle.counted_tree.specs.declared.entry.Entry.{Entry}
-use Rattle.counted_tree.specs.Entry.{key_and_width_of, IsKnown}
+use Rattle.counted_tree.specs.Internal.Keys.{key_and_width_of, IsKnown}
 use Rattle.counted_tree.specs.declared.packed_node.PackedNode.{PackedNode}
 use Rattle.counted_tree.specs.Internal.PackedNode.{elem_of, node_of}
 use Rattle.counted_tree.specs.Internal.Store.{nodes_of, AreElemsBelow}

@@ -1,5 +1,6 @@
--- How far one comes in a version's list past the elements with a greater key.
-use Rattle.std.specs.Prelude.{ℕ, ◌==◌, ◌&&◌, nat_lt, if◌then◌else◌, Bool, true, Option, Some, None, List, [], ◌∷◌}
+-- How far one comes in a version's list past the elements with a greater key: so an insertion passes those with a greater stamp in the
+-- replicated growable array (Roh and others 2011).
+use Rattle.std.specs.Prelude.{ℕ, ◌==◌, nat_lt, if◌then◌else◌, Option, Some, None, List, [], ◌∷◌}
 use Rattle.counted_tree.specs.declared.entry.Entry.{Entry}
 
 -- the last element that one passes, going on as long as the keys are greater
@@ -12,19 +13,3 @@ abbrev pub last_greater : Option ℕ → ℕ → List Entry → Option ℕ
 last_greater None key xs = passed key None xs
 last_greater (Some e) key [] = None
 last_greater (Some e) key (x ∷ xs) = if x.elem == e then passed key (Some e) xs else last_greater (Some e) key xs
-
--- The rest is the code's alone; no public clause cites it.
-
--- each of them has a greater key
-abbrev pub all_greater : ℕ → List Entry → Bool
-all_greater key [] = true
-all_greater key (x ∷ xs) = nat_lt key x.key && all_greater key xs
-
--- the last element, or where there is none the given one
-abbrev pub last_of : Option ℕ → List Entry → Option ℕ
-last_of last [] = last
-last_of last (x ∷ xs) = last_of (Some x.elem) xs
-
--- the last element that one passes before one stops among them, if one stops there
-abbrev pub stop : ℕ → Option ℕ → List Entry → Option ℕ
-stop key last xs = if all_greater key xs then None else passed key last xs

@@ -13,5 +13,9 @@ pub mod Settled
 pub mod Inserted
 pub mod Along
 pub mod Table
+pub mod Looks
 pub mod PackedRow
 pub mod PackedRoot
+pub mod Roots
+pub mod Keys
+pub mod Stops

@@ -5,6 +5,7 @@ ghost use Rattle.counted_tree.specs.Internal.Branch.{IsBranchOf, IsBranch};
 ghost use Rattle.counted_tree.specs.Internal.Change.{tree_in};
 ghost use Rattle.counted_tree.specs.Internal.Table.{HasRow};
 ghost use Rattle.counted_tree.specs.Internal.Tree.Tree.{Leaf};
+ghost use Rattle.counted_tree.specs.Internal.Looks.{CountsOn};
 
 use crate::build::look;
 use crate::entry::KEYS;
@@ -47,6 +48,7 @@ pub fn branch_of(nodes: &Nodes, table: &[PackedRow], link: Option<u32>, steps: &
     ensures link { result.link ≡ link }
     ensures branch { IsBranch nodes.now result }
     ensures cost { steps.new ≤ steps.old + 1 }
+    ensures counts_on { CountsOn steps.old steps.new }
 {
     let Some(at) = link else {
         return Branch::empty();

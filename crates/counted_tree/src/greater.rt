@@ -4,7 +4,8 @@ ghost use Rattle.counted_tree.specs.Internal.Tree.{entries, height};
 ghost use Rattle.counted_tree.specs.Internal.Arena.{IsLinkBelow, AreSound};
 ghost use Rattle.counted_tree.specs.Internal.Change.{tree_in};
 ghost use Rattle.counted_tree.specs.Internal.Along.{entry_at, after_at, elem_at};
-ghost use Rattle.counted_tree.specs.Greater.{all_greater, passed, last_of, stop};
+ghost use Rattle.counted_tree.specs.Greater.{passed};
+ghost use Rattle.counted_tree.specs.Internal.Stops.{all_greater, last_of, stop};
 ghost use Rattle.counted_tree.specs.Steps.{IsCounted};
 ghost use Rattle.counted_tree.specs.Internal.Table.{HasRow, IsKept};
 

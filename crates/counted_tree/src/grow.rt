@@ -12,6 +12,7 @@ ghost use Rattle.counted_tree.specs.Internal.Change.{tree_in, Adds};
 ghost use Rattle.counted_tree.specs.Internal.Grown.{Gains, MayRise, IsGrown};
 ghost use Rattle.counted_tree.specs.Internal.Settled.{grown_link, IsTold};
 ghost use Rattle.counted_tree.specs.Internal.Table.{HasRow, PointsTo, IsReady, Hangs};
+ghost use Rattle.counted_tree.specs.Internal.Looks.{CountsOn};
 
 use crate::above::Above;
 use crate::branch::{Branch, branch_of};
@@ -82,6 +83,7 @@ fn grow_left(
         (made + (length nodes.new.nodes - length nodes.old.nodes)) }
     ensures hangs { Hangs table.old table.new (tree_in nodes.new (grown_link result)) }
     ensures looks { steps.new + 4 * length nodes.old.nodes + 2 ≤ steps.old + 4 * length nodes.new.nodes }
+    ensures counts_on { CountsOn steps.old steps.new }
 {
     let row = table[node.entry.elem as usize].get();
     if left.height >= row.height {
@@ -134,6 +136,7 @@ fn grow_right(
         (made + (length nodes.new.nodes - length nodes.old.nodes)) }
     ensures hangs { Hangs table.old table.new (tree_in nodes.new (grown_link result)) }
     ensures looks { steps.new + 4 * length nodes.old.nodes + 2 ≤ steps.old + 4 * length nodes.new.nodes }
+    ensures counts_on { CountsOn steps.old steps.new }
 {
     let row = table[node.entry.elem as usize].get();
     if right.height >= row.height {
@@ -186,6 +189,7 @@ pub fn lift_left(
         (made + (length nodes.new.nodes - length nodes.old.nodes)) }
     ensures hangs { Hangs table.old table.new (tree_in nodes.new (grown_link result)) }
     ensures looks { steps.new + 4 * length nodes.old.nodes + 2 ≤ steps.old + 4 * length nodes.new.nodes }
+    ensures counts_on { CountsOn steps.old steps.new }
 {
     let left_size = node.left_size.plus(Size::of(entry));
     match left {
@@ -232,6 +236,7 @@ pub fn lift_right(
         (made + (length nodes.new.nodes - length nodes.old.nodes)) }
     ensures hangs { Hangs table.old table.new (tree_in nodes.new (grown_link result)) }
     ensures looks { steps.new + 4 * length nodes.old.nodes + 2 ≤ steps.old + 4 * length nodes.new.nodes }
+    ensures counts_on { CountsOn steps.old steps.new }
 {
     match right {
         Grown::Settled(number) => {

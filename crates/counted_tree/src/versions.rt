@@ -4,7 +4,8 @@ ghost use Rattle.std.specs.Prelude.{◌≡◌, ℕ, ◌+◌, ◌*◌, ◌<◌, �
 ghost use Rattle.std.specs.Prelude.{IsSome, IfSome, OnOk, OnErr};
 ghost use Rattle.counted_tree.specs.Digits.{digits};
 ghost use Rattle.counted_tree.specs.Entry.{visible, units};
-ghost use Rattle.counted_tree.specs.Versions.{version_list, newest, newest_list, newest_root, no_root, root_at};
+ghost use Rattle.counted_tree.specs.Versions.{version_list, newest, newest_list};
+ghost use Rattle.counted_tree.specs.Internal.Roots.{newest_root, no_root, root_at};
 ghost use Rattle.counted_tree.specs.Changed.{Lists, Shows, put, hidden, before as entries_before};
 ghost use Rattle.counted_tree.specs.Greater.{last_greater};
 ghost use Rattle.counted_tree.specs.Steps.{IsCounted};
@@ -36,7 +37,8 @@ pub struct VersionTree {
 
 impl Model for VersionTree {
     ghost use Rattle.std.specs.Prelude.{◌≡◌, ◌+◌, ◌≤◌, length, vec_len, vec_capacity};
-    ghost use Rattle.counted_tree.specs.Versions.{Versions, newest_root, lists_of, AreVersions};
+    ghost use Rattle.counted_tree.specs.Versions.{Versions};
+    ghost use Rattle.counted_tree.specs.Internal.Roots.{newest_root, lists_of, AreVersions};
     ghost use Rattle.counted_tree.specs.Internal.Change.{tree_in};
     ghost use Rattle.counted_tree.specs.Internal.Table.{IsNewest};
 
@@ -245,7 +247,7 @@ impl VersionTree {
     /// Adds a version with a further element, shown, right after another one, or before all others: its key, below 2^23,
     /// and whether it has two units stay with it for good. Tells how many shown elements stand before it, and how many units
     /// these have, as `ranks` would. Takes memory from the reserve alone. Climbs from the element before, if there is one, and
-    /// takes at most four steps for each node that it makes: 160 in the longest log.
+    /// takes at most four steps for each node that it makes: 160 in the longest log. Takes one at least where there is an element.
     pub fn insert_after(
         &mut self,
         before: Option<u32>,
@@ -267,6 +269,7 @@ impl VersionTree {
         ensures units { result.units ≡ length (units (entries_before elem (newest_list self.new))) }
         ensures few { (result.shown ≤ 131072) × (result.units ≤ 2 * 131072) }
         ensures cost { steps.new ≤ steps.old + (8 * digits (length (newest_list self.new)) + 16) }
+        ensures counted { 0 < length (newest_list self.old) → IsCounted steps.old steps.new }
     {
         let root = last_root(self.roots.as_slice());
         let entry = Entry {

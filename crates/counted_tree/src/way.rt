@@ -4,6 +4,7 @@ ghost use Rattle.counted_tree.specs.Internal.Arena.{AreSound};
 ghost use Rattle.counted_tree.specs.Internal.Change.{tree_in};
 ghost use Rattle.counted_tree.specs.Internal.Along.{entry_at};
 ghost use Rattle.counted_tree.specs.Internal.Inserted.{AreAlong};
+ghost use Rattle.counted_tree.specs.Internal.Looks.{CountsOn};
 
 use crate::build::look;
 use crate::climb::MAX_HEIGHT;
@@ -26,6 +27,7 @@ pub fn numbers_along(
     ensures numbers { AreAlong nodes.now (tree_in nodes.now (Some top)) path.now result.items }
     ensures count { length result.items ≡ length path.now + 1 }
     ensures cost { steps.new ≤ steps.old + length path.now }
+    ensures counts_on { CountsOn steps.old steps.new }
 {
     let mut numbers = ArrayVec::new();
     let mut at = top;

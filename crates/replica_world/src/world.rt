@@ -12,7 +12,8 @@ ghost use Rattle.room.specs.History.{Account, mark, called, account_over};
 ghost use Rattle.replica_world.specs.declared.event.Event.TheVariants as events;
 ghost use Rattle.replica_world.specs.declared.event.WorldReply.{WorldReply};
 ghost use Rattle.replica_world.specs.declared.event.WorldReply.TheVariants as worlds;
-ghost use Rattle.replica_world.specs.World.{room_of, puts, empty_rooms, call_of, fork_of, step, NeedsMemory, Runs, IsPlaceOf};
+ghost use Rattle.replica_world.specs.World.{room_of, puts, empty_rooms, call_of, fork_of, step, NeedsMemory, Runs};
+ghost use Rattle.replica_world.specs.Internal.Places.{IsPlaceOf};
 ghost use Rattle.replica_world.specs.Carried.{LosesNothing, NothingLost};
 ghost use Rattle.replica_world.specs.Kept.{IsWorld, Converges};
 

@@ -1,7 +1,7 @@
 -- What the nodes stand for: each for a tree of which earlier nodes are the parts.
 use Rattle.std.specs.Prelude.{ℕ, ◌<◌, List, [], ◌∷◌, ◌++◌, length, Option, Some, None, slice_index_or}
 use Rattle.counted_tree.specs.declared.entry.Entry.{Entry}
-use Rattle.counted_tree.specs.Entry.{IsSmall}
+use Rattle.counted_tree.specs.Internal.Keys.{IsSmall}
 use Rattle.counted_tree.specs.Internal.Size.{IsSizeOf}
 use Rattle.counted_tree.specs.Internal.Tree.{Tree, entries, IsBalanced}
 use Rattle.counted_tree.specs.Internal.Tree.Tree.{Leaf, Fork}

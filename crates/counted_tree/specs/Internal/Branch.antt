@@ -1,7 +1,7 @@
 -- What is kept beside a tree's link.
 use Rattle.std.specs.Prelude.{◌≡◌, ℕ, length, Option, None, IsSome}
 use Rattle.counted_tree.specs.declared.branch.Branch.{Branch}
-use Rattle.counted_tree.specs.Entry.{least_key}
+use Rattle.counted_tree.specs.Internal.Keys.{least_key}
 use Rattle.counted_tree.specs.Internal.Tree.{Tree, entries, height}
 use Rattle.counted_tree.specs.Internal.Tree.Tree.{Leaf, Fork}
 use Rattle.counted_tree.specs.Internal.Arena.{IsLinkBelow}

@@ -4,7 +4,7 @@ use Rattle.counted_tree.specs.declared.above.Above.{Above}
 use Rattle.counted_tree.specs.declared.row.Row.{Row}
 use Rattle.counted_tree.specs.declared.grown.Grown.{Grown}
 use Rattle.counted_tree.specs.declared.grown.Grown.TheVariants.{Settled, Loose}
-use Rattle.counted_tree.specs.Entry.{least_key}
+use Rattle.counted_tree.specs.Internal.Keys.{least_key}
 use Rattle.counted_tree.specs.Internal.Tree.{Tree, entries, height}
 use Rattle.counted_tree.specs.Internal.Store.{Store}
 use Rattle.counted_tree.specs.Internal.Change.{tree_in}

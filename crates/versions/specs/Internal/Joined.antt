@@ -1,6 +1,6 @@
 -- The list that the tree has for a version, and that of the log.
 use Rattle.std.specs.Prelude.{◌≡◌, ◌≤◌, ◌+◌, ◌*◌, ◌==◌, ◌&&◌, nat_le, nat_lt, if◌then◌else◌, ℕ, Bool, true, false, List, [], ◌∷◌}
-use Rattle.std.specs.Prelude.{map, take, length, Option, Some, None}
+use Rattle.std.specs.Prelude.{map, take, length, Option, Some, None, encode_utf8}
 use Rattle.opid.specs.declared.stamp.Stamp.{Stamp}
 use Rattle.opid.specs.Operations.{Operation}
 use Rattle.opid.specs.declared.edit.Edit.{Edit}
@@ -55,3 +55,7 @@ abbrev pub deletion_of : Bool → Bool → ℕ → List rga.Entry → Edit
 deletion_of units true k entries =
     if units then DelUnits (places_before true k entries) (width_in true (char_at entries k)) else Del (places_before false k entries)
 deletion_of units false k entries = Nop
+
+-- what an entry shows, in UTF-8
+abbrev pub bytes_shown : rga.Entry → List ℕ
+bytes_shown e = if e.shown then encode_utf8 e.ch else []

@@ -6,7 +6,8 @@ use Rattle.std.proofs.lemmas.Bool.Decides.{Decides-eqb}
 use Rattle.std.proofs.lemmas.Slice.Eq.{slice_eq-Decides}
 use Rattle.commands.specs.declared.script.Form.{Form}
 use Rattle.commands.specs.declared.script.Form.TheVariants.{Call, Carry, Fork}
-use Rattle.commands.specs.Script.{spaced, IsWord, IsForm}
+use Rattle.commands.specs.Script.{spaced, IsForm}
+use Rattle.commands.specs.Internal.Words.{IsWord}
 use Rattle.commands.proofs.Words.{one_cut}
 use Rattle.commands.proofs.script.read_form.Goals as goal
 

@@ -3,7 +3,7 @@ use Rattle.std.proofs.Common.{◌≡◌, true, false, sym, subst, ◌∙◌, dec
 use Rattle.std.specs.Prelude.{IfOk, IfErr, IfSome, IfNone, Option}
 use Rattle.std.specs.Result.{result_ok}
 use Rattle.std.specs.Str.Parse.{ParsesUnsigned}
-use Rattle.commands.specs.Script.{IsPlainNumber}
+use Rattle.commands.specs.Internal.Words.{IsPlainNumber}
 use Rattle.commands.proofs.Words.{decimal_is_plain, number_read, number_not_read}
 use Rattle.snapshot.proofs.Utf8.{number_text}
 use Rattle.commands.proofs.script.read_number.Goals as goal

@@ -1,7 +1,7 @@
 use Rattle.std.proofs.Common.{ap, sym, ◌∙◌}
 use Rattle.counted_tree.specs.Internal.Tree.{entries}
 use Rattle.counted_tree.specs.Internal.Change.{tree_in}
-use Rattle.counted_tree.specs.Greater.{last_of}
+use Rattle.counted_tree.specs.Internal.Stops.{last_of}
 use Rattle.counted_tree.proofs.Passing.{last_of-append}
 use Rattle.counted_tree.proofs.greater.+last_in.Goals as goal
 

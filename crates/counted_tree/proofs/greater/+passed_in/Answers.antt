@@ -1,7 +1,8 @@
 use Rattle.std.proofs.Common.{◌∷◌, ap, sym, ◌∙◌}
 use Rattle.counted_tree.specs.Internal.Tree.{entries}
 use Rattle.counted_tree.specs.Internal.Change.{tree_in}
-use Rattle.counted_tree.specs.Greater.{passed, last_of}
+use Rattle.counted_tree.specs.Greater.{passed}
+use Rattle.counted_tree.specs.Internal.Stops.{last_of}
 use Rattle.counted_tree.proofs.Passing.{passed_within, passed_past, passed_stops, passed_goes}
 use Rattle.counted_tree.proofs.greater.+passed_in.Goals as goal
 

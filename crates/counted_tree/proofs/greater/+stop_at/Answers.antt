@@ -5,7 +5,7 @@ use Rattle.counted_tree.specs.Internal.Tree.{entries, height}
 use Rattle.counted_tree.specs.Internal.Tree.Tree.{Fork}
 use Rattle.counted_tree.specs.Internal.Change.{tree_in}
 use Rattle.counted_tree.specs.Internal.Along.{entry_at, after_at, elem_at}
-use Rattle.counted_tree.specs.Greater.{all_greater, last_of, stop}
+use Rattle.counted_tree.specs.Internal.Stops.{all_greater, last_of, stop}
 use Rattle.counted_tree.proofs.Passing.{stop_before, stop_none, stop_here, stop_later, last_there, elem_there, last_of-some}
 use Rattle.counted_tree.proofs.greater.+stop_at.Goals as goal
 

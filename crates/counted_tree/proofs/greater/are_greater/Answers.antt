@@ -1,7 +1,7 @@
 use Rattle.std.proofs.Common.{◌≡◌, ◌<◌, length, sym, ap, ◌∙◌, subst}
 use Rattle.std.specs.Prelude.{◌^◌}
 use Rattle.counted_tree.specs.Internal.Arena.{IsLinkBelow}
-use Rattle.counted_tree.specs.Entry.{least_key}
+use Rattle.counted_tree.specs.Internal.Keys.{least_key}
 use Rattle.counted_tree.specs.Internal.Tree.{entries}
 use Rattle.counted_tree.specs.Internal.Change.{tree_in}
 use Rattle.counted_tree.proofs.Branches.{read_row, row_there}

@@ -101,4 +101,5 @@ returns c =
           (subst (IsRebuilt s n.entry r) (sym tree) p) (omega (arith, one)) (λ _. one);
       hangs = subst (Hangs old new) (sym tree) (hangs_left_side s r n.entry old new c.requires.ready c.requires.other hung);
       looks = omega (arith, c.copy_left-number.ensures.count);
+      counts_on = omega arith;
     }

@@ -101,4 +101,5 @@ returns c =
           (subst (IsRebuilt l n.entry s) (sym tree) p) (omega (arith, one)) (λ _. one);
       hangs = subst (Hangs old new) (sym tree) (hangs_right_side l s n.entry old new c.requires.ready c.requires.other hung);
       looks = omega (arith, c.copy_right-number.ensures.count);
+      counts_on = omega arith;
     }

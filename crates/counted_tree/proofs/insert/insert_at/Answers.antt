@@ -53,6 +53,7 @@ loop-level-init c =
       made = made_there a c.insert_behind-made.new.nodes tb c.insert_behind-made.new.table t path ns c.args.entry.now
           c.insert_behind-made.result (length path) (get_or ns (length path) 0) along number refl c.insert_behind-made.ensures.inserted;
       looks = omega (arith, c.insert_behind-made.ensures.looks, c.numbers_along-numbers.ensures.cost);
+      counted = omega (arith, c.insert_behind-made.ensures.counted, c.numbers_along-numbers.ensures.counts_on);
     }
 
 pub lift-made-requires : goal.lift-made-requires
@@ -136,6 +137,7 @@ loop-level-preserved c =
       made = lifted_there a c.lift-made.new.nodes tb c.lift-made.new.table t path ns c.args.entry.now c.lift-made.result
           level i k s along number side one (c.lift-made.ensures.inserted a tb (drop level path) lifts);
       looks = omega (arith, one, c.lift-made.ensures.looks, inv.looks);
+      counted = omega (arith, c.lift-made.ensures.counts_on, inv.counted);
     }
 
 pub returns-clause-inserted : goal.returns-clause-inserted
@@ -151,3 +153,6 @@ returns-in-Settled-clause-looks c = omega (arith, c.lift_settled.ensures.looks, 
 
 pub returns-clause-looks : goal.returns-clause-looks
 returns-clause-looks c = omega (arith, c.loop-level-test.false, c.loop-level.invariant.looks)
+
+pub returns-in-Settled-clause-counted : goal.returns-in-Settled-clause-counted
+returns-in-Settled-clause-counted c = omega (arith, c.lift_settled.ensures.counts_on, c.loop-level.invariant.counted)

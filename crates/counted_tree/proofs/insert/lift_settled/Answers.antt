@@ -66,6 +66,7 @@ loop-level-preserved c =
                 side one (c.step_settled-made.ensures.inserted a tb mid (drop level path) c.args.entry.now c.of-more.ensures lifts);
           };
       looks = omega (arith, one, c.step_settled-made.ensures.looks, inv.looks);
+      counts_on = omega (arith, c.step_settled-made.ensures.counts_on, inv.counts_on);
     }
 
 pub returns-clause-inserted : goal.returns-clause-inserted

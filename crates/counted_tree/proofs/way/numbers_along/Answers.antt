@@ -45,6 +45,7 @@ loop-side-preserved c =
           (inv.here ∙ ap (λ j. under t (take j path)) (sym inv.count)) c.push.ensures.items;
       count = omega (arith, c.push.ensures.len, inv.count);
       cost = omega (arith, o.cost, inv.cost);
+      counts_on = omega (arith, o.step, inv.counts_on);
     }
 
 pub returns-clause-numbers : goal.returns-clause-numbers

@@ -2,6 +2,7 @@ use Rattle.std.proofs.Common.{◌≡◌, ◌+◌, ◌<◌, ◌≤◌, length, ta
 use Rattle.counted_tree.specs.Internal.Change.{tree_in}
 use Rattle.counted_tree.specs.Internal.Along.{under}
 use Rattle.counted_tree.specs.Internal.Inserted.{AreAlong}
+use Rattle.counted_tree.specs.Internal.Looks.{CountsOn}
 use Rattle.counted_tree.proofs.way.numbers_along.Given as goal
 
 abbrev pub invariant-loop-side : goal.invariant-loop-side
@@ -11,4 +12,5 @@ invariant-loop-side l = record {
   numbers : AreAlong l.nodes (tree_in l.nodes (Some l.top)) l.path l.numbers.items;
   count : length l.numbers.items ≡ l.side-index;
   cost : l.steps ≤ l.fn.steps + l.side-index;
+  counts_on : CountsOn l.fn.steps l.steps;
 }

@@ -1,7 +1,7 @@
 use Rattle.std.proofs.Common.{◌≡◌, length, Some, ap, ◌∙◌, sym, subst, arith}
 use Rattle.std.specs.List.{slice_get}
 use Rattle.counted_tree.specs.declared.node.Node.{Node}
-use Rattle.counted_tree.specs.Entry.{key_and_width_of}
+use Rattle.counted_tree.specs.Internal.Keys.{key_and_width_of}
 use Rattle.counted_tree.specs.Internal.PackedNode.{elem_of, node_of}
 use Rattle.counted_tree.specs.Internal.Store.{Store, nodes_of}
 use Rattle.counted_tree.proofs.Stored.{elem_below_at, read_at, node_at, key_and_width_back, length-nodes_of}

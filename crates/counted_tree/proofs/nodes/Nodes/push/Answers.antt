@@ -1,7 +1,7 @@
 use Rattle.std.proofs.Common.{◌≡◌, ◌∷◌, ◌++◌, [], length, Some, ap, ◌∙◌, sym, subst, arith}
 use Rattle.std.proofs.lemmas.Option.{slice_get_within}
 use Rattle.std.specs.List.{slice_get}
-use Rattle.counted_tree.specs.Entry.{key_and_width_of}
+use Rattle.counted_tree.specs.Internal.Keys.{key_and_width_of}
 use Rattle.counted_tree.specs.Internal.Store.{Store, nodes_of, AreElemsBelow}
 use Rattle.counted_tree.proofs.Stored.{elems_below_push, nodes_pushed}
 use Rattle.counted_tree.proofs.nodes.Nodes.push.Goals as goal

@@ -1,7 +1,7 @@
 use Rattle.std.proofs.Common.{◌≡◌, ℕ, ◌-◌, [], ◌∷◌, ◌++◌, List, length, ap, ◌∙◌, arith}
 use Rattle.std.proofs.lemmas.List.{length_push}
 use Rattle.counted_tree.specs.declared.node.Node.{Node}
-use Rattle.counted_tree.specs.Entry.{key_and_width_of}
+use Rattle.counted_tree.specs.Internal.Keys.{key_and_width_of}
 use Rattle.counted_tree.specs.Internal.Store.{Store, nodes_of, with_element}
 use Rattle.counted_tree.proofs.Stored.{elems_below_more, nodes_with_element}
 use Rattle.counted_tree.proofs.nodes.Nodes.push_key_and_width.Goals as goal

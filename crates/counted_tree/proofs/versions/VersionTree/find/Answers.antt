@@ -5,7 +5,8 @@ use Rattle.std.specs.List.{slice_get}
 use Rattle.counted_tree.specs.Digits.{digits}
 use Rattle.counted_tree.specs.Entry.{visible}
 use Rattle.counted_tree.specs.Internal.Arena.{list_of}
-use Rattle.counted_tree.specs.Versions.{Versions, rooted, lists_of, version_list, root_at}
+use Rattle.counted_tree.specs.Versions.{Versions, version_list}
+use Rattle.counted_tree.specs.Internal.Roots.{rooted, lists_of, root_at}
 use Rattle.counted_tree.proofs.Counts.{find-visible}
 use Rattle.counted_tree.proofs.Listed.{list_at}
 use Rattle.counted_tree.proofs.versions.VersionTree.find.Goals as goal

@@ -4,7 +4,8 @@ use Rattle.counted_tree.specs.Digits.{digits}
 use Rattle.counted_tree.specs.Changed.{Lists}
 use Rattle.counted_tree.specs.Greater.{last_greater}
 use Rattle.counted_tree.specs.Internal.Arena.{list_of}
-use Rattle.counted_tree.specs.Versions.{Versions, rooted, newest_list, newest_root}
+use Rattle.counted_tree.specs.Versions.{Versions, newest_list}
+use Rattle.counted_tree.specs.Internal.Roots.{rooted, newest_root}
 use Rattle.counted_tree.proofs.Listed.{last_list}
 use Rattle.counted_tree.proofs.versions.VersionTree.last_greater.Goals as goal
 

@@ -7,7 +7,8 @@ use Rattle.counted_tree.specs.Digits.{digits}
 use Rattle.counted_tree.specs.Entry.{visible}
 use Rattle.counted_tree.specs.Internal.Arena.{IsLinkBelow, list_of, linked, trees}
 use Rattle.counted_tree.specs.Internal.Tree.{height}
-use Rattle.counted_tree.specs.Versions.{Versions, rooted, lists_of, version_list, root_at}
+use Rattle.counted_tree.specs.Versions.{Versions, version_list}
+use Rattle.counted_tree.specs.Internal.Roots.{rooted, lists_of, root_at}
 use Rattle.counted_tree.proofs.Growth.{linked_balanced}
 use Rattle.counted_tree.proofs.Heights.{height_bound}
 use Rattle.counted_tree.proofs.Listed.{list_at, root_below}
