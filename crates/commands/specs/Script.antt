@@ -6,7 +6,8 @@ use Rattle.opid.specs.declared.refusal.Refusal.{Refusal}
 use Rattle.opid.specs.declared.refusal.Refusal.TheVariants.{BadField, TooLong}
 use Rattle.replica_world.specs.declared.event.Event.{Event}
 use Rattle.replica_world.specs.declared.event.Event.TheVariants as events
-use Rattle.wire_json.specs.Operations.{site_of}
+use Rattle.operation_json.specs.Members.{◌>>=◌}
+use Rattle.operation_json.specs.Operations.{site_of}
 use Rattle.wire_json.specs.Request.{request}
 use Rattle.commands.specs.declared.script.Form.{Form}
 use Rattle.commands.specs.declared.script.Form.TheVariants.{Call, Carry, Fork}

@@ -11,7 +11,8 @@ use Rattle.replica_world.specs.declared.event.Event.{Event}
 use Rattle.replica_world.specs.declared.event.WorldReply.{WorldReply}
 use Rattle.replica_world.specs.declared.event.WorldReply.TheVariants.{Room, Forked, No}
 use Rattle.replica_world.specs.World.{room_of, step}
-use Rattle.wire_json.specs.Text.{text, quote}
+use Rattle.wire_json.specs.Text.{text}
+use Rattle.json_bytes.specs.Quote.{quote}
 use Rattle.line_engine.specs.Lines.{ended}
 use Rattle.commands.specs.Script.{spaced, Asks}
 

@@ -3,7 +3,7 @@ ghost use Rattle.std.specs.Prelude.{◌≡◌, ℕ, ◌+◌, ◌^◌, ◌<◌, �
 ghost use Rattle.opid.specs.declared.refusal.Refusal.{Refusal};
 ghost use Rattle.opid.specs.declared.refusal.Refusal.TheVariants.{TooLong};
 ghost use Rattle.replica_world.specs.declared.event.Event.{Event};
-ghost use Rattle.wire_json.specs.Given.{Gives, same};
+ghost use Rattle.operation_json.specs.Given.{Gives, same};
 ghost use Rattle.commands.specs.declared.script.Form.{Form};
 ghost use Rattle.commands.specs.Script.{IsForm, spaced, event_of, Asks};
 ghost use Rattle.commands.specs.Internal.Words.{IsWord, IsPlainNumber};
@@ -13,7 +13,8 @@ use opid::Refusal;
 use replica_world::Event;
 use std::alloc::Global;
 use std::str;
-use wire_json::{RequestReader, check_site};
+use operation_json::check_site;
+use wire_json::RequestReader;
 
 /// The most bytes of a script's line, without its LF.
 pub(crate) const MAX_LINE_BYTES: usize = 65_600;

@@ -1,4 +1,5 @@
-//! Tests of operations and requests as JSON, over the public calls of `wire_json`, which would be proved once more for tests of its own.
+//! Tests of operations and requests as JSON, over the public calls of `operation_json` and `wire_json`, which would be proved once
+//! more for tests of their own.
 #![tactic(auto)]
 
 #[cfg(test)]

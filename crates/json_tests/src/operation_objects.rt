@@ -3,7 +3,7 @@ use opid::Refusal;
 use serde_json::Value;
 use std::alloc::Global;
 use std::test::Fail;
-use wire_json::{read_op, write_op};
+use operation_json::{read_op, write_op};
 
 // The text of the operation that a text tells.
 fn written_again(alloc: Global, text: &str) -> Result<String, Refusal> {

@@ -4,7 +4,7 @@ use Rattle.std.proofs.lemmas.List.{drop_all}
 use Rattle.opid.specs.Operations.{Operation}
 use Rattle.opid.specs.Lawful.{IsLawful, GoesOn}
 use Rattle.opid.proofs.Gathered.{rest_at}
-use Rattle.wire_json.specs.Packing.{Item, unfolded, unfolded_all}
+use Rattle.operation_json.specs.Packing.{Item, unfolded, unfolded_all}
 use Rattle.snapshot.proofs.Loaded.{no_part}
 
 pub one_more : (front : List Operation) (items : List Item) (i : ℕ) (g : Item) (total : List Operation) → i < length items

@@ -15,9 +15,9 @@ use Rattle.opid.specs.Delivery.{count_of}
 use Rattle.opid.specs.Lawful.{IsLawful, MayFollow, GoesOn}
 use Rattle.opid.proofs.Gathered.{rest_at}
 use Rattle.opid.proofs.Logs.{IsLawful-take, goes_on_after}
-use Rattle.wire_json.specs.Members.{◌>>=◌}
-use Rattle.wire_json.specs.Operations.{each, items_told, op_of}
-use Rattle.wire_json.specs.PackedOperations.{ItemOffer, item_offer_of, item_sited, item_operations, concatenated, all_operations}
+use Rattle.operation_json.specs.Members.{◌>>=◌}
+use Rattle.operation_json.specs.Operations.{each, items_told, op_of}
+use Rattle.operation_json.specs.PackedOperations.{ItemOffer, item_offer_of, item_sited, item_operations, concatenated, all_operations}
 use Rattle.snapshot.specs.Snapshot.{LacksSite, ops_told}
 use Rattle.snapshot.specs.Internal.Values.{value_told}
 

@@ -9,13 +9,14 @@ use Rattle.serde_json.specs.Data.{Data, number, array, object, unsigned, no_memb
 use Rattle.opid.specs.declared.refusal.Refusal.{Refusal}
 use Rattle.opid.specs.Operations.{Operation}
 use Rattle.opid.specs.Lawful.{IsLawful}
-use Rattle.wire_json.specs.Members.{◌>>=◌}
-use Rattle.wire_json.specs.Packing.{typed_behind}
-use Rattle.wire_json.specs.Coming.{Comes, ReadsItem, items_of, put_entries}
-use Rattle.wire_json.proofs.Come.{array_comes, object_comes, one_more_item}
-use Rattle.wire_json.proofs.Spelt.{told_back}
-use Rattle.wire_json.proofs.Calling.{five_deep, whole}
-use Rattle.wire_json.proofs.Steps.{json_read}
+use Rattle.operation_json.specs.Members.{◌>>=◌}
+use Rattle.operation_json.specs.Packing.{typed_behind}
+use Rattle.json_bytes.specs.Plain.{Comes}
+use Rattle.operation_json.specs.Coming.{ReadsItem}
+use Rattle.json_bytes.specs.Internal.Coming.{items_of, put_entries}
+use Rattle.json_bytes.proofs.Come.{array_comes, object_comes, one_more_item, five_deep, whole}
+use Rattle.operation_json.proofs.Spelt.{told_back}
+use Rattle.operation_json.proofs.Steps.{json_read}
 use Rattle.snapshot.specs.Snapshot.{StandsForNone, ops_told, told_by, told_in}
 use Rattle.snapshot.specs.Internal.Values.{value_told}
 use Rattle.snapshot.specs.Internal.Coming.{ReadsFormat, OpensLog, TellsLog, ReadsLog}

@@ -16,15 +16,15 @@ use Rattle.serde_json.specs.Written.{outline, compact_text}
 use Rattle.serde_json.proofs.Numbers.{number_of-decimal}
 use Rattle.serde_json.proofs.Texts.{print-outline}
 use Rattle.opid.specs.Operations.{Operation}
-use Rattle.wire_json.specs.Members.{◌>>=◌}
+use Rattle.operation_json.specs.Members.{◌>>=◌}
 use Rattle.opid.specs.Lawful.{IsLawful}
-use Rattle.wire_json.specs.Packing.{packed_items}
-use Rattle.wire_json.specs.Text.{item_text, packed_text}
-use Rattle.wire_json.specs.Internal.Written.{each_data, item_data}
-use Rattle.wire_json.proofs.ListTexts.{regroup_3, list_compact}
-use Rattle.wire_json.proofs.PackedBack.{are_packed, packed_back}
-use Rattle.wire_json.proofs.PackedTexts.{item_compact, items_numbers, items_shallow, items_read}
-use Rattle.wire_json.proofs.Steps.{json_read}
+use Rattle.operation_json.specs.Packing.{packed_items}
+use Rattle.operation_json.specs.Text.{item_text, packed_text}
+use Rattle.operation_json.specs.Internal.Written.{each_data, item_data}
+use Rattle.operation_json.proofs.ListTexts.{regroup_3, list_compact}
+use Rattle.operation_json.proofs.PackedBack.{are_packed, packed_back}
+use Rattle.operation_json.proofs.PackedTexts.{item_compact, items_numbers, items_shallow, items_read}
+use Rattle.operation_json.proofs.Steps.{json_read}
 use Rattle.snapshot.specs.Snapshot.{AreInRange, StandsFor, told_by, log_text}
 
 abbrev log_data : List Operation → Data

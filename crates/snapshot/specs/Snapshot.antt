@@ -8,11 +8,10 @@ use Rattle.opid.specs.declared.refusal.Refusal.{Refusal}
 use Rattle.opid.specs.declared.refusal.Refusal.TheVariants.{BadField}
 use Rattle.opid.specs.Operations.{Operation}
 use Rattle.opid.specs.Lawful.{IsLawful}
-use Rattle.wire_json.specs.Members.{◌>>=◌, only_keys, number_at}
-use Rattle.wire_json.specs.Operations.{each, list_at, op_of}
-use Rattle.wire_json.specs.PackedOperations.{packed_ops_of}
-use Rattle.wire_json.specs.Request.{json_of}
-use Rattle.wire_json.specs.Text.{IsOperationInRange, packed_text}
+use Rattle.operation_json.specs.Members.{◌>>=◌, only_keys, number_at, json_of}
+use Rattle.operation_json.specs.Operations.{each, list_at, op_of}
+use Rattle.operation_json.specs.PackedOperations.{packed_ops_of}
+use Rattle.operation_json.specs.Text.{IsOperationInRange, packed_text}
 
 -- the number has to be 1 or 2: whether it is 2, which has runs
 abbrev pub has_runs : ℕ → Result Bool Refusal

@@ -3,15 +3,15 @@ ghost use Rattle.std.specs.Prelude.{◌≡◌, ◌≤◌, ◌+◌, ◌++◌, ◌
 ghost use Rattle.std.specs.Str.{chars};
 ghost use Rattle.opid.specs.declared.refusal.Refusal.TheVariants.{Memory};
 ghost use Rattle.opid.specs.Lawful.{IsLawful, GoesOn};
-ghost use Rattle.wire_json.specs.Packing.{unfolded, unfolded_all};
+ghost use Rattle.operation_json.specs.Packing.{unfolded, unfolded_all};
 
 use crate::loading::append_all;
 use causal_clock::{MAX_SUM, Op};
+use operation_json::next_op;
 use opid::Refusal;
 use std::alloc::Global;
 use std::marker::Model;
 use versions::{Characters, Doc};
-use wire_json::next_op;
 
 /// What an object of the list tells: an operation, and the characters of the insertions that follow it.
 #[derive(Drop)]
@@ -22,7 +22,7 @@ pub(crate) struct Gathered {
 
 impl Model for Gathered {
     ghost use Rattle.std.specs.Prelude.{◌≤◌, ◌+◌, length, sum};
-    ghost use Rattle.wire_json.specs.Packing.{Item as Packed};
+    ghost use Rattle.operation_json.specs.Packing.{Item as Packed};
 
     ghost Value = { Packed };
 

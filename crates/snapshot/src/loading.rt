@@ -4,18 +4,18 @@ ghost use Rattle.serde_json.specs.View.{view, items_view};
 ghost use Rattle.opid.specs.declared.refusal.Refusal.TheVariants.{Memory, BadSnapshot, SiteUsed};
 ghost use Rattle.opid.specs.Operations.{Operation};
 ghost use Rattle.opid.specs.Lawful.{IsLawful, MayFollow, GoesOn};
-ghost use Rattle.wire_json.specs.Operations.{items_told};
+ghost use Rattle.operation_json.specs.Operations.{items_told};
 ghost use Rattle.snapshot.specs.Snapshot.{StandsFor, StandsForNone, LacksSite, HasSite, format_of, ops_told};
 ghost use Rattle.snapshot.specs.Internal.Values.{value_told};
 
 use crate::spelled::read_spelled;
 use causal_clock::Op;
+use operation_json::{check_keys, read_item_ops, read_list, read_number, read_op, read_value};
 use opid::{Refusal, Site};
 use replica::Replica;
 use serde_json::Value;
 use std::alloc::Global;
 use versions::Doc;
-use wire_json::{check_keys, read_item_ops, read_list, read_number, read_op, read_value};
 
 /// The replica of a site over the log that the bytes stand for; it holds nothing back.
 ///

@@ -1,14 +1,14 @@
 //! Saving a snapshot: the text of a replica's log.
 ghost use Rattle.std.specs.Prelude.{◌≡◌, ◌++◌, IfOk, IfErr, OnOk, string_bytes};
 ghost use Rattle.opid.specs.declared.refusal.Refusal.TheVariants.{Memory};
-ghost use Rattle.wire_json.specs.Text.{item_text, packed_text};
+ghost use Rattle.operation_json.specs.Text.{item_text, packed_text};
 ghost use Rattle.snapshot.specs.Snapshot.{StandsFor, AreInRange, log_text};
 
+use operation_json::{Item, check_op, write_item};
 use opid::Refusal;
 use replica::Replica;
 use std::alloc::Global;
 use versions::Doc;
-use wire_json::{Item, check_op, write_item};
 
 /// The one compact text of a replica's log, without a line feed, in format 2: packed into runs from the left. What is held back
 /// isn't in it. `load_doc` reads it to the same log.

@@ -2,17 +2,18 @@
 ghost use Rattle.std.specs.Prelude.{◌≡◌, ◌⊎◌, ◌∷◌, IfOk, IfErr, IfSome};
 ghost use Rattle.opid.specs.declared.refusal.Refusal.TheVariants.{Memory, BadSnapshot};
 ghost use Rattle.json.specs.Token.{end_array};
-ghost use Rattle.wire_json.specs.Packing.{unfolded_all};
+ghost use Rattle.operation_json.specs.Packing.{unfolded_all};
 ghost use Rattle.snapshot.specs.Snapshot.{StandsFor, StandsForNone};
 ghost use Rattle.snapshot.specs.Internal.Coming.{ReadsFormat, OpensLog, ReadsLog, TellsLog};
 
 use crate::gathered::{Gathered, integrate_gathered};
 use arrayvec::ArrayString;
+use json_bytes::PlainReader;
+use operation_json::{behind_first, is_closed, rest_of_item};
 use opid::Refusal;
 use std::alloc::Global;
 use std::str;
 use versions::{Doc, MAX_OPERATIONS};
-use wire_json::{PlainReader, behind_first, is_closed, rest_of_item};
 
 /// The document over the log that the bytes stand for, where `format` comes before `ops`, and each object is spelled as
 /// `rest_of_item` reads it, and there are at most 131,072. Nothing is integrated before the whole text is read. None where it is

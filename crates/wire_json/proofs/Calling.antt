@@ -1,6 +1,5 @@
 -- The calls that tokens ask for, key by key.
-use Rattle.std.proofs.Common.{◌≡◌, ◌^◌, ℕ, suc, List, [], ◌∷◌, Some, Ok, true, false, refl, sym, ap, subst, ◌∙◌, codes, lt-ltb}
-use Rattle.std.proofs.Common.{Option, None, Result, Err}
+use Rattle.std.proofs.Common.{◌≡◌, ◌^◌, ℕ, List, [], ◌∷◌, Some, Ok, true, false, refl, sym, subst, codes, lt-ltb, Option, None, Result, Err}
 use Rattle.std.specs.Prelude.{IfSome, IfOk}
 use Rattle.std.specs.Str.{chars, IsUtf8}
 use Rattle.json.specs.Lex.{tokens}
@@ -9,18 +8,11 @@ use Rattle.json.specs.Token.{Token, begin_object, end_object, key}
 use Rattle.serde_json.specs.Data.{Data, object, string, number, unsigned, no_members}
 use Rattle.room.specs.declared.call.Call.{Call}
 use Rattle.room.specs.declared.call.Call.TheVariants.{Ins, Del, Pull, Ops, Read, Join, Leave}
-use Rattle.wire_json.specs.Internal.Flat.{lone_value, value_of_tokens}
-use Rattle.wire_json.specs.Coming.{Comes, put_entries}
+use Rattle.json_bytes.specs.Internal.Coming.{value_of_tokens, put_entries}
+use Rattle.json_bytes.specs.Plain.{Comes}
 use Rattle.wire_json.specs.Internal.Handed.{ReadsField, ReadsPlace, ReadsRest, ReadsKind, ReadsCall, AsksFor}
-use Rattle.wire_json.proofs.Come.{object_comes}
-use Rattle.wire_json.proofs.Steps.{json_read}
-
-pub five_deep : (old new : List Token) (d : Data) → Comes 1 old d new → Comes 5 old d new
-five_deep old new d c =
-    record { tree = c.tree; read = λ depth. c.read (suc (suc (suc (suc depth)))); is = c.is; shorter = c.shorter }
-
-pub whole : (all : List Token) (d : Data) → Comes 6 all d [] → value_of_tokens all ≡ Some d
-whole all d c = ap lone_value (c.read 121) ∙ c.is
+use Rattle.json_bytes.proofs.Come.{object_comes, five_deep, whole}
+use Rattle.operation_json.proofs.Steps.{json_read}
 
 -- the object of this kind asks for what its rest asks for
 pub call_read : (all a b c : List Token) (kind : List ℕ) (call : Call) → all ≡ begin_object ∷ a → a ≡ key (codes "t") ∷ b

@@ -1,36 +1,33 @@
 -- The tokens of an object with whole numbers and texts are read as that object, in which its keys are looked up.
-use Rattle.std.proofs.Common.{◌≡◌, ℕ, zero, suc, ◌+◌, ◌*◌, ◌<◌, ◌≤◌, ◌^◌, ◌==◌, ◌&&◌, List, [], ◌∷◌, ◌++◌, length, take, map, Bor}
-use Rattle.std.proofs.Common.{get_or, slice_index, Option, Some, None, option_and_then, option_map, Ok, Err, Bool, true, false}
-use Rattle.std.proofs.Common.{cond, if◌then◌else◌, bytes_eq}
-use Rattle.std.proofs.Common.{Ordering, Less, Equal, Greater, nat_cmp, is_eq, true≢false, refl, sym, ap, ◌∙◌, subst, add-one, lt-ltb, arith}
+use Rattle.std.proofs.Common.{◌≡◌, ℕ, zero, suc, ◌+◌, ◌*◌, ◌<◌, ◌≤◌, ◌&&◌, List, [], ◌∷◌, ◌++◌, length, take, map, Bor, get_or, Some, None}
+use Rattle.std.proofs.Common.{option_and_then, option_map, Ok, Err, Bool, true, false, cond, if◌then◌else◌, bytes_eq, Ordering, Less, Equal}
+use Rattle.std.proofs.Common.{Greater, nat_cmp, is_eq, true≢false, refl, sym, ap, ◌∙◌, subst, add-one, arith}
 use Rattle.std.proofs.Math.Seq.{take-suc}
 use Rattle.std.proofs.Math.Bool.{and-true}
 use Rattle.std.proofs.lemmas.List.Folds.{list_all_more, list_any_at}
 use Rattle.std.proofs.lemmas.Map.Text.{is_eq-slice_cmp}
 use Rattle.std.proofs.lemmas.Slice.Eq.{bytes_eq-Decides}
-use Rattle.std.specs.Prelude.{SomeIff, IfSome}
 use Rattle.std.specs.List.{list_all}
 use Rattle.std.specs.Cmp.Lexicographic.{slice_cmp}
 use Rattle.std.specs.Ordering.{match_ordering}
-use Rattle.fast_float.specs.Text.{scan, digits_of, IsInteger}
 use Rattle.json.specs.Token.{Token, begin_object, end_object, begin_array, end_array, key, string, number, boolean, null, bad}
 use Rattle.json.specs.Json as json
 use Rattle.json.specs.Json.{members, value, parse_map}
 use Rattle.serde_json.specs.Data as tree
-use Rattle.serde_json.specs.Data.{Data, Members, no_members, member, put, object, unsigned}
+use Rattle.serde_json.specs.Data.{Data, Members, no_members, member, put, object}
 use Rattle.serde_json.specs.Find.{get_member, as_array}
-use Rattle.serde_json.specs.Read.{of_json, of_members, number_of}
+use Rattle.serde_json.specs.Read.{of_json, of_members}
 use Rattle.serde_json.proofs.Views.{get_member-put, get_member-put_other}
 use Rattle.opid.specs.declared.refusal.Refusal.TheVariants.{BadField}
 use Rattle.wire_json.specs.declared.flat.Primitive.{Primitive}
 use Rattle.wire_json.specs.declared.flat.Primitive.TheVariants.{Number, Text}
 use Rattle.wire_json.specs.declared.flat.Member.{Member}
 use Rattle.wire_json.specs.declared.flat.Next.TheVariants as nexts
-use Rattle.wire_json.specs.Members.{or_refuse, is_known, are_among, only_keys}
-use Rattle.wire_json.specs.Operations.{items_told, list_at}
-use Rattle.wire_json.proofs.Lists.{list_any-map}
-use Rattle.wire_json.specs.Internal.Flat.{lone_value, value_of_tokens, primitive_data, put_all, flat_data}
-use Rattle.wire_json.specs.Internal.Flat.{IsPrimitive, ReadsNext, TellsMembers}
+use Rattle.operation_json.specs.Members.{or_refuse, is_known, are_among, only_keys}
+use Rattle.operation_json.specs.Operations.{items_told, list_at}
+use Rattle.operation_json.proofs.Lists.{list_any-map}
+use Rattle.json_bytes.specs.Internal.Coming.{lone_value, value_of_tokens}
+use Rattle.wire_json.specs.Internal.Flat.{primitive_data, put_all, flat_data, IsPrimitive, ReadsNext, TellsMembers}
 
 -- ---- members one after another
 
@@ -108,15 +105,6 @@ one_more old ms m now new told next = with_one_more old ms m next.0 new (subst (
 pub whole_object : (all ts : List Token) (ms : List Member) (now : List Token)
     → all ≡ begin_object ∷ ts → TellsMembers ts ms now → now ≡ end_object ∷ [] → value_of_tokens all ≡ Some (flat_data ms)
 whole_object all ts ms now begun told ended = ap value_of_tokens begun ∙ object_read ts ms (subst (TellsMembers ts ms) ended told)
-
--- ---- a number of digits alone
-
-pub whole_number : (s : List ℕ) (r : Option ℕ) → (slice_index s 0 == 45) ≡ false
-    → SomeIff r (IsInteger (scan s) × (digits_of (scan s) < 2 ^ 64)) (digits_of (scan s)) → IfSome r (λ n. number_of s ≡ Some (unsigned n))
-unfolding number_of
-whole_number s None plain h = tt
-whole_number s (Some n) plain h =
-    rw (plain, lt-ltb _ _ h.0.0.0, h.0.0.1, h.0.0.2, lt-ltb _ _ h.0.1) (ap (λ x. Some (unsigned x)) (sym h.1))
 
 -- ---- looking a key up
 

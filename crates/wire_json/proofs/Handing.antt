@@ -6,16 +6,19 @@ use Rattle.serde_json.specs.Data.{Data, array, object, string, no_members}
 use Rattle.opid.specs.declared.refusal.Refusal.{Refusal}
 use Rattle.opid.specs.Operations.{Operation}
 use Rattle.room.specs.declared.call.Call.TheVariants.{Put}
-use Rattle.wire_json.specs.Members.{◌>>=◌}
+use Rattle.operation_json.specs.Members.{◌>>=◌}
 use Rattle.wire_json.specs.Request.{call_in}
-use Rattle.wire_json.specs.Packing.{typed_behind}
-use Rattle.wire_json.specs.PackedOperations.{ItemOffer, item_offer_of, item_sited, item_operations, item_ops_of, concatenated, handed_over}
-use Rattle.wire_json.specs.Coming.{Comes, TellsItems, ReadsItem, items_of, put_entries}
+use Rattle.operation_json.specs.Packing.{typed_behind}
+use Rattle.operation_json.specs.PackedOperations.{ItemOffer, item_offer_of, item_sited, item_operations, item_ops_of, concatenated}
+use Rattle.operation_json.specs.PackedOperations.{handed_over}
+use Rattle.json_bytes.specs.Plain.{Comes}
+use Rattle.json_bytes.specs.Internal.Coming.{TellsItems, items_of, put_entries}
+use Rattle.operation_json.specs.Coming.{ReadsItem}
 use Rattle.wire_json.specs.Internal.Handed.{TellsOps, ReadsOps, ReadsRest}
-use Rattle.wire_json.proofs.Come.{array_comes, one_more_item}
-use Rattle.wire_json.proofs.Spelling.{each_more}
-use Rattle.wire_json.proofs.Spelt.{told_back}
-use Rattle.wire_json.proofs.Unfolding.{kept_on}
+use Rattle.json_bytes.proofs.Come.{array_comes, one_more_item}
+use Rattle.operation_json.proofs.Spelling.{each_more}
+use Rattle.operation_json.proofs.Spelt.{told_back}
+use Rattle.operation_json.proofs.Unfolding.{kept_on}
 
 -- what an object offers, in the steps of a list
 record Parts (d : Data) (xs : List Operation) : Type 0 where

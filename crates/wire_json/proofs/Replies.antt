@@ -9,14 +9,14 @@ use Rattle.serde_json.specs.Written.{outline}
 use Rattle.serde_json.proofs.Numbers.{number_of-decimal}
 use Rattle.opid.specs.Operations.{Operation}
 use Rattle.room.specs.declared.reply.Reply.TheVariants.{Ops}
-use Rattle.wire_json.specs.Operations.{items_told}
-use Rattle.wire_json.specs.Packing.{packed_items}
-use Rattle.wire_json.specs.PackedOperations.{packed_ops_of, first_65_of, handed_over}
+use Rattle.operation_json.specs.Operations.{items_told}
+use Rattle.operation_json.specs.Packing.{packed_items}
+use Rattle.operation_json.specs.PackedOperations.{packed_ops_of, first_65_of, handed_over}
 use Rattle.wire_json.specs.Text.{IsInRange, text}
 use Rattle.wire_json.specs.Internal.Written.{part_data}
-use Rattle.wire_json.proofs.Read.{small, text_read}
-use Rattle.wire_json.proofs.PackedBack.{are_packed, packed_back}
-use Rattle.wire_json.proofs.PackedTexts.{items_shallow, items_read}
+use Rattle.operation_json.proofs.Read.{small, text_read}
+use Rattle.operation_json.proofs.PackedBack.{are_packed, packed_back}
+use Rattle.operation_json.proofs.PackedTexts.{items_shallow, items_read}
 use Rattle.wire_json.proofs.Texts.{compact, numbers}
 
 part_read : (place : ℕ) (ops : List Operation) → IsInRange (Ops place ops) → read (text (Ops place ops)) ≡ Some (part_data place ops)

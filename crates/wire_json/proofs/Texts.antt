@@ -28,14 +28,16 @@ use Rattle.room.specs.declared.reply.Reply.TheVariants.{Joined, Ok, Edits, Left,
 use Rattle.room.specs.declared.outcome.Outcome as outcome
 use Rattle.room.specs.declared.outcome.Outcome.TheVariants as outcomes
 use Rattle.opid.proofs.Told.{number_of-injective}
-use Rattle.wire_json.proofs.Read.{small}
-use Rattle.wire_json.proofs.PackedTexts.{item_compact, items_numbers, items_shallow, one_outline}
-use Rattle.wire_json.proofs.PackedBack.{are_packed}
-use Rattle.wire_json.specs.Text.{IsInRange, IsEditInRange, IsOutcomeInRange, outcome_text, quote, text, in_brackets}
-use Rattle.wire_json.specs.Text.{edit_text, item_text, packed_text}
-use Rattle.wire_json.specs.Packing.{packed_items}
-use Rattle.wire_json.proofs.ListTexts.{regroup_3, regroup_5, regroup_7, list_compact}
-use Rattle.wire_json.specs.Internal.Written.{data_of, item_data, outcome_data, edit_data, each_data}
+use Rattle.operation_json.proofs.Read.{small}
+use Rattle.operation_json.proofs.PackedTexts.{item_compact, items_numbers, items_shallow, one_outline}
+use Rattle.operation_json.proofs.PackedBack.{are_packed}
+use Rattle.wire_json.specs.Text.{IsInRange, IsEditInRange, IsOutcomeInRange, outcome_text, text, edit_text}
+use Rattle.json_bytes.specs.Quote.{quote}
+use Rattle.operation_json.specs.Text.{in_brackets, item_text, packed_text}
+use Rattle.operation_json.specs.Packing.{packed_items}
+use Rattle.operation_json.proofs.ListTexts.{regroup_3, regroup_5, regroup_7, list_compact}
+use Rattle.wire_json.specs.Internal.Written.{data_of, outcome_data, edit_data}
+use Rattle.operation_json.specs.Internal.Written.{item_data, each_data}
 
 edit_compact : (e : edit.Edit) → compact_text (edit_data e) ≡ edit_text e
 unfolding escape_byte

@@ -1,10 +1,3 @@
-pub mod Members
-pub mod Given
-pub mod Operations
-pub mod Packing
-pub mod PackedOperations
-pub mod Text
-pub mod Plain
-pub mod Coming
 pub mod Request
+pub mod Text
 pub mod Internal

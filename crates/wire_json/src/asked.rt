@@ -3,13 +3,13 @@
 ghost use Rattle.std.specs.Prelude.{◌≡◌, true, codes, IfOk, IfErr, IfSome};
 ghost use Rattle.std.specs.List.{list_all};
 ghost use Rattle.opid.specs.declared.refusal.Refusal.TheVariants.{Memory};
-ghost use Rattle.wire_json.specs.Plain.{is_plain};
+ghost use Rattle.json_bytes.specs.Plain.{is_plain};
 ghost use Rattle.wire_json.specs.Internal.Handed.{ReadsField, ReadsPlace, ReadsRest, ReadsKind, ReadsCall, AsksFor};
 
 use crate::handed::rest_of_put;
-use crate::plain::{MAX_TEXT, PlainReader};
-use crate::spelled::is_closed;
 use arrayvec::ArrayString;
+use json_bytes::{MAX_TEXT, PlainReader};
+use operation_json::is_closed;
 use opid::Refusal;
 use room::{Call, Characters};
 use std::alloc::Global;

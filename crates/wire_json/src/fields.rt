@@ -1,18 +1,17 @@
 //! What a request tells by its keys: of an object that was read with no tree, or of any JSON value.
-ghost use Rattle.std.specs.Prelude.{◌≡◌, true, map, is_some, option_map, option_and_then};
-ghost use Rattle.serde_json.specs.Find.{get, as_number, as_u64, as_str};
-ghost use Rattle.serde_json.specs.View.{view};
+ghost use Rattle.std.specs.Prelude.{◌≡◌, true, map, is_some, option_map};
+ghost use Rattle.serde_json.specs.Find.{get};
 ghost use Rattle.std.specs.List.{list_all};
 ghost use Rattle.wire_json.specs.Internal.Flat.{primitive_data, flat_data, fields_data};
-ghost use Rattle.wire_json.specs.PackedOperations.{operations_at};
-ghost use Rattle.wire_json.specs.Members.{is_known, only_keys, number_told, number_at, text_at};
-ghost use Rattle.wire_json.specs.Given.{Tells, Gives};
+ghost use Rattle.operation_json.specs.PackedOperations.{operations_at};
+ghost use Rattle.operation_json.specs.Members.{is_known, only_keys, number_told, number_at, text_at};
+ghost use Rattle.operation_json.specs.Given.{Tells, Gives};
 
 use crate::flat::{Member, Primitive};
-use crate::items::read_items;
-use crate::operations::read_list;
-use crate::reading::{check_keys, is_among};
 use causal_clock::Op;
+use operation_json::{
+    check_keys, is_among, number_in_range, read_items, read_list, read_number, read_text,
+};
 use opid::Refusal;
 use serde_json::Value;
 use std::alloc::Global;
@@ -37,26 +36,15 @@ impl<'v> Fields<'v> {
         }
     }
 
-    // The number or the text at a key, if it is one.
-    #[inline(always)]
-    fn primitive(&self, key: &str) -> Option<Primitive<'v>>
-        ensures number { option_and_then as_u64 (option_and_then as_number (option_map primitive_data result))
-            ≡ option_and_then as_u64 (option_and_then as_number (get key.now (fields_data self.now))) }
-        ensures text { option_and_then as_str (option_map primitive_data result)
-            ≡ option_and_then as_str (get key.now (fields_data self.now)) }
-    {
-        match self {
-            Fields::Flat(members) => value_among(members, key),
-            Fields::Tree(value) => primitive_in(value.get(key)),
-        }
-    }
-
     /// The number at a key, whole and from 0 to 4,294,967,295.
     #[inline(always)]
     pub fn number(&self, key: &str) -> Result<u32, Refusal>
         ensures { result ≡ number_at key.now (fields_data self.now) }
     {
-        number_told(self.primitive(key))
+        match self {
+            Fields::Flat(members) => number_told(value_among(members, key)),
+            Fields::Tree(value) => read_number(value, key),
+        }
     }
 
     /// The text at a key.
@@ -64,9 +52,12 @@ impl<'v> Fields<'v> {
     pub fn text(&self, key: &str) -> Result<&'v str, Refusal>
         ensures { Tells (λ s. s.now) result (text_at key.now (fields_data self.now)) }
     {
-        match self.primitive(key) {
-            Some(Primitive::Text(text)) => Ok(text),
-            _ => Err(Refusal::BadField),
+        match self {
+            Fields::Flat(members) => match value_among(members, key) {
+                Some(Primitive::Text(text)) => Ok(text),
+                _ => Err(Refusal::BadField),
+            },
+            Fields::Tree(value) => read_text(value, key),
         }
     }
 
@@ -109,32 +100,8 @@ fn number_told(value: Option<Primitive<'_>>) -> Result<u32, Refusal>
     ensures { result ≡ number_told (option_map primitive_data value.entry) }
 {
     match value {
-        Some(Primitive::Number(n)) if n <= u32::MAX as u64 => Ok(n as u32),
+        Some(Primitive::Number(n)) => number_in_range(n),
         _ => Err(Refusal::BadField),
-    }
-}
-
-/// The same of a JSON value, if there is one.
-pub(crate) fn number_in(value: Option<&Value>) -> Result<u32, Refusal>
-    ensures { result ≡ number_told (option_map (λ v. view v.now) value.entry) }
-{
-    number_told(primitive_in(value))
-}
-
-// The number or the text that a value is, if it is one.
-fn primitive_in<'v>(value: Option<&'v Value>) -> Option<Primitive<'v>>
-    ensures number { option_and_then as_u64 (option_and_then as_number (option_map primitive_data result))
-        ≡ option_and_then as_u64 (option_and_then as_number (option_map (λ v. view v.now) value.entry)) }
-    ensures text { option_and_then as_str (option_map primitive_data result)
-        ≡ option_and_then as_str (option_map (λ v. view v.now) value.entry) }
-{
-    let value = value?;
-    if let Some(n) = value.as_u64() {
-        return Some(Primitive::Number(n));
-    }
-    match value.as_str() {
-        Some(text) => Some(Primitive::Text(text)),
-        None => None,
     }
 }
 

@@ -3,14 +3,15 @@ ghost use Rattle.std.specs.Prelude.{◌≡◌, ◌≤◌, ◌∷◌, [], length,
 ghost use Rattle.serde_json.specs.Data.{unsigned};
 ghost use Rattle.serde_json.specs.Read.{number_of};
 ghost use Rattle.json.specs.Token.{begin_object};
-ghost use Rattle.wire_json.specs.Request.{json_of};
-ghost use Rattle.wire_json.specs.Internal.Flat.{value_of_tokens, flat_data, IsPrimitive, ReadsNext, ReadsMember};
+ghost use Rattle.operation_json.specs.Members.{json_of};
+ghost use Rattle.json_bytes.specs.Internal.Coming.{value_of_tokens};
+ghost use Rattle.wire_json.specs.Internal.Flat.{flat_data, IsPrimitive, ReadsNext, ReadsMember};
 ghost use Rattle.json.specs.Reads.{token_of};
 
-use crate::plain_number::leading_number;
 use arrayvec::ArrayVec;
 use fast_float::Numeral;
 use json::{Reader, Scratch, Token};
+use json_bytes::leading_number;
 
 // The most members of such an object.
 const MAX_MEMBERS: usize = 8;

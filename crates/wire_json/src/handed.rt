@@ -3,12 +3,11 @@ ghost use Rattle.std.specs.Prelude.{◌≡◌, ◌≤◌, codes, length, IfOk, I
 ghost use Rattle.opid.specs.declared.refusal.Refusal.TheVariants.{Memory};
 ghost use Rattle.wire_json.specs.Internal.Handed.{ReadsOps, ReadsRest};
 
-use crate::items::{behind_first, unfold_run};
-use crate::plain::{MAX_TEXT, PlainReader};
 use crate::reading::MAX_REQUEST_BYTES;
-use crate::spelled::{is_closed, rest_of_item};
 use arrayvec::ArrayString;
 use causal_clock::Op;
+use json_bytes::{MAX_TEXT, PlainReader};
+use operation_json::{behind_first, is_closed, rest_of_item, unfold_run};
 use opid::Refusal;
 use room::{Call, Operations};
 use std::alloc::Global;

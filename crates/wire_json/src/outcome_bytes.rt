@@ -2,7 +2,7 @@
 ghost use Rattle.std.specs.Prelude.{◌≡◌, ◌++◌, OnOk};
 ghost use Rattle.wire_json.specs.Text.{IsOutcomeInRange, outcome_text};
 
-use crate::byte_writing::{put, put_all, put_number};
+use json_bytes::{put, put_all, put_number};
 use room::Outcome;
 use std::alloc::AllocError;
 

@@ -3,15 +3,14 @@
 ghost use Rattle.std.specs.Prelude.{◌≡◌, ◌++◌, map, IfOk, OnOk, string_bytes};
 ghost use Rattle.std.specs.List.{AllByRecursion};
 ghost use Rattle.room.specs.declared.reply.Reply.TheVariants as replies;
-ghost use Rattle.wire_json.specs.Text.{IsEditInRange, IsOperationInRange, IsOutcomeInRange};
-ghost use Rattle.wire_json.specs.Text.{edit_text, outcome_text, in_brackets, more, text};
+ghost use Rattle.wire_json.specs.Text.{IsEditInRange, IsOutcomeInRange, edit_text, outcome_text, text};
+ghost use Rattle.operation_json.specs.Text.{IsOperationInRange, in_brackets, more};
 
-use crate::byte_writing::{put, put_all, put_number};
 use crate::edit_bytes::push_edit;
 use crate::outcome_bytes::push_outcome;
-use crate::packing::push_packed;
-use crate::tokens::text_of_bytes;
 use causal_clock::Op;
+use json_bytes::{put, put_all, put_number, text_of_bytes};
+use operation_json::push_packed;
 use opid::Edit;
 use room::Outcome;
 use std::alloc::{AllocError, Global};

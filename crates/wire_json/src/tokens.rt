@@ -1,10 +1,10 @@
-//! Writing JSON token by token into one buffer, and the text that such a buffer, or one of bytes, becomes.
+//! Writing JSON token by token into one buffer, and the text that it becomes.
 ghost use Rattle.std.specs.Prelude.{◌≡◌, [], ◌∷◌, ◌++◌, decimal, IfOk, OnOk, string_bytes};
-ghost use Rattle.std.specs.Str.{IsUtf8};
 ghost use Rattle.json.specs.Token.{key, string, number};
 ghost use Rattle.json.specs.Print.{print};
 
 use json::Writer;
+use json_bytes::text_of_bytes;
 use std::alloc::{AllocError, Global};
 
 /// A writer with room for a text of so many bytes, and for the line feed that may come behind it.
@@ -23,15 +23,6 @@ pub(crate) fn text_of(out: Writer) -> String
 {
     // What a writer has printed is UTF-8, by its `into_inner`.
     text_of_bytes(out.into_inner())
-}
-
-/// The text of these bytes, which are UTF-8. Constant time: none of them is looked at.
-pub(crate) fn text_of_bytes(bytes: Vec<u8>) -> String
-    requires { IsUtf8 bytes.items }
-    ensures { string_bytes result ≡ bytes.items }
-{
-    // They are UTF-8, by the `requires`.
-    unsafe { String::from_utf8_unchecked(bytes) }
 }
 
 /// Appends a key and its number.

@@ -3,8 +3,8 @@ use Rattle.std.specs.Prelude.{◌≡◌, ℕ, ◌<◌, ◌^◌, Bool, List, ◌�
 use Rattle.json.specs.Token.{Token, key, begin_object, begin_array}
 use Rattle.serde_json.specs.Data.{Data, number, unsigned}
 use Rattle.opid.specs.Operations.{Operation}
-use Rattle.wire_json.specs.Internal.Flat.{value_of_tokens}
-use Rattle.wire_json.specs.Coming.{Comes, TellsItems}
+use Rattle.json_bytes.specs.Internal.Coming.{value_of_tokens, TellsItems}
+use Rattle.json_bytes.specs.Plain.{Comes}
 use Rattle.snapshot.specs.Snapshot.{has_runs, ops_told, told_by}
 use Rattle.std.specs.Prelude.{Some}
 

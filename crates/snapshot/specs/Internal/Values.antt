@@ -3,9 +3,9 @@ use Rattle.std.specs.Prelude.{Bool, if◌then◌else◌, Result, Ok, List, [], �
 use Rattle.serde_json.specs.Data.{Data}
 use Rattle.opid.specs.declared.refusal.Refusal.{Refusal}
 use Rattle.opid.specs.Operations.{Operation}
-use Rattle.wire_json.specs.Members.{◌>>=◌}
-use Rattle.wire_json.specs.Operations.{op_of}
-use Rattle.wire_json.specs.PackedOperations.{item_ops_of}
+use Rattle.operation_json.specs.Members.{◌>>=◌}
+use Rattle.operation_json.specs.Operations.{op_of}
+use Rattle.operation_json.specs.PackedOperations.{item_ops_of}
 
 -- those of an operation or of a run, or the one operation
 abbrev pub value_told : Bool → Data → Result (List Operation) Refusal

@@ -1,10 +1,9 @@
 -- JSON objects whose members are whole numbers and texts (RFC 8259).
-use Rattle.std.specs.Prelude.{◌≡◌, ℕ, List, [], ◌∷◌, Option, Some, option_and_then}
+use Rattle.std.specs.Prelude.{◌≡◌, ℕ, List, [], ◌∷◌, Some}
 use Rattle.json.specs.Token.{Token, end_object, key, string, number}
-use Rattle.json.specs.Json as json
 use Rattle.serde_json.specs.Data as tree
 use Rattle.serde_json.specs.Data.{Data, Members, no_members, put, object, unsigned}
-use Rattle.serde_json.specs.Read.{of_json, number_of, max_depth}
+use Rattle.serde_json.specs.Read.{number_of}
 use Rattle.wire_json.specs.declared.flat.Primitive.{Primitive}
 use Rattle.wire_json.specs.declared.flat.Primitive.TheVariants.{Number, Text}
 use Rattle.wire_json.specs.declared.flat.Member.{Member}
@@ -13,14 +12,6 @@ use Rattle.wire_json.specs.declared.fields.Fields.{Fields}
 use Rattle.wire_json.specs.declared.fields.Fields.TheVariants.{Flat, Tree}
 use Rattle.wire_json.specs.declared.flat.Next as next
 use Rattle.wire_json.specs.declared.flat.Next.TheVariants as nexts
-
--- the value of a tree that no token follows
-abbrev pub lone_value : Option (json.Json × List Token) → Option Data
-lone_value o = option_and_then of_json (option_and_then (λ p. json.if_last p.0 p.1) o)
-
--- the value that these tokens are
-abbrev pub value_of_tokens : List Token → Option Data
-value_of_tokens ts = lone_value (json.value max_depth ts)
 
 -- the JSON value of a member's value
 abbrev pub primitive_data : Primitive → Data

@@ -4,11 +4,12 @@ use Rattle.json.specs.Token.{Token, key, end_object}
 use Rattle.serde_json.specs.Data.{Data, array, number, string, unsigned, object, no_members}
 use Rattle.opid.specs.Operations.{Operation}
 use Rattle.room.specs.declared.call.Call.{Call}
-use Rattle.wire_json.specs.Internal.Flat.{value_of_tokens}
-use Rattle.wire_json.specs.Request.{json_of, call_in}
-use Rattle.wire_json.specs.Operations.{each}
-use Rattle.wire_json.specs.PackedOperations.{ItemOffer, item_offer_of, item_sited, item_operations, concatenated, handed_over}
-use Rattle.wire_json.specs.Coming.{Comes, TellsItems, TellsEntries, items_of, put_entries}
+use Rattle.json_bytes.specs.Internal.Coming.{value_of_tokens, TellsItems, TellsEntries, items_of, put_entries}
+use Rattle.operation_json.specs.Members.{json_of}
+use Rattle.wire_json.specs.Request.{call_in}
+use Rattle.operation_json.specs.Operations.{each}
+use Rattle.operation_json.specs.PackedOperations.{ItemOffer, item_offer_of, item_sited, item_operations, concatenated, handed_over}
+use Rattle.json_bytes.specs.Plain.{Comes}
 use Rattle.std.specs.Prelude.{Some}
 
 -- of the tokens `old` objects come first of whose operations these are the first 65, and `now` are the rest

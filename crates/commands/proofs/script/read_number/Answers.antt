@@ -1,11 +1,11 @@
 -- A plain numeral is read as the number that it writes.
-use Rattle.std.proofs.Common.{◌≡◌, true, false, sym, subst, ◌∙◌, decimal, IsUtf8, List, ℕ, ◌<◌, ◌^◌, Result, Ok, Err}
+use Rattle.std.proofs.Common.{◌≡◌, true, false, sym, subst, ◌∙◌, decimal, IsUtf8, List, ℕ, ◌<◌, ◌^◌, Result, Ok, Err, arith}
 use Rattle.std.specs.Prelude.{IfOk, IfErr, IfSome, IfNone, Option}
 use Rattle.std.specs.Result.{result_ok}
 use Rattle.std.specs.Str.Parse.{ParsesUnsigned}
 use Rattle.commands.specs.Internal.Words.{IsPlainNumber}
 use Rattle.commands.proofs.Words.{decimal_is_plain, number_read, number_not_read}
-use Rattle.snapshot.proofs.Utf8.{number_text}
+use Rattle.operation_json.proofs.PackedUtf8.{number_text}
 use Rattle.commands.proofs.script.read_number.Goals as goal
 
 some_where_ok : {E : Type 0} (P : ℕ → Type 0) (r : Result ℕ E) (o : Option ℕ) → o ≡ result_ok r → IfOk r P → IfSome o P
@@ -40,4 +40,4 @@ returns-in-Ok-clause-none c =
     (number_not_read word c.parse.result read)
 
 pub returns-in-Err-clause-none : goal.returns-in-Err-clause-none
-returns-in-Err-clause-none c = λ n fits is. c.in-Err.ensures.cases.0 (subst IsUtf8 (sym is) (number_text n fits))
+returns-in-Err-clause-none c = λ n fits is. c.in-Err.ensures.cases.0 (subst IsUtf8 (sym is) (number_text n (omega (arith, fits))))

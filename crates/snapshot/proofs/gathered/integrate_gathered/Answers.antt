@@ -3,7 +3,7 @@ use Rattle.std.proofs.Common.{◌≡◌, ◌≤◌, ◌+◌, ◌⊎◌, inl, inr
 use Rattle.std.proofs.lemmas.Result.{err_from_is_err_and}
 use Rattle.opid.specs.declared.refusal.Refusal.TheVariants.{Memory}
 use Rattle.opid.specs.Lawful.{IsLawful, GoesOn}
-use Rattle.wire_json.specs.Packing.{unfolded, unfolded_all}
+use Rattle.operation_json.specs.Packing.{unfolded, unfolded_all}
 use Rattle.snapshot.proofs.Gathering.{item_refuted}
 use Rattle.snapshot.proofs.gathered.integrate_gathered.Goals as goal
 

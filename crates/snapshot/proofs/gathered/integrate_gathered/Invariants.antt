@@ -1,6 +1,6 @@
 -- what was appended so far, and what the rest tells, is what all tell
 use Rattle.std.proofs.Common.{◌≡◌, ◌++◌, drop}
-use Rattle.wire_json.specs.Packing.{unfolded_all}
+use Rattle.operation_json.specs.Packing.{unfolded_all}
 use Rattle.snapshot.proofs.gathered.integrate_gathered.Given as goal
 
 abbrev pub invariant-loop-item : goal.invariant-loop-item

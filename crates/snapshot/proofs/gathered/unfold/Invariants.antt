@@ -1,6 +1,6 @@
 -- what was put in, and what follows the last, is the whole item
 use Rattle.std.proofs.Common.{◌≡◌, ◌+◌, ◌≤◌, ◌++◌, length, sum, drop}
-use Rattle.wire_json.specs.Packing.{typed_behind, unfolded}
+use Rattle.operation_json.specs.Packing.{typed_behind, unfolded}
 use Rattle.snapshot.proofs.gathered.unfold.Given as goal
 
 abbrev pub invariant-loop-ch : goal.invariant-loop-ch

@@ -4,9 +4,9 @@ use Rattle.std.specs.List.{AllByRecursion}
 use Rattle.std.proofs.lemmas.Option.{get_or_from_slice_get, slice_get_within}
 use Rattle.opid.proofs.Gathered.{take_none}
 use Rattle.versions.proofs.Left.{left_after, some_left}
-use Rattle.wire_json.specs.Packing.{Item}
-use Rattle.wire_json.specs.Text.{IsOperationInRange, packed_text}
-use Rattle.wire_json.proofs.Lists.{all_more}
+use Rattle.operation_json.specs.Packing.{Item}
+use Rattle.operation_json.specs.Text.{IsOperationInRange, packed_text}
+use Rattle.operation_json.proofs.Lists.{all_more}
 use Rattle.snapshot.proofs.Joined.{rest_text, opened, joined_on, ended_on, closed}
 use Rattle.snapshot.proofs.saving.push_ops.Goals as goal
 use Rattle.snapshot.proofs.saving.push_ops.Goals.{then-is_joined_by+in_ok-push, else-is_joined_by+in_ok-push_item+in_ok-push_str-3}

@@ -1,5 +1,5 @@
 use Rattle.std.proofs.Common.{◌≡◌, ◌++◌, take, drop, string_bytes}
-use Rattle.wire_json.specs.Text.{packed_text}
+use Rattle.operation_json.specs.Text.{packed_text}
 use Rattle.snapshot.specs.Snapshot.{AreInRange}
 use Rattle.snapshot.proofs.Joined.{rest_text}
 use Rattle.snapshot.proofs.saving.push_ops.Given as goal

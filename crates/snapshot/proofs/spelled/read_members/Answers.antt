@@ -1,7 +1,7 @@
 use Rattle.std.proofs.Common.{◌∷◌, Option, Vec, Global, subst}
 use Rattle.std.specs.Prelude.{IfSome}
 use Rattle.json.specs.Token.{end_array}
-use Rattle.wire_json.specs.Packing.{unfolded_all}
+use Rattle.operation_json.specs.Packing.{unfolded_all}
 use Rattle.snapshot.specs.declared.gathered.Gathered.{Gathered}
 use Rattle.snapshot.specs.Internal.Coming.{TellsLog}
 use Rattle.snapshot.proofs.Telling.{log_read}

@@ -3,7 +3,7 @@ use Rattle.std.specs.Prelude.{IfSome}
 use Rattle.json.specs.Token.{Token}
 use Rattle.json.specs.Lex.{tokens}
 use Rattle.opid.specs.Operations.{Operation}
-use Rattle.wire_json.specs.Packing.{unfolded_all}
+use Rattle.operation_json.specs.Packing.{unfolded_all}
 use Rattle.snapshot.specs.declared.gathered.Gathered.{Gathered}
 use Rattle.snapshot.specs.Snapshot.{told_in}
 use Rattle.snapshot.specs.Internal.Coming.{ReadsLog}

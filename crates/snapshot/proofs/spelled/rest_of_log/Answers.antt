@@ -1,7 +1,7 @@
 use Rattle.std.proofs.Common.{◌≡◌, ◌++◌, ◌∷◌, ◌∙◌, [], false, List, ℕ, ap, sym, subst, drop}
 use Rattle.std.specs.Str.{chars}
 use Rattle.std.proofs.lemmas.List.{flat_map_more}
-use Rattle.wire_json.specs.Packing.{Item, typed_behind, unfolded, unfolded_all}
+use Rattle.operation_json.specs.Packing.{Item, typed_behind, unfolded, unfolded_all}
 use Rattle.snapshot.specs.Internal.Coming.{TellsLog}
 use Rattle.snapshot.proofs.Telling.{no_log, log_more}
 use Rattle.snapshot.proofs.spelled.rest_of_log.Goals as goal

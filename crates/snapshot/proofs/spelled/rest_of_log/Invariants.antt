@@ -1,5 +1,5 @@
 -- The log so far is told by the objects so far.
-use Rattle.wire_json.specs.Packing.{unfolded_all}
+use Rattle.operation_json.specs.Packing.{unfolded_all}
 use Rattle.snapshot.specs.Internal.Coming.{TellsLog}
 use Rattle.snapshot.proofs.spelled.rest_of_log.Given as goal
 

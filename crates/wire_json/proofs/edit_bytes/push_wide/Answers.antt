@@ -1,6 +1,6 @@
 use Rattle.std.proofs.Common.{◌≡◌, ◌∙◌, ◌∷◌, [], ◌++◌, List, ℕ, ap, decimal, drop, encode_utf8, arith, append_assoc}
 use Rattle.std.proofs.lemmas.Grind.{common_steps}
-use Rattle.wire_json.proofs.Pieced.{plain_quote}
+use Rattle.json_bytes.proofs.Escapes.{plain_quote}
 use Rattle.wire_json.proofs.edit_bytes.push_wide.Goals as goal
 
 joined : (old new first mid number wide : List ℕ) → first ≡ old ++ (91 ∷ 34 ∷ 105 ∷ 34 ∷ 44 ∷ (number ++ 44 ∷ 34 ∷ []))

@@ -3,7 +3,7 @@ use Rattle.std.proofs.lemmas.List.{take_all}
 use Rattle.std.proofs.lemmas.Str.Parse.{numerals_by_value, tells_all_ascii_digits}
 use Rattle.std.specs.Str.{all_ascii_digits}
 use Rattle.std.specs.Str.Parse.{AllDigits, digits_value}
-use Rattle.wire_json.proofs.Digits.{digits_number, few}
+use Rattle.json_bytes.proofs.Digits.{digits_number, few}
 use Rattle.wire_json.proofs.flat.few_digits.Goals as goal
 
 pub returns : goal.returns

@@ -1,7 +1,8 @@
 use Rattle.std.proofs.Common.{◌≡◌, List, Some, subst}
 use Rattle.json.specs.Token.{Token}
-use Rattle.wire_json.specs.Internal.Flat.{value_of_tokens, flat_data}
-use Rattle.wire_json.proofs.Steps.{json_read}
+use Rattle.json_bytes.specs.Internal.Coming.{value_of_tokens}
+use Rattle.wire_json.specs.Internal.Flat.{flat_data}
+use Rattle.operation_json.proofs.Steps.{json_read}
 use Rattle.wire_json.proofs.flat.read_flat.Goals as goal
 
 pub returns : goal.returns

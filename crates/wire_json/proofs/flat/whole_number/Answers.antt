@@ -1,7 +1,7 @@
 use Rattle.std.proofs.Common.{◌<◌, ◌^◌, sym, ap, subst, ◌∙◌, slice_index, ◌==◌}
 use Rattle.std.specs.Prelude.{SomeIff}
 use Rattle.fast_float.specs.Text.{Parts, scan, digits_of, IsInteger}
-use Rattle.wire_json.proofs.FlatObjects.{whole_number}
+use Rattle.json_bytes.proofs.Digits.{whole_number}
 use Rattle.wire_json.proofs.flat.whole_number.Goals as goal
 
 pub returns : goal.returns

@@ -1,10 +1,10 @@
 use Rattle.std.proofs.Common.{◌≡◌, ◌∷◌, ◌∙◌, ◌++◌, List, ℕ, ap, sym, subst, arith, length, take, drop}
 use Rattle.std.specs.Str.{chars}
 use Rattle.opid.specs.Operations.{Operation}
-use Rattle.wire_json.specs.Packing.{typed_behind}
-use Rattle.wire_json.specs.PackedOperations.{concatenated}
+use Rattle.operation_json.specs.Packing.{typed_behind}
+use Rattle.operation_json.specs.PackedOperations.{concatenated}
 use Rattle.wire_json.specs.Internal.Handed.{TellsOps}
-use Rattle.wire_json.proofs.Unfolding.{few_kept}
+use Rattle.operation_json.proofs.Unfolding.{few_kept}
 use Rattle.wire_json.proofs.Handing.{no_ops, ops_more, ops_read}
 use Rattle.wire_json.proofs.handed.next_ops.Goals as goal
 

@@ -1,8 +1,9 @@
 use Rattle.std.proofs.Common.{◌≡◌, ◌∙◌, ◌++◌, List, ℕ, IsUtf8, codes, decimal, sym, ap, subst, arith}
 use Rattle.std.proofs.lemmas.Grind.{common_steps}
 use Rattle.room.specs.declared.reply.Reply.TheVariants.{Ops}
-use Rattle.wire_json.specs.Text.{packed_text, text}
-use Rattle.wire_json.proofs.PackedUtf8.{ops_utf8}
+use Rattle.operation_json.specs.Text.{packed_text}
+use Rattle.wire_json.specs.Text.{text}
+use Rattle.wire_json.proofs.Pieced.{ops_utf8}
 use Rattle.wire_json.proofs.pieces.ops_text.Goals as goal
 
 joined : (head mid new list : List ℕ) (n : ℕ) → head ≡ codes "{\"from\":" ++ decimal n ++ codes ",\"ops\":" → mid ≡ head ++ list

@@ -1,7 +1,8 @@
 -- What is written so far goes on to all edits, and those so far are within their ranges.
 use Rattle.std.proofs.Common.{◌≡◌, ◌++◌, drop, take, map}
 use Rattle.std.specs.List.{AllByRecursion}
-use Rattle.wire_json.specs.Text.{IsEditInRange, edit_text, more}
+use Rattle.wire_json.specs.Text.{IsEditInRange, edit_text}
+use Rattle.operation_json.specs.Text.{more}
 use Rattle.wire_json.proofs.pieces.push_more.Given as goal
 
 abbrev pub invariant-loop-edit : goal.invariant-loop-edit

@@ -1,6 +1,6 @@
 use Rattle.std.proofs.Common.{inr, ap, ◌∙◌}
-use Rattle.wire_json.specs.Members.{◌>>=◌}
-use Rattle.wire_json.specs.PackedOperations.{handed_over, operations_at}
+use Rattle.operation_json.specs.Members.{◌>>=◌}
+use Rattle.operation_json.specs.PackedOperations.{handed_over, operations_at}
 use Rattle.wire_json.specs.Internal.Flat.{fields_data}
 use Rattle.wire_json.proofs.FlatObjects.{no_list}
 use Rattle.wire_json.proofs.fields.Fields.operations.Goals as goal

@@ -1,0 +1,6 @@
+-- Two operations with one text are what it is read as.
+use Rattle.operation_json.proofs.Read.{different}
+use Rattle.operation_json.proofs.laws.different_operations.Goals as goal
+
+pub returns : goal.returns
+returns c = different

@@ -1,0 +1,6 @@
+-- Packed operations unfold by induction over those that are still to be packed.
+use Rattle.operation_json.proofs.Packed.{unfolds}
+use Rattle.operation_json.proofs.laws.packing_unfolds.Goals as goal
+
+pub returns : goal.returns
+returns c = unfolds

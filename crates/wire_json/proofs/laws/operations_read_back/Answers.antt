@@ -1,6 +1,0 @@
--- The text of an operation is read as its JSON value, which tells it.
-use Rattle.wire_json.proofs.Read.{reads_back}
-use Rattle.wire_json.proofs.laws.operations_read_back.Goals as goal
-
-pub returns : goal.returns
-returns c = reads_back
