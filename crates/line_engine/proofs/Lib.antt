@@ -7,6 +7,4 @@ pub mod Reading
 pub mod Rounds
 pub mod Arms
 pub mod Making
-pub mod Following
-pub mod Lending
 pub mod Telling

@@ -4,6 +4,5 @@ pub mod LineBytes
 pub mod ServedLines
 pub mod Calls
 pub mod Counting
-pub mod PassSteps
 pub mod Carrying
 pub mod Internal

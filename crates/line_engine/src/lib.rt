@@ -13,7 +13,6 @@ mod requests;
 mod sink;
 mod source;
 mod taking;
-mod through_pass;
 mod window;
 
 pub use carrying::carry;
@@ -26,5 +25,4 @@ pub use requests::{Requests, reply_of};
 pub use sink::Sink;
 pub use source::Source;
 pub use taking::{FirstLine, first_line, whole_input};
-pub use through_pass::serve_through_pass;
 pub use window::Window;

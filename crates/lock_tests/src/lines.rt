@@ -2,9 +2,10 @@
 ghost use Rattle.shared_room.specs.Views.{IsPassOf};
 
 use crate::shared::shared;
-use line_engine::{Counted, serve_lines, serve_through_pass};
+use line_engine::{Counted, serve_lines};
 use opid::Site;
 use room::{Room, RoomDesk};
+use shared_lines::serve_through_pass;
 use shared_room::{Pass, SharedRoom};
 use std::alloc::{AllocError, Global};
 use std::io::{self, Error, ErrorKind, Write};

@@ -8,13 +8,13 @@ use Rattle.wire_json.specs.Text.{text}
 use Rattle.shared_room.specs.declared.pass.Pass.{Pass}
 use Rattle.shared_room.specs.declared.shared.SharedRoom.{SharedRoom}
 use Rattle.shared_room.specs.Views.{View, view, opening}
+use Rattle.shared_room.specs.PassSteps.{pass_step, pass_fault}
 use Rattle.ws_server.specs.declared.conn.Conn.{Conn}
 use Rattle.ws_server.specs.declared.hall.Hall.{Hall}
 use Rattle.ws_server.specs.Halls.{rooms_of, place_named}
 use Rattle.line_engine.specs.AnsweredRequests.{AnswersRequest}
 use Rattle.line_engine.specs.LineBytes.{line_bytes, IsFixed, TellsNoRefusal}
 use Rattle.line_engine.specs.Lines.{ended}
-use Rattle.line_engine.specs.PassSteps.{pass_step, pass_fault}
 use Rattle.line_engine.specs.declared.reply_line.ReplyLine.{ReplyLine}
 use Rattle.ws_server.specs.Gates.{Gated, gated_step, gated_fault}
 

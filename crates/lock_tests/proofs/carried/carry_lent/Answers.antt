@@ -9,7 +9,7 @@ use Rattle.shared_room.specs.declared.desk.PassDesk.{PassDesk}
 use Rattle.shared_room.specs.declared.shared.SharedRoom.{SharedRoom}
 use Rattle.shared_room.specs.Views.{IsPassOf}
 use Rattle.line_engine.specs.Carrying.{Calls, Hands, HandsTold, told_ops}
-use Rattle.line_engine.proofs.Lending.{desk_step, desk_fault}
+use Rattle.shared_lines.proofs.Lending.{desk_step, desk_fault}
 use Rattle.lock_tests.proofs.carried.carry_lent.Goals as goal
 
 abbrev Stays : {H : Type 0} → PassDesk H → PassDesk H → Type 0

@@ -4,9 +4,9 @@ use Rattle.wire_json.specs.Text.{text}
 use Rattle.room.specs.declared.reply.Reply.{Reply}
 use Rattle.room.specs.declared.reply.Reply.TheVariants.{No}
 use Rattle.shared_room.specs.Views.{view, opening}
+use Rattle.shared_room.specs.PassSteps.{pass_step, pass_fault}
 use Rattle.line_engine.specs.LineBytes.{IsFixed, TellsNoRefusal}
 use Rattle.line_engine.specs.Lines.{ended}
-use Rattle.line_engine.specs.PassSteps.{pass_step, pass_fault}
 use Rattle.line_engine.specs.AnsweredRequests.{reply_of}
 use Rattle.ws_server.specs.Gates.{gated_step, gated_fault}
 use Rattle.line_engine.proofs.Answering.{AnswersRequest-refused}

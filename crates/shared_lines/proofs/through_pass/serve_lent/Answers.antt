@@ -1,8 +1,8 @@
 use Rattle.std.proofs.Common.{subst}
 use Rattle.shared_room.specs.declared.shared.SharedRoom.{SharedRoom}
 use Rattle.shared_room.specs.Views.{IsPassOf}
-use Rattle.line_engine.proofs.Lending.{lent}
-use Rattle.line_engine.proofs.through_pass.serve_lent.Goals as goal
+use Rattle.shared_lines.proofs.Lending.{lent}
+use Rattle.shared_lines.proofs.through_pass.serve_lent.Goals as goal
 
 pub returns-clause-lent : goal.returns-clause-lent
 returns-clause-lent g c =

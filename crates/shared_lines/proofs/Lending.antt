@@ -7,11 +7,11 @@ use Rattle.shared_room.specs.declared.shared.SharedRoom.{SharedRoom}
 use Rattle.shared_room.specs.declared.desk.PassDesk.{PassDesk}
 use Rattle.shared_room.specs.Views.{View, view, opening}
 use Rattle.shared_room.specs.Turns as turns
+use Rattle.shared_room.specs.PassSteps.{pass_step, pass_fault}
 use Rattle.line_engine.specs.AnsweredRequests.{AnswersRequest}
-use Rattle.line_engine.specs.PassSteps.{pass_step, pass_fault}
 use Rattle.line_engine.specs.ServedLines.{Serves, StartsNot}
 use Rattle.line_engine.specs.declared.fault.ServeFault.{ServeFault}
-use Rattle.line_engine.proofs.Following.{answered, serves}
+use Rattle.shared_lines.proofs.Following.{answered, serves}
 
 abbrev pub desk_step : {H : Type 0} → PassDesk H → Call → Reply → PassDesk H → Type 0
 desk_step old call reply new =

@@ -2,17 +2,13 @@
 ghost use Rattle.std.specs.Prelude.{◌≡◌, ◌⊎◌, ℕ, ◌^◌, ◌<◌, List};
 ghost use Rattle.std.specs.Io.KnownBytes.{Appends, Consumes};
 ghost use Rattle.shared_room.specs.Views.{view, opening, IsPassOf};
+ghost use Rattle.shared_room.specs.PassSteps.{pass_step, pass_fault};
 ghost use Rattle.line_engine.specs.AnsweredRequests.{AnswersRequest};
 ghost use Rattle.line_engine.specs.Calls.{for_a_block, of_bytes, CountsReads, CountsWrites};
 ghost use Rattle.line_engine.specs.Counting.{Rises};
-ghost use Rattle.line_engine.specs.PassSteps.{pass_step, pass_fault};
 ghost use Rattle.line_engine.specs.ServedLines.{Serves, StartsNot};
 
-use crate::counted::Counted;
-use crate::engine::serve_lines;
-use crate::fault::ServeFault;
-use crate::sink::Sink;
-use crate::source::Source;
+use line_engine::{Counted, ServeFault, Sink, Source, serve_lines};
 use shared_room::{Pass, PassDesk, SharedRoom};
 use std::alloc::Global;
 use std::sync::Wait;
