@@ -7,7 +7,6 @@
 mod call;
 mod calls;
 mod desk;
-mod editor;
 mod edits;
 pub mod laws;
 mod machine;
@@ -17,11 +16,9 @@ mod outcomes;
 mod owned;
 mod reply;
 mod room;
-mod unit_editor;
 
 pub use call::Call;
 pub use desk::{Desk, DeskFault};
-pub use editor::Editor;
 pub use edits::Edits;
 pub use operations::Operations;
 pub use outcome::Outcome;
@@ -29,5 +26,4 @@ pub use outcomes::Outcomes;
 pub use owned::RoomDesk;
 pub use reply::Reply;
 pub use room::Room;
-pub use unit_editor::UnitEditor;
 pub use versions::Characters;

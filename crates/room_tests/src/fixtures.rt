@@ -1,9 +1,10 @@
 //! What tests of rooms share: an empty room, an insertion, replies, what an editor shows, and whether rooms have one order.
 ghost use Rattle.std.specs.Prelude.{◌≡◌, [], IfOk};
 
+use editors::Editor;
 use opid::Site;
 use replica_world::one_order;
-use room::{Call, Characters, Editor, Reply, Room};
+use room::{Call, Characters, Reply, Room};
 use std::alloc::{AllocError, Global};
 use std::test::Fail;
 

@@ -1,7 +1,8 @@
 //! Many editors of one room, which are given their replies early, late and again.
 use crate::fixtures::{empty_room, insertion, shows};
+use editors::Editor;
 use opid::Refusal;
-use room::{Call, Desk, Editor, Reply, RoomDesk};
+use room::{Call, Desk, Reply, RoomDesk};
 use std::alloc::Global;
 use std::test::Fail;
 

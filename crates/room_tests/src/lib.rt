@@ -1,9 +1,9 @@
-//! Tests of a room and of the crates that it stands on, and of worlds, over their public calls: what no conversation with the
-//! program says. They stand apart from those crates, which would be proved once more for tests of their own.
+//! Tests of a room and of the crates that it stands on, of editors and of worlds, over their public calls: what no conversation
+//! with the program says. They stand apart from those crates, which would be proved once more for tests of their own.
 #![tactic(auto)]
 
 #[cfg(test)]
-mod editors;
+mod counts;
 #[cfg(test)]
 mod fixtures;
 #[cfg(test)]

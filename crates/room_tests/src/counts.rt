@@ -1,7 +1,8 @@
 //! Editors of a room that fall behind and catch up, in either count of places.
 use crate::fixtures::{empty_room, insertion, shows};
 use crate::turns::{TURNS, Turn};
-use room::{Call, Desk, Editor, RoomDesk, UnitEditor};
+use editors::{Editor, UnitEditor};
+use room::{Call, Desk, RoomDesk};
 use std::alloc::Global;
 use std::test::Fail;
 

@@ -1,6 +1,6 @@
 use Rattle.std.proofs.Common.{true, ◌≡◌, ◌+◌, Some, take}
 use Rattle.opid.specs.Splice.{play_in}
-use Rattle.room.proofs.unit_editor.play_each.Given as goal
+use Rattle.editors.proofs.unit_editor.play_each.Given as goal
 
 -- the edits so far were played
 abbrev pub invariant-loop-edit : goal.invariant-loop-edit

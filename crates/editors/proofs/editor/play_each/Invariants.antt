@@ -1,6 +1,6 @@
 use Rattle.std.proofs.Common.{◌≡◌, ◌+◌, Some, take}
 use Rattle.opid.specs.Splice.{play}
-use Rattle.room.proofs.editor.play_each.Given as goal
+use Rattle.editors.proofs.editor.play_each.Given as goal
 
 -- the edits so far were played
 abbrev pub invariant-loop-edit : goal.invariant-loop-edit

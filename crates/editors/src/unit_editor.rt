@@ -4,8 +4,8 @@ ghost use Rattle.opid.specs.declared.refusal.Refusal.TheVariants.{BadPlace, Memo
 ghost use Rattle.opid.specs.Splice.{play_in};
 ghost use Rattle.room.specs.Editor.{empty_editor, with_reply_in, FollowsPart_in};
 
-use crate::reply::Reply;
 use opid::{Edit, Refusal};
+use room::Reply;
 use splice::UnitText;
 use std::alloc::Global;
 use std::marker::Model;

@@ -1,6 +1,6 @@
 use Rattle.std.proofs.Common.{Err, true, ap, arith, ◌∙◌}
-use Rattle.room.proofs.Edited.{plays_on, refused}
-use Rattle.room.proofs.unit_editor.play_each.Goals as goal
+use Rattle.editors.proofs.Edited.{plays_on, refused}
+use Rattle.editors.proofs.unit_editor.play_each.Goals as goal
 
 pub loop-edit-preserved : goal.loop-edit-preserved
 loop-edit-preserved c = record {
