@@ -1,4 +1,4 @@
--- The bytes of an answer's line, and which answers need no memory: those that tell refusals.
+-- The bytes of an answer's line, and which answers need no memory: those that tell refusals. They are the server's own.
 use Rattle.std.specs.Prelude.{◌≢◌, ℕ, List, string_bytes}
 use Rattle.opid.specs.declared.refusal.Refusal.{Refusal}
 use Rattle.room.specs.declared.reply.Reply.TheVariants.{No}

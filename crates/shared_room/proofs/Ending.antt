@@ -28,7 +28,8 @@ use Rattle.shared_room.specs.declared.shared.SharedRoom.{SharedRoom}
 use Rattle.shared_room.specs.Trails.{made, trail_of, calls_of, opening_in}
 use Rattle.shared_room.specs.Views.{View, view_of, IsPassOf}
 use Rattle.opid.specs.declared.refusal.Refusal.{Refusal}
-use Rattle.shared_room.specs.Turns.{Replies, Records, Stays, TakesTurn, Keeps, EndsTurn, Answers, LacksMemory, FailsToRecord, Joins, Meets}
+use Rattle.shared_room.specs.Turns.{Replies, Records, Stays, TakesTurn, Answers, LacksMemory, FailsToRecord, Joins, Meets}
+use Rattle.shared_room.specs.Internal.TurnEnds.{Keeps, EndsTurn}
 use Rattle.shared_room.proofs.Trails.{calls_prefix, calls_made, calls_append, legal_calls, short_calls, owns_calls, distinct_calls}
 
 -- ---- the trail after a call

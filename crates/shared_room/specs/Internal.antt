@@ -2,3 +2,4 @@
 -- these files; the view of a type may, which says what its fields stand for.
 pub mod Handing
 pub mod DeskLaws
+pub mod TurnEnds

@@ -1,8 +1,7 @@
 -- What a turn at a shared room does to what its pass knows. The rules are the server's own.
-use Rattle.std.specs.Prelude.{◌≡◌, ℕ, ◌+◌, ◌-◌, ◌<◌, ◌≤◌, ◌↔◌, ◌⊎◌, max, [], ◌∷◌, ◌++◌, length, Result, Ok, Err}
+use Rattle.std.specs.Prelude.{◌≡◌, ℕ, ◌+◌, ◌-◌, ◌<◌, ◌≤◌, ◌↔◌, ◌⊎◌, max, [], ◌∷◌, ◌++◌, length}
 use mathlib.Core.List.{IsPrefix}
-use Rattle.opid.specs.declared.refusal.Refusal.{Refusal}
-use Rattle.opid.specs.declared.refusal.Refusal.TheVariants.{HistoryFull, Memory}
+use Rattle.opid.specs.declared.refusal.Refusal.TheVariants.{HistoryFull}
 use Rattle.room.specs.declared.call.Call.{Call}
 use Rattle.room.specs.declared.reply.Reply.{Reply}
 use Rattle.room.specs.declared.reply.Reply.TheVariants.{No}
@@ -56,19 +55,6 @@ Visits v w = TakesTurn v w × Stays v w
 -- a turn in which there was no memory, so that it recorded nothing, though the history that it found isn't full
 abbrev pub LacksMemory : View → View → Type 0
 LacksMemory v w = TakesTurn v w × FailsToRecord v w
-
--- a turn ended, from inside of it: the call was answered, or there was no memory
-abbrev pub EndsTurn : State → View → View → Call → Result Reply Refusal → Type 0
-EndsTurn opening v w c (Ok r) = Replies opening v w c r
-EndsTurn opening v w c (Err e) = (e ≡ Memory) × FailsToRecord v w
-
--- from inside a turn to its end
-pub record Keeps (v w : View) : Type 0 where
-  pub found : w.found ≡ v.found
-  pub drawn : w.drawn ≡ v.drawn
-  pub turns : w.turns ≡ v.turns + 1
-  pub left : w.left ≡ v.left
-  pub lost : w.lost ≡ v.lost
 
 -- a try was lost, and all else is as it was
 abbrev pub Loses : View → View → Type 0

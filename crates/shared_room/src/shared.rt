@@ -7,7 +7,8 @@ ghost use Rattle.history_lock.specs.Locks as locks;
 ghost use Rattle.history_lock.specs.Locks.{sight, ticket_of};
 ghost use Rattle.shared_room.specs.Trails.{trail_of};
 ghost use Rattle.shared_room.specs.Views.{view, opening, IsPassOf, View};
-ghost use Rattle.shared_room.specs.Turns.{Answers, LacksMemory, Loses, Joins, Meets, EndsTurn, Keeps, given_away, newcomer};
+ghost use Rattle.shared_room.specs.Turns.{Answers, LacksMemory, Loses, Joins, Meets, given_away, newcomer};
+ghost use Rattle.shared_room.specs.Internal.TurnEnds.{EndsTurn, Keeps};
 
 use crate::kept::KeptRoom;
 use crate::pass::Pass;

@@ -13,9 +13,6 @@ use Rattle.ws_server.specs.declared.conn.Conn.{Conn}
 use Rattle.ws_server.specs.declared.hall.Hall.{Hall}
 use Rattle.ws_server.specs.Halls.{rooms_of, place_named}
 use Rattle.line_engine.specs.AnsweredRequests.{AnswersRequest}
-use Rattle.line_engine.specs.LineBytes.{line_bytes, IsFixed, TellsNoRefusal}
-use Rattle.line_engine.specs.Lines.{ended}
-use Rattle.line_engine.specs.declared.reply_line.ReplyLine.{ReplyLine}
 use Rattle.ws_server.specs.Gates.{Gated, gated_step, gated_fault}
 
 -- What serves a connection: what is kept of it, a pass of each room of the hall, and its gate.
@@ -67,9 +64,3 @@ AnswersAt told_before hall (Some at) old bytes answer made new =
 -- a call of that room. The passes of the others are as before, and only a call is told to the gate and counted
 abbrev pub AnswersFrame : {G : Type 0} → (G → ℕ → View → G → Type 0) → Hall → Side G → List ℕ → List ℕ → Option ℕ → Side G → Type 0
 AnswersFrame told_before hall old bytes answer made new = AnswersAt told_before hall old.conn.opened old bytes answer made new
-
--- ---- for the code alone
-
--- the line is that of the answer, and was made only where that is no refusal's
-abbrev pub IsLineOf : List ℕ → ReplyLine → Type 0
-IsLineOf answer line = (line_bytes line ≡ ended answer) × (IsFixed line ⊎ TellsNoRefusal answer)

@@ -4,3 +4,4 @@ pub mod Frames
 pub mod Sockets
 pub mod Serving
 pub mod Names
+pub mod Internal

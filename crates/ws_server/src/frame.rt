@@ -6,8 +6,9 @@ ghost use Rattle.line_engine.specs.declared.fault.ServeFault.TheVariants.{Memory
 ghost use Rattle.line_engine.specs.Lines.{ended};
 ghost use Rattle.line_engine.specs.LineBytes.{line_bytes, IsFixed, TellsNoRefusal};
 ghost use Rattle.ws_server.specs.Halls.{rooms_of, IsHallPassOf, IsConnOf};
-ghost use Rattle.ws_server.specs.Frames.{AnswersOver, AnswersFrame, OpensRoom, IsLineOf};
+ghost use Rattle.ws_server.specs.Frames.{AnswersOver, AnswersFrame, OpensRoom};
 ghost use Rattle.ws_server.specs.Gates.{next_call};
+ghost use Rattle.ws_server.specs.Internal.AnswerLines.{IsLineOf};
 
 use crate::conn::Conn;
 use crate::gate::Witness;
