@@ -8,7 +8,7 @@ use Rattle.std.proofs.lemmas.Bool.{cases_lt}
 use Rattle.opid.specs.declared.refusal.Refusal.{Refusal}
 use Rattle.opid.specs.declared.refusal.Refusal.TheVariants.{TooLong, Memory}
 use Rattle.room.specs.History.{Account}
-use Rattle.room.specs.declared.reply.Reply.TheVariants.{No}
+use Rattle.room_calls.specs.declared.reply.Reply.TheVariants.{No}
 use Rattle.replica_world.specs.declared.event.Event.{Event}
 use Rattle.wire_json.specs.Text.{text}
 use Rattle.commands.specs.Script.{Asks}

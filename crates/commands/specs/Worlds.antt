@@ -6,7 +6,7 @@ use Rattle.opid.specs.Reading.{reading}
 use Rattle.opid.specs.declared.refusal.Refusal.{Refusal}
 use Rattle.opid.specs.declared.refusal.Refusal.TheVariants.{Memory}
 use Rattle.room.specs.History.{Account}
-use Rattle.room.specs.declared.reply.Reply.TheVariants as reply
+use Rattle.room_calls.specs.declared.reply.Reply.TheVariants as reply
 use Rattle.replica_world.specs.declared.event.Event.{Event}
 use Rattle.replica_world.specs.declared.event.WorldReply.{WorldReply}
 use Rattle.replica_world.specs.declared.event.WorldReply.TheVariants.{Room, Forked, No}

@@ -10,12 +10,12 @@ ghost use Rattle.commands.specs.Played.{PlaysText, reading_line, served_end};
 
 use crate::sending::send;
 use crate::stop::Stop;
+use characters::Characters;
 use line_engine::{Counted, ServeFault, Source, Window, whole_input};
 use opid::Refusal;
 use snapshot::load_doc;
 use std::alloc::Global;
 use std::io::Write;
-use versions::Characters;
 
 /// Prints the reading of a version, the newest unless one is named, of the snapshot that the whole input is, and LF.
 ///

@@ -1,7 +1,7 @@
 //! Requests of each kind and length, each in the ways in which it may be spelled, and refused ones.
 use causal_clock::{Clock, Op};
 use opid::{OpKind, Refusal, Site, Stamp};
-use room::{Call, Characters, Operations};
+use room_calls::{Call, Characters, Operations};
 use std::alloc::{AllocError, Global};
 use std::test::Fail;
 use wire_json::read_request;

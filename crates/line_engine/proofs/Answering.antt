@@ -4,9 +4,9 @@ use Rattle.std.proofs.Math.Logic.{⊎_elim}
 use Rattle.std.proofs.lemmas.Bool.{cases_lt}
 use Rattle.opid.specs.declared.refusal.Refusal.{Refusal}
 use Rattle.opid.specs.declared.refusal.Refusal.TheVariants.{TooLong, Memory as NoMemory}
-use Rattle.room.specs.declared.call.Call.{Call}
-use Rattle.room.specs.declared.reply.Reply.{Reply}
-use Rattle.room.specs.declared.reply.Reply.TheVariants.{No}
+use Rattle.room_calls.specs.declared.call.Call.{Call}
+use Rattle.room_calls.specs.declared.reply.Reply.{Reply}
+use Rattle.room_calls.specs.declared.reply.Reply.TheVariants.{No}
 use Rattle.room.specs.declared.desk.DeskFault.{DeskFault}
 use Rattle.wire_json.specs.Request.{request}
 use Rattle.wire_json.specs.Text.{text as text_of}

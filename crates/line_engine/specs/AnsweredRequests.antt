@@ -2,9 +2,9 @@
 use Rattle.std.specs.Prelude.{◌≡◌, ◌⊎◌, ℕ, ◌≤◌, List, length, Result, Ok, Err}
 use Rattle.opid.specs.declared.refusal.Refusal.{Refusal}
 use Rattle.opid.specs.declared.refusal.Refusal.TheVariants as Why
-use Rattle.room.specs.declared.call.Call.{Call}
-use Rattle.room.specs.declared.reply.Reply.{Reply}
-use Rattle.room.specs.declared.reply.Reply.TheVariants.{No}
+use Rattle.room_calls.specs.declared.call.Call.{Call}
+use Rattle.room_calls.specs.declared.reply.Reply.{Reply}
+use Rattle.room_calls.specs.declared.reply.Reply.TheVariants.{No}
 use Rattle.room.specs.declared.desk.DeskFault.{DeskFault}
 use Rattle.room.specs.declared.desk.DeskFault.TheVariants.{Worn, Memory}
 use Rattle.wire_json.specs.Request.{request}

@@ -2,12 +2,12 @@
 use Rattle.std.specs.Prelude.{◌≡◌, ℕ, ◌+◌, List, [], ◌∷◌, length, Bool, true, false, not, take_while, Result, Ok, Err}
 use Rattle.opid.specs.declared.refusal.Refusal.TheVariants.{Full, HoldFull}
 use Rattle.opid.specs.Operations.{Operation}
-use Rattle.room.specs.declared.call.Call.{Call}
-use Rattle.room.specs.declared.call.Call.TheVariants as calls
-use Rattle.room.specs.declared.reply.Reply.{Reply}
-use Rattle.room.specs.declared.reply.Reply.TheVariants as replies
-use Rattle.room.specs.declared.outcome.Outcome.{Outcome}
-use Rattle.room.specs.declared.outcome.Outcome.TheVariants as outcomes
+use Rattle.room_calls.specs.declared.call.Call.{Call}
+use Rattle.room_calls.specs.declared.call.Call.TheVariants as calls
+use Rattle.room_calls.specs.declared.reply.Reply.{Reply}
+use Rattle.room_calls.specs.declared.reply.Reply.TheVariants as replies
+use Rattle.room_calls.specs.declared.outcome.Outcome.{Outcome}
+use Rattle.room_calls.specs.declared.outcome.Outcome.TheVariants as outcomes
 use Rattle.room.specs.declared.desk.DeskFault.{DeskFault}
 
 -- whether an operation is to be handed over again: its log or its held list was full

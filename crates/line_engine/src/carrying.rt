@@ -1,8 +1,8 @@
 //! Carries operations from a desk to a desk.
 ghost use Rattle.std.specs.Prelude.{◌≡◌, ℕ, ◌<◌, ◌≤◌, Result, length};
-ghost use Rattle.room.specs.declared.reply.Reply.{Reply};
+ghost use Rattle.room_calls.specs.declared.reply.Reply.{Reply};
 ghost use Rattle.room.specs.declared.desk.DeskFault.{DeskFault};
-ghost use Rattle.room.specs.declared.call.Call.TheVariants as calls;
+ghost use Rattle.room_calls.specs.declared.call.Call.TheVariants as calls;
 ghost use Rattle.line_engine.specs.Carrying.{Calls, Hands, HandsTold, carried, is_refused_for_room};
 
 use opid::{MAX_COUNT, Refusal};

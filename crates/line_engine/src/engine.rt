@@ -2,7 +2,7 @@
 ghost use Rattle.std.specs.Prelude.{◌≡◌, ◌⊎◌, ℕ, ◌+◌, ◌^◌, ◌<◌, ◌≤◌, List, [], ◌++◌, true, IfOk, IfErr, IsTrue};
 ghost use Rattle.std.specs.Io.KnownBytes.{Appends, Consumes};
 ghost use Rattle.opid.specs.declared.refusal.Refusal.TheVariants.{TooLong};
-ghost use Rattle.room.specs.declared.reply.Reply.TheVariants.{No};
+ghost use Rattle.room_calls.specs.declared.reply.Reply.TheVariants.{No};
 ghost use Rattle.wire_json.specs.Text.{text};
 ghost use Rattle.line_engine.specs.AnsweredRequests.{AnswersRequest};
 ghost use Rattle.line_engine.specs.ServedLines.{Serves, StartsNot};

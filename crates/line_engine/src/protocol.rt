@@ -7,7 +7,7 @@ use std::alloc::{AllocError, Global};
 /// A kind of lines: what each is answered by a state, which it may change.
 pub trait Protocol {
     ghost use Rattle.std.specs.Prelude.{◌≡◌, ◌<◌, ◌≤◌, ℕ, List, length, MatchResult};
-    ghost use Rattle.room.specs.declared.reply.Reply.TheVariants.{No};
+    ghost use Rattle.room_calls.specs.declared.reply.Reply.TheVariants.{No};
     ghost use Rattle.opid.specs.declared.refusal.Refusal.TheVariants.{TooLong};
     ghost use Rattle.wire_json.specs.Text.{text};
     ghost use Rattle.line_engine.specs.Lines.{ended};

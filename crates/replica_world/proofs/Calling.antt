@@ -8,8 +8,8 @@ use Rattle.opid.specs.Lawful.{IsLawful}
 use Rattle.opid.proofs.Orders.{Among, Each-at, Among-append, Among-append_left, Among-append_right, Among-from_Contains}
 use Rattle.opid.proofs.Orders.{Contains-from_Among}
 use Rattle.holdback.specs.First.{NoneReady}
-use Rattle.room.specs.declared.call.Call.{Call}
-use Rattle.room.specs.declared.call.Call.TheVariants.{Join, Ins, Del, Pull, Leave, Ops, Put, Read}
+use Rattle.room_calls.specs.declared.call.Call.{Call}
+use Rattle.room_calls.specs.declared.call.Call.TheVariants.{Join, Ins, Del, Pull, Leave, Ops, Put, Read}
 use Rattle.room.specs.Machine.{State, may_record, next}
 use Rattle.room.specs.History.{Account, mark, called}
 use Rattle.room.proofs.Histories.{consistent_called}

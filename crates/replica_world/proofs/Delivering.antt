@@ -15,9 +15,9 @@ use Rattle.holdback.specs.First.{NoneReady}
 use Rattle.replica.specs.declared.delivery.Delivery.{Delivery}
 use Rattle.replica.specs.declared.delivery.Delivery.TheVariants.{Took, Kept, Again}
 use Rattle.replica.specs.Deliver.{Delivered, deliver}
-use Rattle.room.specs.declared.call.Call.{Call}
-use Rattle.room.specs.declared.call.Call.TheVariants.{Put}
-use Rattle.room.specs.declared.reply.Reply.TheVariants as replies
+use Rattle.room_calls.specs.declared.call.Call.{Call}
+use Rattle.room_calls.specs.declared.call.Call.TheVariants.{Put}
+use Rattle.room_calls.specs.declared.reply.Reply.TheVariants as replies
 use Rattle.room.specs.Deliveries.{outcome_of}
 use Rattle.room.specs.Machine.{State, recorded_answer, may_record, answer, next}
 use Rattle.room.specs.History.{Account, mark, called}

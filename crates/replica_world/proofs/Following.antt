@@ -10,7 +10,7 @@ use Rattle.opid.proofs.Orders.{Among, Each-at, Each-by, Among-append, Among-appe
 use Rattle.opid.proofs.Orders.{Contains-from_Among}
 use Rattle.opid.proofs.Worlds.{Of, AreOf}
 use Rattle.holdback.specs.First.{NoneReady}
-use Rattle.room.specs.declared.call.Call.{Call}
+use Rattle.room_calls.specs.declared.call.Call.{Call}
 use Rattle.room.specs.Machine.{State, recorded_next, counted, may_record, next}
 use Rattle.room.specs.History.{Account, mark, recorded, called, IsConsistent}
 use Rattle.room.proofs.Histories.{mark_from-push}

@@ -27,7 +27,7 @@ use Rattle.replica.specs.declared.delivery.Delivery.TheVariants.{Took, Kept, Aga
 use Rattle.replica.specs.Deliver.{deliver}
 use Rattle.room.specs.Deliveries.{outcome_of}
 use Rattle.room.specs.Machine.{empty_room, recorded_answer, may_record, answer}
-use Rattle.room.specs.declared.reply.Reply.TheVariants as replies
+use Rattle.room_calls.specs.declared.reply.Reply.TheVariants as replies
 use Rattle.room.specs.Convergence.{EditorsConverge, EditorsKeepUp}
 use Rattle.room.proofs.Histories.{consistent_over}
 use Rattle.room.proofs.Converging.{room_converges}

@@ -5,7 +5,7 @@ use Rattle.std.specs.Prelude.{nat_lt, is_some, if◌then◌else◌, slice_get}
 use Rattle.opid.specs.declared.refusal.Refusal.TheVariants.{BadRange, UnknownKind, SiteUsed}
 use Rattle.opid.specs.Operations.{Operation}
 use Rattle.opid.proofs.Orders.{Among, Each-at}
-use Rattle.room.specs.declared.call.Call.{Call}
+use Rattle.room_calls.specs.declared.call.Call.{Call}
 use Rattle.room.specs.Machine.{room_over, recorded_next, counted, may_record}
 use Rattle.room.specs.History.{Account, mark, called, account_over}
 use Rattle.replica_world.specs.declared.event.Event.{Event}

@@ -4,9 +4,9 @@ ghost use Rattle.std.specs.Prelude.{IfOk, OnOk, OnErr, IfSome, IfNone, IsSome, i
 ghost use Rattle.opid.specs.Lawful.{IsLawful};
 ghost use Rattle.opid.specs.declared.refusal.Refusal.TheVariants.{NoRoom, Memory, HistoryFull};
 ghost use Rattle.opid.specs.Reading.{reading};
-ghost use Rattle.room.specs.declared.call.Call.{Call};
-ghost use Rattle.room.specs.declared.call.Call.TheVariants as calls;
-ghost use Rattle.room.specs.declared.reply.Reply.TheVariants as replies;
+ghost use Rattle.room_calls.specs.declared.call.Call.{Call};
+ghost use Rattle.room_calls.specs.declared.call.Call.TheVariants as calls;
+ghost use Rattle.room_calls.specs.declared.reply.Reply.TheVariants as replies;
 ghost use Rattle.room.specs.Machine.{answer, room_over};
 ghost use Rattle.room.specs.History.{Account, mark, called, account_over};
 ghost use Rattle.replica_world.specs.declared.event.Event.TheVariants as events;

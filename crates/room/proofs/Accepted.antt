@@ -12,7 +12,7 @@ use Rattle.position_translate.proofs.Asking.{insertions_placed}
 use Rattle.session_outbox.specs.declared.submission.Submission.TheVariants.{New, Repeat}
 use Rattle.session_outbox.specs.Sessions.{session_with}
 use Rattle.session_outbox.specs.Answers.{submission_of}
-use Rattle.room.specs.declared.call.Call.{Call}
+use Rattle.room_calls.specs.declared.call.Call.{Call}
 use Rattle.room.specs.Machine.{State, Finding, counts_units, check, found_in_submission, unless}
 use Rattle.room.specs.History.{Account, IsConsistent, PlacesInsertion}
 

@@ -17,7 +17,7 @@ use Rattle.replica.specs.Settle.{Settling, appended_or_dropped, taken_out, round
 use Rattle.replica.specs.Deliver.{ReplicaState, Delivered, unchanged, hold, integrate, deliver_new, deliver_found, claims_site, deliver}
 use Rattle.replica.specs.Deliver.{taken_by}
 use Rattle.replica.proofs.Lawfully.{fewer}
-use Rattle.room.specs.declared.outcome.Outcome.{Outcome}
+use Rattle.room_calls.specs.declared.outcome.Outcome.{Outcome}
 use Rattle.room.specs.Deliveries.{Handed, outcome_of, hand_over}
 
 -- ---- a log only grows

@@ -21,9 +21,9 @@ use Rattle.position_translate.proofs.Asking.{outside_pairs, within, stamps}
 use Rattle.session_outbox.specs.declared.submission.Submission.TheVariants.{New}
 use Rattle.session_outbox.specs.Sessions.{session_with}
 use Rattle.session_outbox.specs.Answers.{submission_of}
-use Rattle.room.specs.declared.call.Call.{Call}
-use Rattle.room.specs.declared.call.Call.TheVariants.{Join, Ins, Del, Pull, Leave, Ops, Put, Read}
-use Rattle.room.specs.declared.reply.Reply.TheVariants as replies
+use Rattle.room_calls.specs.declared.call.Call.{Call}
+use Rattle.room_calls.specs.declared.call.Call.TheVariants.{Join, Ins, Del, Pull, Leave, Ops, Put, Read}
+use Rattle.room_calls.specs.declared.reply.Reply.TheVariants as replies
 use Rattle.room.specs.Machine.{State, Finding, counts_units, check, found_answer, found_next, accepted_answer, accepted_next, counted}
 use Rattle.room.specs.Machine.{recorded_answer, recorded_next, may_record, next}
 use Rattle.room.specs.History.{Account, state_of, IsConsistent}

@@ -9,8 +9,8 @@ use Rattle.position_translate.specs.Causes.{element_count}
 use Rattle.session_outbox.specs.declared.submission.Submission.TheVariants.{New, Repeat}
 use Rattle.session_outbox.specs.Sessions.{Session, session_with, with_accepted, sent_to}
 use Rattle.session_outbox.specs.Sessions.{joined}
-use Rattle.room.specs.declared.call.Call.{Call}
-use Rattle.room.specs.declared.call.Call.TheVariants.{Join, Ins, Del, Pull, Leave, Ops, Put, Read}
+use Rattle.room_calls.specs.declared.call.Call.{Call}
+use Rattle.room_calls.specs.declared.call.Call.TheVariants.{Join, Ins, Del, Pull, Leave, Ops, Put, Read}
 use Rattle.room.specs.Machine.{State, Finding, counts_units, check, accepted_next, found_next, may_record}
 use Rattle.room.specs.Machine.{counted, recorded_next, next}
 use Rattle.room.specs.History.{state_of}

@@ -23,8 +23,8 @@ use Rattle.replica.proofs.Lawfully.{Stands, deliver-fit}
 use Rattle.session_outbox.specs.declared.submission.Submission.TheVariants.{New, Repeat}
 use Rattle.session_outbox.specs.Sessions.{session_with}
 use Rattle.session_outbox.specs.Answers.{submission_of}
-use Rattle.room.specs.declared.call.Call.{Call}
-use Rattle.room.specs.declared.call.Call.TheVariants.{Join, Ins, Del, Pull, Leave, Ops, Put, Read}
+use Rattle.room_calls.specs.declared.call.Call.{Call}
+use Rattle.room_calls.specs.declared.call.Call.TheVariants.{Join, Ins, Del, Pull, Leave, Ops, Put, Read}
 use Rattle.room.specs.Deliveries.{hand_over}
 use Rattle.room.specs.Machine.{State, Finding, room_over, counts_units, check, accepted_next, found_next, recorded_next, counted}
 use Rattle.room.specs.Machine.{may_record, next}

@@ -6,8 +6,8 @@ use Rattle.opid.specs.Operations.{Operation}
 use Rattle.replica.specs.declared.delivery.Delivery.{Delivery}
 use Rattle.replica.specs.declared.delivery.Delivery.TheVariants as deliveries
 use Rattle.replica.specs.Deliver.{Delivered, deliver}
-use Rattle.room.specs.declared.outcome.Outcome.{Outcome}
-use Rattle.room.specs.declared.outcome.Outcome.TheVariants.{Took, Kept, Again, No}
+use Rattle.room_calls.specs.declared.outcome.Outcome.{Outcome}
+use Rattle.room_calls.specs.declared.outcome.Outcome.TheVariants.{Took, Kept, Again, No}
 
 -- what a `put` tells of a delivery
 abbrev pub outcome_of : Result Delivery Refusal → Outcome

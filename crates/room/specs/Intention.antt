@@ -5,9 +5,9 @@ use mathlib.Core.List.{IsPrefix}
 use Rattle.opid.specs.Operations.{Operation}
 use Rattle.opid.specs.Asked.{asked_insertions_in, asked_deletions_in, IsPlaced_in}
 use Rattle.session_outbox.specs.declared.submission.Submission.TheVariants.{New}
-use Rattle.room.specs.declared.call.Call.{Call}
-use Rattle.room.specs.declared.call.Call.TheVariants.{Join, Ins, Del, Pull, Leave, Ops, Put, Read}
-use Rattle.room.specs.declared.reply.Reply.TheVariants as replies
+use Rattle.room_calls.specs.declared.call.Call.{Call}
+use Rattle.room_calls.specs.declared.call.Call.TheVariants.{Join, Ins, Del, Pull, Leave, Ops, Put, Read}
+use Rattle.room_calls.specs.declared.reply.Reply.TheVariants as replies
 use Rattle.room.specs.Machine.{State, counts_units, check, answer}
 use Rattle.room.specs.History.{Account, state_of}
 

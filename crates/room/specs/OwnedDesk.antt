@@ -1,6 +1,6 @@
 -- What a desk over an owned room does at a call; the rules are the server's own.
-use Rattle.room.specs.declared.call.Call.{Call}
-use Rattle.room.specs.declared.reply.Reply.{Reply}
+use Rattle.room_calls.specs.declared.call.Call.{Call}
+use Rattle.room_calls.specs.declared.reply.Reply.{Reply}
 use Rattle.room.specs.declared.desk.DeskFault.{DeskFault}
 use Rattle.room.specs.declared.owned.RoomDesk.{RoomDesk}
 use Rattle.room.specs.History.{StepsRoom, FaultsRoom}

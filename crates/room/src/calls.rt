@@ -10,22 +10,18 @@ ghost use Rattle.replica.specs.Deliver.{ReplicaState};
 ghost use Rattle.opid.specs.Reading.{reading};
 ghost use Rattle.session_outbox.specs.Sessions.{Outbox, session_with, MayAccept};
 ghost use Rattle.session_outbox.specs.Answers.{submission_of};
-ghost use Rattle.room.specs.declared.call.Call.TheVariants.{Join, Ins, Del, Pull, Leave, Ops, Put, Read};
+ghost use Rattle.room_calls.specs.declared.call.Call.TheVariants.{Join, Ins, Del, Pull, Leave, Ops, Put, Read};
+ghost use Rattle.room.specs.Deliveries.{outcome_of};
 ghost use Rattle.room.specs.Machine.{counts_units, edits_between_in};
 ghost use Rattle.room.specs.Internal.Parts.{Does, MayLackMemory, state_with, reply_at_once, Submits, Accepts, IsHandedOver};
 
-use crate::call::Call;
-use crate::edits::Edits;
-use crate::operations::Operations;
-use crate::outcome::Outcome;
-use crate::outcomes::Outcomes;
-use crate::reply::Reply;
 use causal_clock::Op;
 use opid::{Edit, MAX_COUNT, Refusal, is_bad_count};
-use replica::Replica;
+use replica::{Delivery, Replica};
+use room_calls::{Call, Characters, Edits, Operations, Outcome, Outcomes, Reply};
 use session_outbox::{Sessions, Submission};
 use std::alloc::{AllocError, Global};
-use versions::{Characters, Doc};
+use versions::Doc;
 
 /// Carries out a call that is recorded.
 pub(crate) fn perform(
@@ -318,7 +314,19 @@ fn hand_over(replica: &mut Replica, ops: &[Op], outcomes: &mut Vec<Outcome>)
     ensures { IsHandedOver replica.old ops.now outcomes.new.items replica.new }
 {
     for op in ops {
-        let outcome = Outcome::of(replica.put_copy(op));
+        let outcome = outcome_of(replica.put_copy(op));
         outcomes.push_reserved(outcome);
+    }
+}
+
+/// The outcome of a delivery.
+fn outcome_of(delivery: Result<Delivery, Refusal>) -> Outcome
+    ensures { result ≡ outcome_of delivery }
+{
+    match delivery {
+        Ok(Delivery::Took { taken, dropped }) => Outcome::Took(taken, dropped),
+        Ok(Delivery::Kept) => Outcome::Kept,
+        Ok(Delivery::Again) => Outcome::Again,
+        Err(e) => Outcome::No(e),
     }
 }

@@ -4,7 +4,7 @@ ghost use Rattle.std.specs.Prelude.{ℕ, ◌<◌, ◌≤◌, List, length};
 ghost use Rattle.std.specs.List.{AllByRecursion};
 ghost use Rattle.opid.specs.Operations.{Operation};
 ghost use Rattle.opid.specs.Lawful.{IsLawful};
-ghost use Rattle.room.specs.declared.call.Call.{Call};
+ghost use Rattle.room_calls.specs.declared.call.Call.{Call};
 ghost use Rattle.room.specs.Machine.{room_over};
 ghost use Rattle.room.specs.History.{Account, IsLegal, HandsOperations, replayed, IsConsistent};
 ghost use Rattle.room.specs.Convergence.{EditorsConverge, EditorsKeepUp};

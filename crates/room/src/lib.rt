@@ -4,26 +4,14 @@
 //! capacity.
 #![tactic(auto)]
 
-mod call;
 mod calls;
 mod desk;
-mod edits;
 pub mod laws;
 mod machine;
-mod operations;
-mod outcome;
-mod outcomes;
 mod owned;
-mod reply;
 mod room;
 
-pub use call::Call;
 pub use desk::{Desk, DeskFault};
-pub use edits::Edits;
-pub use operations::Operations;
-pub use outcome::Outcome;
-pub use outcomes::Outcomes;
 pub use owned::RoomDesk;
-pub use reply::Reply;
 pub use room::Room;
-pub use versions::Characters;
+pub use room_calls::{Call, Characters, Edits, Operations, Outcome, Outcomes, Reply};

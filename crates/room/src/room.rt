@@ -1,13 +1,12 @@
 //! The room: the machine with the history of the calls that it recorded.
 ghost use Rattle.std.specs.Prelude.{◌≡◌, ◌+◌, ◌^◌, ◌<◌, ◌≤◌, ◌↔◌, [], true, length, IfOk, OnOk, OnErr, Result};
 ghost use Rattle.opid.specs.declared.refusal.Refusal.TheVariants.{HistoryFull};
-ghost use Rattle.room.specs.declared.reply.Reply.TheVariants.{No};
+ghost use Rattle.room_calls.specs.declared.reply.Reply.TheVariants.{No};
 
-use crate::call::Call;
 use crate::machine::{MAX_CALLS, Machine};
-use crate::reply::Reply;
 use opid::{Refusal, Site};
 use replica::Replica;
+use room_calls::{Call, Reply};
 use std::alloc::{AllocError, Global};
 use std::marker::Model;
 

@@ -10,9 +10,9 @@ use borrow.Author.Tests.{ltb-true}
 use Rattle.std.specs.List.{AllByRecursion}
 use Rattle.std.specs.declared.alloc.AllocError.{AllocError}
 use Rattle.opid.specs.declared.refusal.Refusal.TheVariants.{HistoryFull, Memory}
-use Rattle.room.specs.declared.call.Call.{Call}
-use Rattle.room.specs.declared.reply.Reply.{Reply}
-use Rattle.room.specs.declared.reply.Reply.TheVariants as replies
+use Rattle.room_calls.specs.declared.call.Call.{Call}
+use Rattle.room_calls.specs.declared.reply.Reply.{Reply}
+use Rattle.room_calls.specs.declared.reply.Reply.TheVariants as replies
 use Rattle.room.specs.Machine.{State, may_record, answer}
 use Rattle.room.specs.History.{Account, HandsOperations, state_of, mark, called}
 use Rattle.room.proofs.Histories.{mark_from-push}

@@ -3,8 +3,8 @@ use Rattle.std.proofs.Common.{◌≡◌, ℕ, zero, suc, ◌+◌, ◌≤◌, Lis
 use Rattle.std.proofs.Common.{refl, ap, sym, subst, ◌∙◌, arith, Bool, true, false, ◌==◌, ◌<◌}
 use Rattle.std.proofs.lemmas.Bool.Decides.{nat_tests}
 use mathlib.Core.List.{IsPrefix}
-use Rattle.room.specs.declared.call.Call.{Call}
-use Rattle.room.specs.declared.call.Call.TheVariants.{Read}
+use Rattle.room_calls.specs.declared.call.Call.{Call}
+use Rattle.room_calls.specs.declared.call.Call.TheVariants.{Read}
 use Rattle.room.specs.Machine.{State}
 use Rattle.room.specs.History.{Account, AreRisingFrom, IsLegal, state_of}
 use Rattle.history_lock.specs.declared.pass.Sight.{Sight}

@@ -1,7 +1,7 @@
 -- What the public contracts say of a shared room and of its passes, which are the server's own.
 use Rattle.std.specs.Prelude.{◌≤◌, ◌+◌, ◌^◌, ℕ, List, length}
 use Rattle.std.specs.List.{AllByRecursion}
-use Rattle.room.specs.declared.call.Call.{Call}
+use Rattle.room_calls.specs.declared.call.Call.{Call}
 use Rattle.room.specs.Machine.{State}
 use Rattle.room.specs.History.{IsLegal, HandsOperations, state_of, mark}
 use Rattle.room.specs.Desks.{Owns, AreDistinct}

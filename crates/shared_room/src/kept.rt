@@ -3,7 +3,7 @@ ghost use Rattle.std.specs.Prelude.{◌≡◌, ◌^◌, ◌<◌, ◌≤◌, ◌�
 ghost use Rattle.std.specs.List.{AllByRecursion};
 ghost use Rattle.opid.specs.declared.refusal.Refusal.TheVariants.{HistoryFull};
 ghost use Rattle.causal_clock.specs.Kinds.{IsOperation};
-ghost use Rattle.room.specs.declared.reply.Reply.TheVariants.{No};
+ghost use Rattle.room_calls.specs.declared.reply.Reply.TheVariants.{No};
 ghost use Rattle.room.specs.Machine.{answer, may_record};
 ghost use Rattle.room.specs.History.{state_of, mark, called, AreRisingFrom, HandsOperations, IsConsistent};
 ghost use Rattle.room.specs.Internal.Legal.{AreRisingFrom-prop};

@@ -7,11 +7,12 @@ ghost use Rattle.operation_json.specs.Packing.{unfolded, unfolded_all};
 
 use crate::loading::append_all;
 use causal_clock::{MAX_SUM, Op};
+use characters::Characters;
 use operation_json::next_op;
 use opid::Refusal;
 use std::alloc::Global;
 use std::marker::Model;
-use versions::{Characters, Doc};
+use versions::Doc;
 
 /// What an object of the list tells: an operation, and the characters of the insertions that follow it.
 #[derive(Drop)]

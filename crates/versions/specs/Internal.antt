@@ -4,4 +4,3 @@ pub mod Named
 pub mod Joined
 pub mod Kept
 pub mod KeptEdits
-pub mod KeptText

@@ -9,7 +9,7 @@ use causal_clock::Op;
 use json_bytes::{MAX_TEXT, PlainReader};
 use operation_json::{behind_first, is_closed, rest_of_item, unfold_run};
 use opid::Refusal;
-use room::{Call, Operations};
+use room_calls::{Call, Operations};
 use std::alloc::Global;
 
 // What a `put` has behind its kind: operation objects and run objects, each spelled as `rest_of_item` reads it. The call has at most

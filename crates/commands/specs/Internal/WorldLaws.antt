@@ -2,7 +2,7 @@
 use Rattle.std.proofs.Common.{ℕ, ◌<◌, List, length, Err, refl, inl}
 use Rattle.opid.specs.declared.refusal.Refusal.TheVariants.{TooLong}
 use Rattle.room.specs.History.{Account}
-use Rattle.room.specs.declared.reply.Reply.TheVariants.{No}
+use Rattle.room_calls.specs.declared.reply.Reply.TheVariants.{No}
 use Rattle.wire_json.specs.Text.{text}
 use Rattle.commands.specs.Worlds.{AnswersLine}
 

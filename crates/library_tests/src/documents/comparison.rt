@@ -6,10 +6,11 @@ use crate::documents::checked::{
 use crate::documents::lives::Lives;
 use crate::plain::{Insertion, Plain, edit_of, edit_units_of};
 use causal_clock::{Clock, Op};
+use characters::Characters;
 use opid::{OpKind, Refusal, Site, Stamp};
 use std::alloc::{AllocError, Global};
 use std::test::Fail;
-use versions::{Characters, Doc};
+use versions::Doc;
 
 const MANY: u32 = 2_000;
 

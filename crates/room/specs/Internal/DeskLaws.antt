@@ -4,8 +4,8 @@ use Rattle.std.proofs.Common.{arith, Bool, true, false, nat_lt, append-nil}
 use Rattle.std.specs.Prelude.{if◌then◌else◌}
 use Rattle.std.proofs.lemmas.Bool.Decides.{nat_tests}
 use mathlib.Core.List.{IsPrefix}
-use Rattle.room.specs.declared.call.Call.{Call}
-use Rattle.room.specs.declared.reply.Reply.{Reply}
+use Rattle.room_calls.specs.declared.call.Call.{Call}
+use Rattle.room_calls.specs.declared.reply.Reply.{Reply}
 use Rattle.room.specs.declared.desk.DeskFault.{DeskFault}
 use Rattle.room.specs.Machine.{State, answer}
 use Rattle.room.specs.History.{Account, state_of, mark, AreRisingFrom, StepsRoom, FaultsRoom}

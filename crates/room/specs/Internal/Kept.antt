@@ -1,7 +1,7 @@
 -- What holds of a room's parts.
 use Rattle.std.specs.Prelude.{◌≡◌, ◌<◌, ◌≤◌, ℕ, List, length, take}
 use Rattle.opid.specs.Lawful.{IsLawful}
-use Rattle.room.specs.declared.call.Call.{Call}
+use Rattle.room_calls.specs.declared.call.Call.{Call}
 use Rattle.room.specs.Machine.{State, room_over}
 use Rattle.room.specs.History.{state_of, mark, AreRisingFrom}
 

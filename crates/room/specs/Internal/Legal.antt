@@ -2,7 +2,7 @@
 use Rattle.std.specs.Prelude.{◌≡◌, ℕ, ◌+◌, ◌^◌, ◌<◌, ◌≤◌, List, [], ◌∷◌}
 use mathlib.Core.Path.{ap}
 use Rattle.std.specs.Coded.{×_prop, Unit-prop, le_prop}
-use Rattle.room.specs.declared.call.Call.{Call}
+use Rattle.room_calls.specs.declared.call.Call.{Call}
 use Rattle.room.specs.History.{AreRisingFrom}
 
 -- there is one proof that a number is at most another

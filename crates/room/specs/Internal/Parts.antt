@@ -7,14 +7,14 @@ use Rattle.opid.specs.Limits.{is_bad_count}
 use Rattle.opid.specs.Operations.{Operation}
 use Rattle.replica.specs.Part.{part_of}
 use Rattle.replica.specs.Deliver.{ReplicaState}
-use Rattle.room.specs.declared.outcome.Outcome.{Outcome}
+use Rattle.room_calls.specs.declared.outcome.Outcome.{Outcome}
 use Rattle.room.specs.Deliveries.{hand_over}
 use Rattle.session_outbox.specs.declared.submission.Submission.TheVariants.{New, Repeat}
 use Rattle.session_outbox.specs.Sessions.{Outbox, after_accept}
-use Rattle.room.specs.declared.call.Call.{Call}
-use Rattle.room.specs.declared.call.Call.TheVariants.{Join, Ins, Del, Pull, Leave, Ops, Put, Read}
-use Rattle.room.specs.declared.reply.Reply.{Reply}
-use Rattle.room.specs.declared.reply.Reply.TheVariants as replies
+use Rattle.room_calls.specs.declared.call.Call.{Call}
+use Rattle.room_calls.specs.declared.call.Call.TheVariants.{Join, Ins, Del, Pull, Leave, Ops, Put, Read}
+use Rattle.room_calls.specs.declared.reply.Reply.{Reply}
+use Rattle.room_calls.specs.declared.reply.Reply.TheVariants as replies
 use Rattle.room.specs.Machine.{State, Finding, recorded_answer, recorded_next}
 
 -- the state of these parts, with so many calls counted

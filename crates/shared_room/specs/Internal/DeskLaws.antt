@@ -1,8 +1,8 @@
 -- That a desk over a pass keeps the laws of desks.
 use Rattle.std.proofs.Common.{◌≡◌, ◌≤◌, ap, sym, subst, length, ℕ, List}
 use mathlib.Core.List.{IsPrefix}
-use Rattle.room.specs.declared.call.Call.{Call}
-use Rattle.room.specs.declared.reply.Reply.{Reply}
+use Rattle.room_calls.specs.declared.call.Call.{Call}
+use Rattle.room_calls.specs.declared.reply.Reply.{Reply}
 use Rattle.room.specs.declared.desk.DeskFault.{DeskFault}
 use Rattle.room.specs.declared.desk.DeskFault.TheVariants as Fault
 use Rattle.room.specs.Machine.{State}

@@ -1,9 +1,9 @@
 -- A carry leaves both desks their rooms and the references that they are lent.
 use Rattle.std.proofs.Common.{◌≡◌, ℕ, List, [], ◌∷◌, Result, Ok, Err, ap, subst}
 use Rattle.opid.specs.Operations.{Operation}
-use Rattle.room.specs.declared.call.Call.{Call}
-use Rattle.room.specs.declared.call.Call.TheVariants as calls
-use Rattle.room.specs.declared.reply.Reply.{Reply}
+use Rattle.room_calls.specs.declared.call.Call.{Call}
+use Rattle.room_calls.specs.declared.call.Call.TheVariants as calls
+use Rattle.room_calls.specs.declared.reply.Reply.{Reply}
 use Rattle.room.specs.declared.desk.DeskFault.{DeskFault}
 use Rattle.shared_room.specs.declared.desk.PassDesk.{PassDesk}
 use Rattle.shared_room.specs.declared.shared.SharedRoom.{SharedRoom}

@@ -3,7 +3,7 @@ use Rattle.opid.specs.Asked.{asked_deletions_in}
 use Rattle.position_translate.specs.Causes.{deletion_refusal_in, element_count}
 use Rattle.session_outbox.specs.Sessions.{session_with}
 use Rattle.session_outbox.specs.Answers.{submission_of}
-use Rattle.room.specs.declared.call.Call.TheVariants.{Del}
+use Rattle.room_calls.specs.declared.call.Call.TheVariants.{Del}
 use Rattle.room.specs.Machine.{counts_units}
 use Rattle.room.specs.Internal.Parts.{Submits}
 use Rattle.room.proofs.Replied.{at_once, carried}

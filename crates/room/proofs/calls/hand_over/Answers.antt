@@ -14,8 +14,8 @@ loop-op-preserved c =
       site = d.site ∙ c.loop-op.invariant.site;
       handed =
           handed_on c.loop-op.replica c.put_copy.new.self c.args.ops.now c.loop-op.op-index c.op-item.result c.put_copy.result
-          c.loop-op.outcomes.items c.push_reserved.new.self.items c.of-outcome.result _ c.loop-op-test.true
-          (subst (λ x. Delivers c.loop-op.replica c.put_copy.new.self x c.put_copy.result) c.op-item.is d) c.of-outcome.ensures
+          c.loop-op.outcomes.items c.push_reserved.new.self.items c.outcome_of-outcome.result _ c.loop-op-test.true
+          (subst (λ x. Delivers c.loop-op.replica c.put_copy.new.self x c.put_copy.result) c.op-item.is d) c.outcome_of-outcome.ensures
           c.push_reserved.ensures.items c.loop-op.invariant.handed;
       room = d.room (length (drop (c.loop-op.op-index + 1) c.args.ops.now))
           (omega (arith, c.loop-op.invariant.room, left, later, c.loop-op-test.true));
@@ -27,6 +27,6 @@ loop-op-preserved c =
         c.loop-op-test.true,
         c.push_reserved.ensures.capacity,
         ap length c.push_reserved.ensures.items,
-        length-append c.loop-op.outcomes.items (c.of-outcome.result ∷ []),
+        length-append c.loop-op.outcomes.items (c.outcome_of-outcome.result ∷ []),
       );
     }

@@ -1,7 +1,7 @@
 use Rattle.std.proofs.Common.{List, codes, sym, subst}
 use Rattle.std.specs.Prelude.{IfSome}
 use Rattle.opid.specs.Operations.{Operation}
-use Rattle.room.specs.declared.call.Call.TheVariants.{Put}
+use Rattle.room_calls.specs.declared.call.Call.TheVariants.{Put}
 use Rattle.wire_json.specs.Internal.Handed.{ReadsOps, ReadsRest}
 use Rattle.wire_json.proofs.Handing.{put_rest}
 use Rattle.wire_json.proofs.handed.rest_of_put.Goals as goal

@@ -1,5 +1,5 @@
 use Rattle.std.proofs.Common.{◌≡◌, [], ◌∷◌, true, false, sym, subst, get_or, rules, ◌∙◌}
-use Rattle.room.specs.declared.call.Call.TheVariants as calls
+use Rattle.room_calls.specs.declared.call.Call.TheVariants as calls
 use Rattle.room.specs.Machine.{may_record}
 use Rattle.replica_world.specs.World.{call_of, room_of, NeedsMemory}
 use Rattle.replica_world.proofs.Placed.{full_world, needs_memory, on_err}

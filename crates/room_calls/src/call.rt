@@ -3,8 +3,8 @@
 ghost use Rattle.std.specs.Prelude.{◌≡◌};
 
 use crate::operations::Operations;
+use characters::Characters;
 use std::alloc::AllocError;
-use versions::Characters;
 
 /// A call. A place counts characters (Unicode scalar values), or UTF-16 units where the session joined so. An element is a
 /// character that was ever put in, deleted or not.

@@ -2,7 +2,7 @@
 use Rattle.std.proofs.Common.{◌∙◌, ap, sym, encode_utf8_all}
 use Rattle.std.specs.Str.{all_scalars, chars}
 use Rattle.std.proofs.lemmas.Str.{encodes-chars, scalars-chars}
-use Rattle.versions.proofs.characters.Characters.as_str.Goals as goal
+use Rattle.characters.proofs.characters.Characters.as_str.Goals as goal
 
 pub returns-clause-bytes : goal.returns-clause-bytes
 returns-clause-bytes c = sym (ap encode_utf8_all (sym c.self.view_is) ∙ rw (← c.as_str.ensures) (encodes-chars _ c.as_str.utf8))

@@ -3,8 +3,8 @@
 use crate::edits::Edits;
 use crate::operations::Operations;
 use crate::outcomes::Outcomes;
+use characters::Characters;
 use opid::Refusal;
-use versions::Characters;
 
 /// The answer to a call.
 #[derive(Debug, Drop)]

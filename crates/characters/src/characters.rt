@@ -1,7 +1,7 @@
 //! The text of a version, or of a call.
 ghost use Rattle.std.specs.Prelude.{◌≡◌, ◌≤◌, length, IsTrue, IfOk, IsOk, encode_utf8_all, string_bytes};
 ghost use Rattle.std.specs.Str.{all_scalars, chars};
-ghost use Rattle.versions.specs.Internal.KeptText.{bytes_of};
+ghost use Rattle.characters.specs.Internal.KeptText.{bytes_of};
 
 use arrayvec::ArrayString;
 use std::alloc::{AllocError, Global};
@@ -27,7 +27,7 @@ const _: () = prove!(size_of::<Characters>() == 32);
 impl Model for Characters {
     ghost use Rattle.std.specs.Prelude.{ℕ, List};
     ghost use Rattle.std.specs.Str.{chars};
-    ghost use Rattle.versions.specs.Internal.KeptText.{bytes_of};
+    ghost use Rattle.characters.specs.Internal.KeptText.{bytes_of};
 
     ghost Value = { List ℕ };
 

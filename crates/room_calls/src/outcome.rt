@@ -1,9 +1,6 @@
 //! What became of an operation of a `put`.
-ghost use Rattle.std.specs.Prelude.{◌≡◌};
-ghost use Rattle.room.specs.Deliveries.{outcome_of};
 
 use opid::Refusal;
-use replica::Delivery;
 
 /// The outcome of one operation from elsewhere.
 #[derive(Clone, Copy, Debug, PartialEq, Eq)]
@@ -17,18 +14,4 @@ pub enum Outcome {
     Again,
     /// It was refused and changed nothing.
     No(Refusal),
-}
-
-impl Outcome {
-    /// The outcome of a delivery.
-    pub(crate) fn of(delivery: Result<Delivery, Refusal>) -> Outcome
-        ensures { result ≡ outcome_of delivery }
-    {
-        match delivery {
-            Ok(Delivery::Took { taken, dropped }) => Outcome::Took(taken, dropped),
-            Ok(Delivery::Kept) => Outcome::Kept,
-            Ok(Delivery::Again) => Outcome::Again,
-            Err(e) => Outcome::No(e),
-        }
-    }
 }

@@ -1,7 +1,7 @@
 -- What a kept text stands for.
 use Rattle.std.specs.Prelude.{ℕ, List, string_bytes}
-use Rattle.versions.specs.declared.characters.KeptText.{KeptText}
-use Rattle.versions.specs.declared.characters.KeptText.TheVariants.{Short, Long}
+use Rattle.characters.specs.declared.characters.KeptText.{KeptText}
+use Rattle.characters.specs.declared.characters.KeptText.TheVariants.{Short, Long}
 
 -- its bytes
 abbrev pub bytes_of : KeptText → List ℕ

@@ -1,0 +1,18 @@
+//! What is asked of a room and what it answers: calls and replies, with the lists in them. Who reads or writes these needs no
+//! room.
+#![tactic(auto)]
+
+mod call;
+mod edits;
+mod operations;
+mod outcome;
+mod outcomes;
+mod reply;
+
+pub use call::Call;
+pub use characters::Characters;
+pub use edits::Edits;
+pub use operations::Operations;
+pub use outcome::Outcome;
+pub use outcomes::Outcomes;
+pub use reply::Reply;
