@@ -9,11 +9,11 @@ ghost use Rattle.commands.specs.Script.{IsForm, spaced, event_of, Asks};
 ghost use Rattle.commands.specs.Internal.Words.{IsWord, IsPlainNumber};
 
 use memchr::memchr;
+use operation_json::check_site;
 use opid::Refusal;
 use replica_world::Event;
 use std::alloc::Global;
 use std::str;
-use operation_json::check_site;
 use wire_json::RequestReader;
 
 /// The most bytes of a script's line, without its LF.

@@ -1,9 +1,9 @@
 //! Operation objects as JSON shows them.
+use operation_json::{read_op, write_op};
 use opid::Refusal;
 use serde_json::Value;
 use std::alloc::Global;
 use std::test::Fail;
-use operation_json::{read_op, write_op};
 
 // The text of the operation that a text tells.
 fn written_again(alloc: Global, text: &str) -> Result<String, Refusal> {
