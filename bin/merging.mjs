@@ -4,7 +4,7 @@ import { spawn } from "node:child_process";
 import { readFileSync } from "node:fs";
 import { createInterface } from "node:readline";
 import { carried, Document, isInside } from "../examples/web/document.js";
-import { Lost, Session } from "../examples/web/rgatext.js";
+import { Ended, Lost, Session } from "../examples/web/rgatext.js";
 import { Undo } from "../examples/web/undo.js";
 
 const program = process.argv[2];
@@ -19,10 +19,10 @@ function dice(seed) {
   };
 }
 
-/** A run of the program, which answers each request by one line. */
+/** A run of the program at a site, which answers each request by one line. */
 class Room {
-  constructor() {
-    this.child = spawn(program, ["lines"], { stdio: ["pipe", "pipe", "inherit"] });
+  constructor(site = 0) {
+    this.child = spawn(program, ["lines", "--site", `${site}`], { stdio: ["pipe", "pipe", "inherit"] });
     this.asked = [];
     this.isGone = false;
     this.child.on("close", () => this.asked.splice(0).forEach((resolve) => resolve(null)));
@@ -44,6 +44,24 @@ class Room {
       edits.push(...es);
       if (es.length < MOST) return edits;
     }
+  }
+
+  /** All operations. */
+  async operations() {
+    const told = [];
+    for (let isMore = true, after = 0; isMore; ) {
+      const { v } = await this.ask({ t: "read" });
+      const { ops } = await this.ask({ t: "ops", after, max: MOST });
+      if (ops.length > 0) told.push(ops);
+      after += MOST;
+      isMore = after < v;
+    }
+    return told;
+  }
+
+  /** Takes operations in, as a bridge hands them over. */
+  async refill(told) {
+    for (const ops of told) assert.equal((await this.ask({ t: "put", ops })).r, "put");
   }
 
   close() {
@@ -154,16 +172,24 @@ async function mergeAtRandom(seed, steps) {
   return x.length;
 }
 
-/** A line to a room that is lost after so many answers, of which the last doesn't come. */
+/** A line to a room that is lost after so many answers, of which the last doesn't come. Of the first `ins` one may be refused. */
 class Line {
-  constructor(room, answers) {
+  constructor(room, answers, refusal = null) {
     this.room = room;
     this.answers = answers;
+    this.refusal = refusal;
+    this.asked = [];
     this.calls = 0;
   }
 
   async ask(request) {
     this.calls += 1;
+    this.asked.push(request.t);
+    if (this.refusal !== null && request.t === "ins") {
+      const refused = { r: "no", n: this.refusal };
+      this.refusal = null;
+      return refused;
+    }
     const reply = this.room.isGone ? null : await this.room.ask(request);
     if ((this.answers -= 1) < 0 || this.room.isGone) throw new Lost();
     return reply;
@@ -238,6 +264,97 @@ async function goOnInAnotherRun() {
   room.close();
 }
 
+/** What found no memory is asked again; at 12 the session ends, is left, and keeps what it didn't send. */
+async function isRefused() {
+  const room = new Room();
+  const patient = editorOf(async () => new Line(room, Infinity, 26));
+  patient.change(0, 0, "once");
+  await until(() => patient.session.state === "up to date");
+  assert.equal((await room.ask({ t: "read" })).x, "once");
+  const line = new Line(room, Infinity, 12);
+  const late = editorOf(async () => line);
+  await until(() => late.shown === "once");
+  late.change(4, 0, " too many");
+  await late.session.ended;
+  assert.deepEqual([late.session.state, late.session.unsent, line.asked.at(-1)], ["refused", [" too many"], "leave"]);
+  await patient.session.close();
+  for (const { session } of [late, patient]) assert.throws(() => session.insert(0, "x"), Ended);
+  room.close();
+}
+
+/** A run that is refilled by a bridge after the editors have joined it, or before: nothing is lost and nothing comes twice. */
+async function goOnInARefilledRun() {
+  let room = new Room(1);
+  const connect = async () => new Line(room, Infinity);
+  const [typist, watcher] = [editorOf(connect), editorOf(connect)];
+  typist.change(0, 0, "hello");
+  await until(() => [typist, watcher].every(({ session, shown }) => shown === "hello" && !session.isAhead));
+  let told = await room.operations();
+  room.close();
+  room = new Room(2);
+  await until(() => [typist, watcher].every(({ session }) => session.state === "another text"));
+  await room.refill(told);
+  await until(() => [typist, watcher].every(({ session }) => session.state === "up to date"));
+  typist.change(5, 0, "!");
+  await until(() => [typist, watcher].every(({ session, shown }) => shown === "hello!" && !session.isAhead));
+  for (const { session } of [typist, watcher]) await session.close();
+  // the answer to a submission is seen, its edits aren't, and the next run has them
+  const line = new Line(room, Infinity);
+  const third = editorOf(async () => (line.room === room ? line : new Line(room, Infinity)));
+  await until(() => third.shown === "hello!");
+  const ask = line.ask.bind(line);
+  let submitted = Promise.resolve();
+  let isAccepted = false;
+  const noted = (answer) => answer.then(({ r }) => (isAccepted = r === "ok"));
+  line.ask = (request) => {
+    const answer = submitted.then(() => {
+      if (isAccepted) line.close(); // the answer to the submission is the last that comes
+      return ask(request);
+    });
+    if (request.t === "ins") submitted = noted(answer);
+    return answer;
+  };
+  third.change(6, 0, "?");
+  await until(() => isAccepted);
+  told = await room.operations();
+  room.close();
+  room = new Room(3);
+  await room.refill(told);
+  await until(() => third.session.state === "another text");
+  assert.equal(third.shown, "hello!?");
+  third.session.takeTheirs();
+  await until(() => third.session.state === "up to date");
+  assert.equal(third.shown, "hello!?");
+  await third.session.close();
+  room.close();
+}
+
+/** Two editors that never typed, in a new run that the second one joins first: no two have one session. */
+async function haveSessionsOfTheirOwn() {
+  let room = new Room();
+  let isLate = false;
+  const connect = async () => new Line(room, Infinity);
+  const waits = async () => {
+    await until(() => !isLate);
+    return connect();
+  };
+  const editors = [editorOf(waits), editorOf(connect)];
+  await until(() => editors.every(({ session }) => session.state === "up to date"));
+  isLate = true;
+  room.close();
+  room = new Room();
+  await until(() => editors[1].session.state === "up to date" && editors[0].session.state === "offline");
+  isLate = false;
+  await until(() => editors.every(({ session }) => session.state === "up to date"));
+  editors[0].change(0, 0, "one");
+  await until(() => editors.every(({ shown }) => shown === "one"));
+  editors[1].change(3, 0, "two");
+  await until(() => editors.every(({ session, shown }) => shown === "onetwo" && !session.isAhead));
+  assert.equal((await room.ask({ t: "read" })).x, "onetwo");
+  for (const { session } of editors) await session.close();
+  room.close();
+}
+
 /** Who only watches makes at most one call a second, and who types at most ten. */
 async function makesFewCalls() {
   const room = new Room();
@@ -294,5 +411,9 @@ for (let seed = 1; seed <= 3; seed += 1) merged.push(await mergeAtRandom(seed, 1
 undoOnesOwn();
 const lines = await goOnOverBrokenLines();
 await goOnInAnotherRun();
+await goOnInARefilledRun();
+await haveSessionsOfTheirOwn();
+await isRefused();
 await makesFewCalls();
-console.log(`bin/try_merging: ${cases.length} vectors, texts of ${merged.join(", ")} units merged, ${lines} lines broken, another run, few calls`);
+const seen = `${lines} lines broken, other runs, refusals, few calls`;
+console.log(`bin/try_merging: ${cases.length} vectors, texts of ${merged.join(", ")} units merged, ${seen}`);

@@ -1,5 +1,6 @@
 // A room in CodeMirror 5: index.html?server=ws://127.0.0.1:7878&room=notes
-import { carried, Full, open } from "../web/rgatext.js";
+import { tell, wire } from "../web/page.js";
+import { carried, Ended, Full, open } from "../web/rgatext.js";
 import { Undo } from "../web/undo.js";
 
 /** Milliseconds for which what others put in is marked. */
@@ -9,9 +10,10 @@ const SHOWN = 2_000;
  * Keeps an editor's text in step with a session. The editor's own history drops what others touch on the same line, so the user's steps
  * are kept beside it, and others' changes are none of them.
  */
-export function bind(editor, session, tell) {
+export function bind(editor, session) {
   const undo = new Undo();
   let whose = "user"; // or "others", or "undo"
+  const show = () => editor.setOption("readOnly", !tell(session));
   const as = (who, make) => {
     whose = who;
     try {
@@ -25,14 +27,18 @@ export function bind(editor, session, tell) {
     if (whose === "others") return;
     const at = editor.indexFromPos(change.from);
     const taken = editor.getRange(change.from, change.to);
+    const put = change.text.join("\n");
     try {
-      const made = session.replace(at, taken.length, change.text.join("\n"));
+      const made = session.replace(at, taken.length, put);
       if (whose === "user") undo.note(made, taken);
+      if (made.text !== put) change.update(change.from, change.to, made.text.split("\n")); // half a pair is none of the room's
     } catch (fault) {
-      if (!(fault instanceof Full)) throw fault;
+      if (!(fault instanceof Full || fault instanceof Ended)) throw fault;
       change.cancel();
-      tell(fault.message);
+      tell(session, fault.message);
+      return;
     }
+    tell(session);
   });
   session.addEventListener("changes", ({ detail }) => {
     undo.follow(detail);
@@ -56,12 +62,12 @@ export function bind(editor, session, tell) {
   const turn = (name) => () => as("undo", () => undo[name](() => editor.getValue(), replace));
   const keys = { "Ctrl-Z": turn("undo"), "Cmd-Z": turn("undo"), "Shift-Ctrl-Z": turn("redo"), "Shift-Cmd-Z": turn("redo"), "Ctrl-Y": turn("redo") };
   editor.addKeyMap(keys);
-  session.addEventListener("state", () => tell(session.why === "" ? session.state : `${session.state}: ${session.why}`));
+  session.addEventListener("state", show);
+  show();
 }
 
 const asked = new URLSearchParams(location.search);
 const session = open(asked.get("server") ?? "ws://127.0.0.1:7878", asked.get("room") ?? "notes");
 const editor = globalThis.CodeMirror(document.getElementById("editor"), { lineWrapping: true, lineSeparator: "\n", undoDepth: 0 });
-bind(editor, session, (text) => (document.getElementById("state").textContent = text));
-addEventListener("beforeunload", (event) => session.isAhead && event.preventDefault());
-addEventListener("pagehide", () => session.close());
+bind(editor, session);
+wire(() => session);

@@ -1,11 +1,8 @@
 // An editor of one rgatext room on a text area. web/rgatext.js keeps its text in step with the room's.
-import { carried, difference, Full, open } from "../web/rgatext.js";
+import { mayBeLost, of, tell, wire } from "../web/page.js";
+import { carried, difference, Ended, Full, open } from "../web/rgatext.js";
 import { Undo } from "../web/undo.js";
 
-/** So many changes before a room is full it is told. */
-const SCARCE = 13_107;
-
-const of = (id) => document.getElementById(id);
 const area = of("text");
 
 // What the text area has of a text. It would make CR to LF, and CR LF to one LF, so CR has a sign.
@@ -80,6 +77,10 @@ class Editor {
       this.undo.note(this.session.replace(from, to - from, put), taken);
     };
     this.change(() => {
+      // all of it or nothing
+      const cost = others.reduce((sum, [from, to]) => sum + this.session.cost(from, to - from, ""), this.session.cost(start, 0, text));
+      const whole = cost + this.session.cost(first[0], first[1] - first[0], "");
+      if (whole > this.session.left) throw new Full(this.session.left);
       for (const [from, to] of others.reverse()) replace(from, to, "");
       if (first[0] === start) {
         replace(...first, text);
@@ -97,10 +98,10 @@ class Editor {
     try {
       make();
     } catch (fault) {
-      if (!(fault instanceof Full)) throw fault;
+      if (!(fault instanceof Full || fault instanceof Ended)) throw fault;
       const place = Math.min(area.selectionStart, this.session.text.length);
       this.show(place, place, "none");
-      this.tell(`${fault.message}: that didn't fit`);
+      this.tell(fault instanceof Full ? `${fault.message}: that didn't fit` : fault.message);
       return;
     }
     this.tell();
@@ -125,16 +126,7 @@ class Editor {
 
   /** Says how the session stands. */
   tell(trouble = "") {
-    const { state, why, left } = this.session;
-    const scarce = left < SCARCE ? `; the room takes ${left} more changes` : "";
-    of("state").textContent = trouble || (why === "" ? state : `${state}: ${why}`) + scarce;
-    of("state").className = trouble || why || state === "offline" ? "trouble" : "";
-    of("choice").hidden = state !== "another text";
-    area.readOnly = state === "refused" || state === "closed";
-  }
-
-  get mayBeLost() {
-    return this.session.isAhead || this.session.state === "another text";
+    area.readOnly = !tell(this.session, trouble);
   }
 }
 
@@ -143,7 +135,7 @@ const question = "Some of the text isn't in the room. Leave it?";
 
 of("where").addEventListener("submit", (event) => {
   event.preventDefault();
-  if (editor?.mayBeLost && !confirm(question)) return;
+  if (editor && mayBeLost(editor.session) && !confirm(question)) return;
   const last = editor;
   try {
     editor = new Editor(of("host").value, of("room").value);
@@ -172,13 +164,4 @@ area.addEventListener("keydown", (event) => {
   event.preventDefault();
   editor.turn(event.shiftKey);
 });
-of("theirs").addEventListener("click", () => editor.session.takeTheirs());
-of("mine").addEventListener("click", () => editor.session.putMine());
-of("save").addEventListener("click", () => {
-  const link = document.createElement("a");
-  link.href = URL.createObjectURL(new Blob([editor.session.text]));
-  link.download = "text.txt";
-  link.click();
-});
-addEventListener("beforeunload", (event) => editor?.mayBeLost && event.preventDefault());
-addEventListener("pagehide", () => editor?.session.close());
+wire(() => editor?.session);

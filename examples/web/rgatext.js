@@ -58,6 +58,13 @@ export class Full extends RangeError {
   }
 }
 
+/** The session has ended: nothing is sent any more, so nothing is changed. */
+export class Ended extends Error {
+  constructor(why) {
+    super(`the session has ended${why === "" ? "" : `: ${why}`}`);
+  }
+}
+
 const pause = (milliseconds) => new Promise((resolve) => setTimeout(resolve, milliseconds));
 
 /** A line over a WebSocket: requests go out, and their replies come in the same order. */
@@ -126,6 +133,7 @@ export class Session extends EventTarget {
   #other = null; // the document of another run of the server, until the user chooses
   #wake = () => {};
   #isClosed = false;
+  #isRefused = false; // for good: nothing is tried any more
 
   /**
    * `connect` gives an open line to the room, at each call a new one.
@@ -173,16 +181,23 @@ export class Session extends EventTarget {
     return this.replace(at, removed, "");
   }
 
+  /** How many of the changes that the room takes are used up where the shown text is changed so; less than none where it undoes some. */
+  cost(at, removed, text) {
+    return this.document.cost(at, removed, text);
+  }
+
   /**
    * Removes so many units at a place of the shown text, and puts a text in there: shown at once, and sent when its turn comes. Throws
-   * `Full`, and does nothing, where the room doesn't take as many changes. Gives the change, which is told by no event.
+   * `Full` where the room doesn't take as many changes, and `Ended` once the session is closed or refused for good; then nothing is done.
+   * Gives the change, which is told by no event.
    * @param {number} at
    * @param {number} removed
    * @param {string} text
    * @returns {Change}
    */
   replace(at, removed, text) {
-    if (this.document.cost(at, removed, text) > this.left) throw new Full(this.left);
+    if (this.#isClosed || this.#isRefused) throw new Ended(this.why);
+    if (this.cost(at, removed, text) > this.left) throw new Full(this.left);
     const change = this.document.replace(at, removed, text);
     this.#wake();
     return change;
@@ -243,13 +258,13 @@ export class Session extends EventTarget {
         await this.#serve();
         await this.#ask({ t: "leave", s: this.#number });
       } catch (fault) {
-        if (fault instanceof Refused && fault.number !== 25) {
+        const isFault = !(fault instanceof Lost || fault instanceof Refused);
+        if (isFault || (fault instanceof Refused && fault.number !== 25)) {
+          this.#isRefused = fault.number !== 6;
           this.#tell("refused", fault.message);
-          if (fault.number !== 6) break;
-        } else if (!(fault instanceof Lost || fault instanceof Refused)) {
-          this.#line?.close();
-          this.#tell("refused", fault.message);
-          throw fault;
+          if (isFault) this.#line?.close();
+          if (isFault) throw fault;
+          if (this.#isRefused) break;
         } else if (this.state !== "joining") {
           this.#tell("offline");
         }
@@ -459,6 +474,7 @@ export class Session extends EventTarget {
     } else if (reply.r === "no" && ![5, 7, 8, 9].includes(reply.n)) {
       this.#underWay = null;
       this.document.takeBack();
+      await this.#ask({ t: "leave", s: this.#number }); // it sends nothing more, and a room has 64
       throw new Refused(reply.n);
     } else {
       throw this.#isLost();

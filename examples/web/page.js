@@ -1,0 +1,47 @@
+/**
+ * What a page tells of its session, and what it asks: the pages of this folder have it in common. They have elements `state`, a line;
+ * `choice`, with the buttons `theirs`, `mine` and `save`; and `unsent`, with a place `lost` for text that the room doesn't have.
+ */
+import { Full } from "./rgatext.js";
+
+/** So many changes before a room is full it is told. */
+const SCARCE = 13_107;
+
+export const of = (id) => document.getElementById(id);
+
+/** Whether some of the text may be lost where the page is left. */
+export const mayBeLost = (session) => session.isAhead || session.state === "another text";
+
+/** Says how the session stands, or what is wrong. Gives whether the text may be changed. */
+export function tell(session, trouble = "") {
+  const { state, why, left, unsent } = session;
+  const isOver = state === "refused" || state === "closed";
+  const scarce = left < SCARCE ? `; the room takes ${left} more changes` : "";
+  of("state").textContent = trouble || (why === "" ? state : `${state}: ${why}`) + scarce;
+  of("state").className = trouble || why || state === "offline" ? "trouble" : "";
+  of("choice").hidden = state !== "another text";
+  of("unsent").hidden = !isOver || unsent.length === 0;
+  of("lost").textContent = isOver ? unsent.join("\n") : "";
+  return !isOver;
+}
+
+/** Makes the choice's buttons work, and asks before text is left. `current` gives the session, if there is one. */
+export function wire(current) {
+  of("theirs").addEventListener("click", () => current().takeTheirs());
+  of("mine").addEventListener("click", () => {
+    try {
+      current().putMine();
+    } catch (fault) {
+      if (!(fault instanceof Full)) throw fault;
+      tell(current(), `${fault.message}: that doesn't fit`);
+    }
+  });
+  of("save").addEventListener("click", () => {
+    const link = document.createElement("a");
+    link.href = URL.createObjectURL(new Blob([current().text]));
+    link.download = "text.txt";
+    link.click();
+  });
+  addEventListener("beforeunload", (event) => current() && mayBeLost(current()) && event.preventDefault());
+  addEventListener("pagehide", () => current()?.close());
+}
