@@ -1,6 +1,6 @@
 -- The log that tokens tell, one object after another.
 use Rattle.std.proofs.Common.{◌≡◌, ℕ, Bool, true, false, List, [], ◌∷◌, ◌++◌, Option, Some, None, Result, Ok, Err, refl, sym, ap, ◌∙◌}
-use Rattle.std.proofs.Common.{subst, append_assoc, append-nil, codes, lt-ltb, ◌^◌, ◌≤◌, length}
+use Rattle.std.proofs.Common.{subst, append_assoc, append-nil, codes, lt-ltb, ◌^◌}
 use Rattle.std.specs.Result.{result_ok}
 use Rattle.std.specs.Str.{IsUtf8}
 use Rattle.json.specs.Lex.{tokens}
@@ -8,7 +8,6 @@ use Rattle.json.specs.Token.{Token, begin_object, end_object, begin_array, end_a
 use Rattle.serde_json.specs.Data.{Data, number, array, object, unsigned, no_members}
 use Rattle.opid.specs.declared.refusal.Refusal.{Refusal}
 use Rattle.opid.specs.Operations.{Operation}
-use Rattle.opid.specs.Lawful.{IsLawful}
 use Rattle.operation_json.specs.Members.{◌>>=◌}
 use Rattle.operation_json.specs.Packing.{typed_behind}
 use Rattle.json_bytes.specs.Plain.{Comes}
@@ -17,7 +16,7 @@ use Rattle.json_bytes.specs.Internal.Coming.{items_of, put_entries}
 use Rattle.json_bytes.proofs.Come.{array_comes, object_comes, one_more_item, five_deep, whole}
 use Rattle.operation_json.proofs.Spelt.{told_back}
 use Rattle.operation_json.proofs.Steps.{json_read}
-use Rattle.snapshot.specs.Snapshot.{StandsForNone, ops_told, told_by, told_in}
+use Rattle.snapshot.specs.Snapshot.{ops_told, told_by, told_in}
 use Rattle.snapshot.specs.Internal.Values.{value_told}
 use Rattle.snapshot.specs.Internal.Coming.{ReadsFormat, OpensLog, TellsLog, ReadsLog}
 use Rattle.snapshot.proofs.Loaded.{then, first_told, only_ok}
