@@ -27,8 +27,7 @@ class Refused(Exception):
 
 
 class JoinAnew(Refused):
-    """The room and this session no longer speak of one text, or it is another run of the server (5): join anew, and carry unsent work
-    over by the new text."""
+    """The room and this session no longer speak of one text, or it is another run of the server (5): call `join_anew`."""
 
 
 def spelled(request):
@@ -127,6 +126,8 @@ class Session:
         self.tries = tries  # how often a request is sent whose answer is lost
         self.pause = pause  # seconds before a request is sent again that found no memory
         self.under_way = None  # the submission whose answer wasn't seen
+        self.known = 0, []  # a version that was pulled, and what the log had last there
+        self.before = []  # the text before the session joined anew
         self.join()
 
     def _answer(self, request):
@@ -156,6 +157,20 @@ class Session:
         self.lines = getattr(self.ask, "lines", 0)
         self.number, self.came, self.reached = 0, 0, 0
 
+    def join_anew(self):
+        """Joins another run of the server: whether its log goes on from what was pulled here, so that what is unsent may be submitted by
+        the text of now. Where it doesn't, the text of before stays in `before`, and the user chooses, as docs/CLIENTS.md tells."""
+        self.before, was_under_way = self.text, self.under_way is not None
+        (version, last), self.under_way = self.known, None
+        self.join()
+        goes_on = not was_under_way and 0 < version <= self.version and self._last_operations(version) == last
+        return goes_on or self.text == self.before
+
+    def _last_operations(self, version):
+        """What the log has last up to a version."""
+        count = min(MOST, version)
+        return self._answer({"t": "ops", "after": version - count, "max": count})["ops"]
+
     def _find_out(self):
         """On another line: whether the server is in the same run, where the last accepted submission has the answer that it had, or
         one was under way and has been accepted since. Else a new session is wanted, as docs/CLIENTS.md tells."""
@@ -177,8 +192,13 @@ class Session:
         self.lines = lines
 
     def _is_mine(self, reply):
-        """Whether this is the answer to what is under way: its operations are those that were asked for."""
+        """Whether this is the answer to what is under way, in a log that begins as is known here: its operations are those that were
+        asked for. A deletion tells no place, so of those only the count is compared."""
         if reply["r"] != "ok" or not self.under_way:
+            return False
+        version, last = self.known
+        count = min(MOST, version)
+        if version > reply["from"] or count and self.ask({"t": "ops", "after": version - count, "max": count})["ops"] != last:
             return False
         ops = self.ask({"t": "ops", "after": reply["from"], "max": min(MOST, reply["to"] - reply["from"])})["ops"]
         text, count = self.under_way.get("x", ""), self.under_way.get("c", len(self.under_way.get("x", "")))
@@ -218,7 +238,10 @@ class Session:
             edits = self.follow(self._answer({"t": "pull", "s": self.session, "have": self.version, "max": MOST}))
             played += edits
             if len(edits) < MOST:
-                return played
+                break
+        if played:
+            self.known = self.version, self._last_operations(self.version)
+        return played
 
     def _submit(self, kind, place, **what):
         """Submits at a place of the session's text, as its next number. The version that it names is always one that

@@ -341,8 +341,13 @@ export class Session extends EventTarget {
     return true;
   }
 
-  /** Whether the operations of an answer are those of the submission that is under way. */
+  /**
+   * Whether the operations of an answer are those of the submission that is under way, in a log that begins as is known here. A deletion
+   * tells no place, so of those only the count is compared.
+   */
   async #isMine({ from, to }) {
+    const { version, operations } = this.#known;
+    if (version > 0 && (version > from || (await this.#operations(version)) !== operations)) return false;
     const { ops } = await this.#must({ t: "ops", after: from, max: Math.min(to - from, MOST) });
     const request = this.#underWay;
     const count = request.t === "ins" ? [...request.x].length : to - from;
