@@ -39,8 +39,9 @@ class Server:
         self.rooms, self.port = rooms, free_port()
         self.start()
 
-    def start(self):
-        self.child = subprocess.Popen([top + "/bin/rgatext", "serve", "--port", str(self.port), *self.rooms], stdout=subprocess.PIPE)
+    def start(self, site=0):
+        words = ["serve", "--port", str(self.port), "--site", str(site), *self.rooms]
+        self.child = subprocess.Popen([top + "/bin/rgatext", *words], stdout=subprocess.PIPE)
         assert self.child.stdout.readline() == f"listening {self.port}\n".encode()
 
     def kill(self):
@@ -299,6 +300,26 @@ def tries_another_run():
     clear("another run")
 
 
+def tries_refilled_run():
+    windows[0].type("carried over")
+    same("before the room is carried over", "carried over")
+    line = Socket(f"ws://127.0.0.1:{server.port}", "notes")
+    told = [line({"t": "ops", "after": at, "max": 64})["ops"] for at in range(0, line({"t": "read"})["v"], 64)]
+    line.close()
+    server.kill()
+    server.start(site=1)
+    until(lambda: all("another text" in it.state for it in windows), "a room that nobody has refilled", 30)
+    line = Socket(f"ws://127.0.0.1:{server.port}", "notes")
+    for ops in told:
+        line({"t": "put", "ops": ops})
+    line.close()
+    until(lambda: all(it.state == "up to date" for it in windows), "a room that was refilled", 30)
+    windows[1].select(0, 0)
+    windows[1].type("all ")
+    same("a refilled run", "all carried over")
+    clear("a refilled run")
+
+
 def tries_65_windows():
     line = Socket(f"ws://127.0.0.1:{server.port}", "notes")
     sessions = [line({"t": "join"})["s"] for _ in range(62)]
@@ -327,6 +348,8 @@ def tries_full_room():
     line.pull()
     until(lambda: line.pull() or "z" in line.text, "a character that fits")
     windows.pop().quit()
+    line.leave()
+    line.ask.close()
 
 
 def tries_bad_addresses():
@@ -355,6 +378,15 @@ def tries_codemirror():
     until(lambda: both[0].run(value) == "miXne", "and the other way")
     keys(both[0], Keys.CONTROL + "z")
     until(lambda: all(it.run(value) == "X" for it in both), "an undo leaves others' text")
+    both[0].run("document.querySelector('.CodeMirror').CodeMirror.replaceRange('\\ud83d', {line: 0, ch: 1})")
+    until(lambda: all(it.run(value) == "X\ufffd" for it in both), "half a pair is none")
+    server.kill()
+    server.start()
+    until(lambda: all("another text" in it.state for it in both), "an empty room", 30)
+    both[0].click("mine")
+    until(lambda: both[0].state == "up to date", "mine is put in")
+    both[1].click("theirs")
+    until(lambda: all(it.run(value) == "X\ufffd" and it.state == "up to date" for it in both), "another run")
     for it in both:
         it.quit()
 
@@ -367,7 +399,8 @@ cable = Cable(server.port)
 try:
     windows = [Window(cable.port), Window(server.port)]
     until(lambda: all(it.state == "up to date" for it in windows), "both have joined")
-    for attempt in (tries_cut_lines, tries_typing, tries_pastes, tries_selection, tries_scroll, tries_composition, tries_undo, tries_another_run):
+    writing = (tries_typing, tries_pastes, tries_selection, tries_scroll, tries_composition, tries_undo)
+    for attempt in (tries_cut_lines, *writing, tries_another_run, tries_refilled_run):
         attempt()
         print(attempt.__name__.removeprefix("tries_").replace("_", " "))
     if len(sys.argv) > 2:
