@@ -1,6 +1,6 @@
 /**
- * What a page tells of its session, and what it asks: the pages of this folder have it in common. They have elements `state`, a line;
- * `choice`, with the buttons `theirs`, `mine` and `save`; and `unsent`, with a place `lost` for text that the room doesn't have.
+ * What a page tells of its session, and what it asks: the examples' pages have it in common. They have an element `state`, a line; behind it
+ * comes what another text of the room asks, and what the room doesn't have at the end.
  */
 import { Full } from "./rgatext.js";
 
@@ -8,6 +8,16 @@ import { Full } from "./rgatext.js";
 const SCARCE = 13_107;
 
 export const of = (id) => document.getElementById(id);
+
+of("state").insertAdjacentHTML(
+  "afterend",
+  `<p id="choice" hidden>
+    <button id="theirs">Take the room's text</button>
+    <button id="mine">Put mine in</button>
+    <button id="save">Save what is shown</button>
+  </p>
+  <div id="unsent" hidden>Not in the room: <pre id="lost"></pre></div>`,
+);
 
 /** Whether some of the text may be lost where the page is left. */
 export const mayBeLost = (session) => session.isAhead || session.state === "another text";
