@@ -163,13 +163,14 @@ class Session:
         self.before, was_under_way = self.text, self.under_way is not None
         (version, last), self.under_way = self.known, None
         self.join()
-        goes_on = not was_under_way and 0 < version <= self.version and self._last_operations(version) == last
+        goes_on = not was_under_way and 0 < version <= self.version and self._last_operations(version, self._answer) == last
         return goes_on or self.text == self.before
 
-    def _last_operations(self, version):
-        """What the log has last up to a version."""
+    @staticmethod
+    def _last_operations(version, ask):
+        """What the log has last up to a version, which isn't 0."""
         count = min(MOST, version)
-        return self._answer({"t": "ops", "after": version - count, "max": count})["ops"]
+        return ask({"t": "ops", "after": version - count, "max": count})["ops"]
 
     def _find_out(self):
         """On another line: whether the server is in the same run, where the last accepted submission has the answer that it had, or
@@ -197,8 +198,7 @@ class Session:
         if reply["r"] != "ok" or not self.under_way:
             return False
         version, last = self.known
-        count = min(MOST, version)
-        if version > reply["from"] or count and self.ask({"t": "ops", "after": version - count, "max": count})["ops"] != last:
+        if version > reply["from"] or version and self._last_operations(version, self.ask) != last:
             return False
         ops = self.ask({"t": "ops", "after": reply["from"], "max": min(MOST, reply["to"] - reply["from"])})["ops"]
         text, count = self.under_way.get("x", ""), self.under_way.get("c", len(self.under_way.get("x", "")))
@@ -240,7 +240,7 @@ class Session:
             if len(edits) < MOST:
                 break
         if played:
-            self.known = self.version, self._last_operations(self.version)
+            self.known = self.version, self._last_operations(self.version, self._answer)
         return played
 
     def _submit(self, kind, place, **what):
