@@ -1,6 +1,6 @@
 -- The command line, as `clap` reads it: `rgatext lines [--site N] [--resume] [--snapshot]`, `rgatext text [--version V]`,
--- `rgatext world [--sites N]` and `rgatext serve --port P [--site N] [--conns C] NAME...`.
-use Rattle.std.specs.Prelude.{◌≡◌, ◌≤◌, ◌⊎◌, ℕ, Bool, false, List, [], ◌∷◌, Option, Some, None, bytes_eq, codes, true, pos, map}
+-- `rgatext world [--sites N]` and `rgatext serve --port P [--site N] [--conns C] [--keep FOLDER] [--every SECONDS] NAME...`.
+use Rattle.std.specs.Prelude.{◌≡◌, ◌≤◌, ◌⊎◌, ℕ, Bool, false, List, [], ◌∷◌, Option, Some, None, bytes_eq, codes, true, pos, map, option_map}
 use Rattle.std.specs.Prelude.{string_bytes}
 use Rattle.std.specs.Str.Parse.{IsNumeral, digits_value, without_leading_plus}
 use Rattle.clap.specs.Words.{App, IsAmong, Kinds, Row, Rule, Text, all_of, first_of, new_app, new_rule, with_rule, with_subcommand}
@@ -60,6 +60,28 @@ conns_option = record (new_rule (codes "conns")) {
   defaults = codes "65536" ∷ [];
 }
 
+-- `--site N` of `serve`, a whole number from 0 to 31
+abbrev pub serve_site_option : Rule
+serve_site_option = record (new_rule (codes "site")) {
+  long = Some (codes "site");
+  parser = Some (vp.Signed (pos 0) (pos 31));
+  value_names = 1;
+}
+
+-- `--keep FOLDER`
+abbrev pub keep_option : Rule
+keep_option = record (new_rule (codes "keep")) { long = Some (codes "keep"); value_names = 1 }
+
+-- `--every SECONDS`, a whole number from 1 to 3600, or 5
+abbrev pub every_option : Rule
+every_option = record (new_rule (codes "every")) {
+  long = Some (codes "every");
+  parser = Some (vp.Signed (pos 1) (pos 3600));
+  value_names =
+      1;
+  defaults = codes "5" ∷ [];
+}
+
 -- the names, of which there is at least one
 abbrev pub name_words : Rule
 name_words = record (new_rule (codes "name")) { action = Some Append; required = true; value_names = 1 }
@@ -83,7 +105,9 @@ world_command = with_rule (new_app (codes "world")) sites_option
 
 -- the subcommand `serve`
 abbrev pub serve_command : App
-serve_command = with_rule (with_rule (with_rule (with_rule (new_app (codes "serve")) port_option) site_option) conns_option) name_words
+serve_command =
+    with_rule (with_rule (with_rule (with_rule (with_rule (with_rule (new_app (codes "serve")) port_option) serve_site_option)
+    conns_option) keep_option) every_option) name_words
 
 -- the program, which asks for a subcommand
 abbrev pub rgatext : App
@@ -114,9 +138,11 @@ AsksIn name rows (Lines site resume snapshot) = (name ≡ codes "lines") × Read
     × (resume ≡ is_set (first_of (codes "resume") rows)) × (snapshot ≡ is_set (first_of (codes "snapshot") rows))
 AsksIn name rows (TextOf version) = (name ≡ codes "text") × ReadsTo 4294967295 (first_of (codes "version") rows) version
 AsksIn name rows (World sites) = (name ≡ codes "world") × (1 ≤ sites) × ReadsTo 32 (first_of (codes "sites") rows) (Some sites)
-AsksIn name rows (Serve port site conns names) = (name ≡ codes "serve")
-    × (1 ≤ port) × ReadsTo 65535 (first_of (codes "port") rows) (Some port) × ReadsTo 31 (first_of (codes "site") rows) (Some site)
+AsksIn name rows (Serve port site conns keep every names) = (name ≡ codes "serve")
+    × (1 ≤ port) × ReadsTo 65535 (first_of (codes "port") rows) (Some port) × ReadsTo 31 (first_of (codes "site") rows) site
     × (1 ≤ conns) × ReadsTo 65536 (first_of (codes "conns") rows) (Some conns)
+    × (option_map string_bytes keep ≡ first_of (codes "keep") rows)
+    × (1 ≤ every) × ReadsTo 3600 (first_of (codes "every") rows) (Some every)
     × (all_of (codes "name") rows ≡ Some (map string_bytes names.items))
 
 -- the subcommand that was met asks for the plan

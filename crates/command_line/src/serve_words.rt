@@ -1,13 +1,15 @@
 //! The words of `serve`.
 ghost use Rattle.std.specs.Prelude.{◌≡◌, ◌≤◌, Some, Option, ℕ, false, IfOk, IfSome, IfNone, MatchOption, map, option_map, string_bytes};
 ghost use Rattle.std.specs.Prelude.{codes};
-ghost use Rattle.clap.specs.Words.{app_of, found_of, rows_of, rule_of, all_of};
+ghost use Rattle.clap.specs.Words.{app_of, found_of, rows_of, rule_of, new_app, with_rule};
 ghost use Rattle.clap.specs.declared.builder.command.Command.TheViews.{out-Command};
 ghost use Rattle.plans.specs.declared.plan.Plan.{Plan};
-ghost use Rattle.command_line.specs.CommandLine.{serve_command, port_option, conns_option, name_words, AsksIn, AsksNothing, ReadsTo};
+ghost use Rattle.command_line.specs.CommandLine.{serve_command, port_option, serve_site_option, conns_option, keep_option, every_option};
+ghost use Rattle.command_line.specs.CommandLine.{name_words, AsksIn, AsksNothing, ReadsTo};
 
-use crate::words::{site_arg, site_in};
+use crate::words::site_in;
 use clap::{Arg, ArgAction, ArgMatches, Command, value_parser};
+use opid::Site;
 use plans::Plan;
 use std::alloc::{AllocError, Global};
 
@@ -16,15 +18,28 @@ pub(crate) fn serve_command<'a>(alloc: Global) -> Result<Command<'a>, AllocError
     ensures shape { IfOk result (λ made. app_of made ≡ serve_command) }
     ensures local { IfOk result (λ made. (out-Command made).has_globals ≡ false) }
 {
+    let keep = keep_arg(alloc);
+    let every = every_arg(alloc);
+    let name = name_arg(alloc);
+    let serve = line_command(alloc)?;
+    let serve = serve.arg(keep)?;
+    let serve = serve.arg(every)?;
+    serve.arg(name)
+}
+
+// The subcommand with what it is told of its connections alone.
+fn line_command<'a>(alloc: Global) -> Result<Command<'a>, AllocError>
+    ensures shape { IfOk result (λ made. app_of made
+        ≡ with_rule (with_rule (with_rule (new_app (codes "serve")) port_option) serve_site_option) conns_option) }
+    ensures local { IfOk result (λ made. (out-Command made).has_globals ≡ false) }
+{
     let port = port_arg(alloc);
     let site = site_arg(alloc);
     let conns = conns_arg(alloc);
-    let name = name_arg(alloc);
     let serve = Command::new(alloc, "serve").about("Serves rooms over WebSockets");
     let serve = serve.arg(port)?;
     let serve = serve.arg(site)?;
-    let serve = serve.arg(conns)?;
-    serve.arg(name)
+    serve.arg(conns)
 }
 
 fn port_arg<'a>(alloc: Global) -> Arg<'a>
@@ -39,6 +54,19 @@ fn port_arg<'a>(alloc: Global) -> Arg<'a>
         .help("The port of 127.0.0.1, 1 to 65535")
 }
 
+fn site_arg<'a>(alloc: Global) -> Arg<'a>
+    ensures rule { rule_of result ≡ serve_site_option }
+    ensures local { result.global ≡ false }
+{
+    Arg::new(alloc, "site")
+        .long("site")
+        .value_name("N")
+        .value_parser(value_parser!(u8).range(0..=31))
+        .help(
+            "The rooms' site number, 0 to 31: 0, or with --keep the least that no kept log has an operation of",
+        )
+}
+
 fn conns_arg<'a>(alloc: Global) -> Arg<'a>
     ensures rule { rule_of result ≡ conns_option }
     ensures local { result.global ≡ false }
@@ -49,6 +77,28 @@ fn conns_arg<'a>(alloc: Global) -> Arg<'a>
         .value_parser(value_parser!(u32).range(1..=65536))
         .default_value("65536")
         .help("How many connections are accepted, 1 to 65536")
+}
+
+fn keep_arg<'a>(alloc: Global) -> Arg<'a>
+    ensures rule { rule_of result ≡ keep_option }
+    ensures local { result.global ≡ false }
+{
+    Arg::new(alloc, "keep")
+        .long("keep")
+        .value_name("FOLDER")
+        .help("The folder in which the rooms' logs are kept")
+}
+
+fn every_arg<'a>(alloc: Global) -> Arg<'a>
+    ensures rule { rule_of result ≡ every_option }
+    ensures local { result.global ≡ false }
+{
+    Arg::new(alloc, "every")
+        .long("every")
+        .value_name("SECONDS")
+        .value_parser(value_parser!(u32).range(1..=3600))
+        .default_value("5")
+        .help("How many seconds pass between two turns of keeping, 1 to 3600")
 }
 
 fn name_arg<'a>(alloc: Global) -> Arg<'a>
@@ -67,22 +117,39 @@ pub(crate) fn serve_plan(alloc: Global, used: &ArgMatches<'_>) -> Result<Option<
     ensures some { IfOk result (λ made. IfSome made (λ plan. AsksIn (codes "serve") (rows_of (found_of used.now)) plan)) }
     ensures none { IfOk result (λ made. IfNone made (AsksNothing (Some (codes "serve", rows_of (found_of used.now))))) }
 {
-    match port_in(used.get_str("port")) {
-        Some(port) => match site_in(used.get_str("site")) {
-            Some(site) => match conns_in(used.get_str("conns")) {
-                Some(conns) => match used.get_strs("name") {
-                    Some(words) => Ok(Some(Plan::Serve {
-                        port,
-                        site,
-                        conns,
-                        names: owned(alloc, words)?,
-                    })),
-                    None => Ok(None),
-                },
-                None => Ok(None),
-            },
-            None => Ok(None),
-        },
+    let Some(port) = port_in(used.get_str("port")) else {
+        return Ok(None);
+    };
+    let Some(site) = asked_site_in(used.get_str("site")) else {
+        return Ok(None);
+    };
+    let Some(conns) = conns_in(used.get_str("conns")) else {
+        return Ok(None);
+    };
+    let Some(every) = every_in(used.get_str("every")) else {
+        return Ok(None);
+    };
+    let Some(words) = used.get_strs("name") else {
+        return Ok(None);
+    };
+    let keep = owned_word(alloc, used.get_str("keep"))?;
+    let names = owned(alloc, words)?;
+    Ok(Some(Plan::Serve {
+        port,
+        site,
+        conns,
+        keep,
+        every,
+        names,
+    }))
+}
+
+// The word, as a text of its own.
+fn owned_word(alloc: Global, word: Option<&str>) -> Result<Option<String>, AllocError>
+    ensures { IfOk result (λ text. option_map string_bytes text ≡ option_map (λ w. w.now) word.entry) }
+{
+    match word {
+        Some(word) => Ok(Some(String::from_str(alloc, word)?)),
         None => Ok(None),
     }
 }
@@ -108,12 +175,35 @@ fn port_in(text: Option<&str>) -> Option<u16>
     }
 }
 
+fn asked_site_in(text: Option<&str>) -> Option<Option<Site>>
+    ensures some { IfSome result (λ site. ReadsTo 31 (option_map (λ t. t.now) text.entry) site) }
+    ensures none { IfNone result ((site : Option ℕ) → ReadsTo 31 (option_map (λ t. t.now) text.entry) site → ⊥) }
+{
+    if text.is_none() {
+        return Some(None);
+    }
+    match site_in(text) {
+        Some(site) => Some(Some(site)),
+        None => None,
+    }
+}
+
 fn conns_in(text: Option<&str>) -> Option<u32>
     ensures some { IfSome result (λ conns. (1 ≤ conns) × ReadsTo 65536 (option_map (λ t. t.now) text.entry) (Some conns)) }
     ensures none { IfNone result ((conns : ℕ) → 1 ≤ conns → ReadsTo 65536 (option_map (λ t. t.now) text.entry) (Some conns) → ⊥) }
 {
     match text?.parse::<u32>() {
         Ok(conns) if 1 <= conns && conns <= 65_536 => Some(conns),
+        _ => None,
+    }
+}
+
+fn every_in(text: Option<&str>) -> Option<u32>
+    ensures some { IfSome result (λ every. (1 ≤ every) × ReadsTo 3600 (option_map (λ t. t.now) text.entry) (Some every)) }
+    ensures none { IfNone result ((every : ℕ) → 1 ≤ every → ReadsTo 3600 (option_map (λ t. t.now) text.entry) (Some every) → ⊥) }
+{
+    match text?.parse::<u32>() {
+        Ok(every) if 1 <= every && every <= 3600 => Some(every),
         _ => None,
     }
 }

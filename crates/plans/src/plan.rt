@@ -28,10 +28,14 @@ pub enum Plan {
     Serve {
         /// The port of 127.0.0.1 that is listened on, 1 to 65535.
         port: u16,
-        /// The site of each room.
-        site: Site,
+        /// The site of each room, where it is named.
+        site: Option<Site>,
         /// How many connections are accepted, 1 to 65,536.
         conns: u32,
+        /// The folder in which the rooms' logs are kept, if they are.
+        keep: Option<String>,
+        /// How many seconds pass between two turns of keeping, 1 to 3600.
+        every: u32,
         /// The names of the rooms.
         names: Vec<String>,
     },

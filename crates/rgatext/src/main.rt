@@ -9,6 +9,7 @@ use command_line::plan;
 use commands::{Ending, Stop, play};
 use host::host;
 use line_engine::Counted;
+use opid::Site;
 use plans::{Plan, PlanFault};
 use std::alloc::AllocError;
 use std::process::ExitCode;
@@ -59,6 +60,14 @@ fn tell(rt: &HostRuntime, ending: Ending) -> ExitCode {
     ExitCode::from(ending.status())
 }
 
+// The site of rooms for which none is asked.
+fn first_site() -> Site {
+    match Site::new(0) {
+        Ok(site) => site,
+        Err(_) => unreachable!(),
+    }
+}
+
 fn main(rt: HostRuntime) -> ExitCode {
     let plan = match asked(&rt) {
         Ok(plan) => plan,
@@ -70,7 +79,15 @@ fn main(rt: HostRuntime) -> ExitCode {
             site,
             conns,
             names,
-        } => host(&rt, rt.alloc(), *port, *site, *conns, names),
+            ..
+        } => host(
+            &rt,
+            rt.alloc(),
+            *port,
+            site.unwrap_or(first_site()),
+            *conns,
+            names,
+        ),
         _ => play_streams(&rt, &plan),
     };
     tell(&rt, Ending::of(ran))

@@ -3,43 +3,56 @@ use Rattle.std.proofs.Common.{◌∙◌, ℕ, List, Option, Some, sym, ap, subst
 use Rattle.clap.specs.Words.{found_of, rows_of}
 use Rattle.clap.proofs.WalkLemmas.{first_value-rows, raw_values-rows}
 use Rattle.command_line.specs.CommandLine.{ReadsTo}
-use Rattle.command_line.proofs.Planning.{serve_no_port, serve_no_site, serve_no_conns, serve_no_names}
+use Rattle.command_line.proofs.Planning.{serve_no_port, serve_no_site, serve_no_conns, serve_no_every, serve_no_names}
 use Rattle.command_line.proofs.serve_words.serve_plan.Goals as goal
 
-pub returns-in_ok-owned-in-Some-get_strs-clause-some : goal.returns-in_ok-owned-in-Some-get_strs-clause-some
-returns-in_ok-owned-in-Some-get_strs-clause-some c =
+pub returns-clause-some : goal.returns-clause-some
+returns-clause-some c =
     let port = c.get_str.ensures ∙ first_value-rows (found_of c.args.used.now) (codes "port") in
-    let site = c.get_str-in-Some.ensures ∙ first_value-rows (found_of c.args.used.now) (codes "site") in
-    let conns = c.get_str-in-Some-site_in.ensures ∙ first_value-rows (found_of c.args.used.now) (codes "conns") in
-    let names = c.in-Some-get_strs.ensures ∙ raw_values-rows (found_of c.args.used.now) (codes "name") in (
+    let site = c.get_str-2.ensures ∙ first_value-rows (found_of c.args.used.now) (codes "site") in
+    let conns = c.get_str-3.ensures ∙ first_value-rows (found_of c.args.used.now) (codes "conns") in
+    let every = c.get_str-4.ensures ∙ first_value-rows (found_of c.args.used.now) (codes "every") in
+    let names = c.in-Some-get_strs.ensures ∙ raw_values-rows (found_of c.args.used.now) (codes "name") in
+    let keep = c.get_str-5.ensures ∙ first_value-rows (found_of c.args.used.now) (codes "keep") in (
       refl,
       c.in-Some.ensures.some.0,
       subst (λ (t : Option (List ℕ)). ReadsTo 65535 t (Some c.in-Some.port)) port c.in-Some.ensures.some.1,
-      subst (λ (t : Option (List ℕ)). ReadsTo 31 t (Some c.in-Some-site_in.site)) site c.in-Some-site_in.ensures.some,
+      subst (λ (t : Option (List ℕ)). ReadsTo 31 t c.in-Some-asked_site_in.site) site c.in-Some-asked_site_in.ensures.some,
       c.in-Some-conns_in.ensures.some.0,
       subst (λ (t : Option (List ℕ)). ReadsTo 65536 t (Some c.in-Some-conns_in.conns)) conns c.in-Some-conns_in.ensures.some.1,
-      sym names ∙ ap Some (sym c.in_ok-owned-in-Some-get_strs.ensures),
+      c.in_ok-keep.ensures ∙ keep,
+      c.in-Some-every_in.ensures.some.0,
+      subst (λ (t : Option (List ℕ)). ReadsTo 3600 t (Some c.in-Some-every_in.every)) every c.in-Some-every_in.ensures.some.1,
+      sym names ∙ ap Some (sym c.in_ok-names.ensures),
     )
 
-pub returns-in-None-get_strs-clause-none : goal.returns-in-None-get_strs-clause-none
-returns-in-None-get_strs-clause-none c =
+pub returns-in_default-get_strs-clause-none : goal.returns-in_default-get_strs-clause-none
+returns-in_default-get_strs-clause-none c =
     serve_no_names (rows_of (found_of c.args.used.now)) (sym
-    (c.in-None-get_strs.ensures ∙ raw_values-rows (found_of c.args.used.now) (codes "name")))
+    (c.in_default-get_strs.ensures ∙ raw_values-rows (found_of c.args.used.now) (codes "name")))
 
-pub returns-in-None-conns_in-clause-none : goal.returns-in-None-conns_in-clause-none
-returns-in-None-conns_in-clause-none c =
-    let at = c.get_str-in-Some-site_in.ensures ∙ first_value-rows (found_of c.args.used.now) (codes "conns") in
+pub returns-in_default-every_in-clause-none : goal.returns-in_default-every_in-clause-none
+returns-in_default-every_in-clause-none c =
+    let at = c.get_str-4.ensures ∙ first_value-rows (found_of c.args.used.now) (codes "every") in
+    serve_no_every (rows_of (found_of c.args.used.now))
+    (λ every some h. c.in_default-every_in.ensures.none every some
+    (subst (λ (t : Option (List ℕ)). ReadsTo 3600 t (Some every)) (sym at) h))
+
+pub returns-in_default-conns_in-clause-none : goal.returns-in_default-conns_in-clause-none
+returns-in_default-conns_in-clause-none c =
+    let at = c.get_str-3.ensures ∙ first_value-rows (found_of c.args.used.now) (codes "conns") in
     serve_no_conns (rows_of (found_of c.args.used.now))
-    (λ conns some h. c.in-None-conns_in.ensures.none conns some (subst (λ (t : Option (List ℕ)). ReadsTo 65536 t (Some conns)) (sym at) h))
+    (λ conns some h. c.in_default-conns_in.ensures.none conns some
+    (subst (λ (t : Option (List ℕ)). ReadsTo 65536 t (Some conns)) (sym at) h))
 
-pub returns-in-None-site_in-clause-none : goal.returns-in-None-site_in-clause-none
-returns-in-None-site_in-clause-none c =
-    let at = c.get_str-in-Some.ensures ∙ first_value-rows (found_of c.args.used.now) (codes "site") in
+pub returns-in_default-asked_site_in-clause-none : goal.returns-in_default-asked_site_in-clause-none
+returns-in_default-asked_site_in-clause-none c =
+    let at = c.get_str-2.ensures ∙ first_value-rows (found_of c.args.used.now) (codes "site") in
     serve_no_site (rows_of (found_of c.args.used.now))
-    (λ site h. c.in-None-site_in.ensures.none site (subst (λ (t : Option (List ℕ)). ReadsTo 31 t (Some site)) (sym at) h))
+    (λ site h. c.in_default-asked_site_in.ensures.none site (subst (λ (t : Option (List ℕ)). ReadsTo 31 t site) (sym at) h))
 
-pub returns-in-None-clause-none : goal.returns-in-None-clause-none
-returns-in-None-clause-none c =
+pub returns-in_default-clause-none : goal.returns-in_default-clause-none
+returns-in_default-clause-none c =
     let at = c.get_str.ensures ∙ first_value-rows (found_of c.args.used.now) (codes "port") in
     serve_no_port (rows_of (found_of c.args.used.now))
-    (λ port some h. c.in-None.ensures.none port some (subst (λ (t : Option (List ℕ)). ReadsTo 65535 t (Some port)) (sym at) h))
+    (λ port some h. c.in_default.ensures.none port some (subst (λ (t : Option (List ℕ)). ReadsTo 65535 t (Some port)) (sym at) h))

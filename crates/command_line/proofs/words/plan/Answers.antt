@@ -1,14 +1,14 @@
 -- What `clap` says of the command line, said of `rgatext`.
 use Rattle.std.proofs.Common.{◌≡◌, ◌∙◌, List, [], Option, true, false, refl, sym, ap, subst, inl, inr, map, string_bytes}
 use Rattle.std.specs.Prelude.{◌⊎◌}
-use Rattle.std.proofs.lemmas.Result.{IfErr-weaker}
+use Rattle.std.proofs.lemmas.Result.{IfErr-weaker, IfOk-weaker}
 use Rattle.clap.specs.Words.{App, HasKind, IsAmong, Kinds, Row, Text, fault_of, is_simple, is_simple_and_free, kind_of, subcommand_of}
 use Rattle.clap.specs.Words.{subcommand_rows_of}
 use Rattle.clap.specs.declared.error.ErrorKind.{ErrorKind}
 use Rattle.clap.specs.declared.error.ErrorKind.TheVariants as kind
 use Rattle.plans.specs.declared.fault.PlanFault.{PlanFault}
 use Rattle.plans.specs.declared.fault.PlanFault.TheVariants.{Help, Words, Memory}
-use Rattle.command_line.specs.CommandLine.{rgatext, Refuses, ToldBy, shows_text, blames_words}
+use Rattle.command_line.specs.CommandLine.{rgatext, AsksForPlan, Refuses, ToldBy, shows_text, blames_words}
 use Rattle.command_line.proofs.words.plan.Goals as goal
 
 of_error : (kinds : Kinds) (met : Option (Text × List Row)) (k : ErrorKind) (fault : PlanFault) → (k ≡ kind.OutOfMemory) ⊎ IsAmong k kinds
@@ -32,6 +32,15 @@ returns-in-Err-clause-refused c =
     let P : App → Type 0 = λ a. is_simple_and_free a ≡ true → HasKind (fault_of a words) c.in-Err.error in
     of_error (fault_of rgatext words) (subcommand_of rgatext words) (kind_of c.in-Err.error) c.told.result
     (subst P c.in_ok-command.ensures c.in-Err.ensures.kinds refl) c.told.ensures
+
+pub returns-in-Ok-clause-planned : goal.returns-in-Ok-clause-planned
+returns-in-Ok-clause-planned c =
+    let words = map string_bytes c.args.words.now in
+    let Q : App → Type 0 = λ a. is_simple a ≡ true → subcommand_rows_of c.in-Ok.matches ≡ subcommand_of a words in
+    let met : subcommand_rows_of c.in-Ok.matches ≡ subcommand_of rgatext words =
+    subst Q c.in_ok-command.ensures (λ h. (c.in-Ok.ensures.matches h).1) refl in
+    IfOk-weaker c.read_plan.result _ _ (λ plan h. subst (λ (m : Option (Text × List Row)). AsksForPlan m plan) met h)
+    c.read_plan.ensures.planned
 
 pub returns-in-Ok-clause-refused : goal.returns-in-Ok-clause-refused
 returns-in-Ok-clause-refused c =
