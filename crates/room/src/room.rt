@@ -184,4 +184,11 @@ impl Room {
         }
         Ok(())
     }
+
+    /// How many sessions are there: those that joined and haven't left. Constant time.
+    pub fn sessions(&self) -> u32
+        ensures { result ≡ length self.now.state.outbox.sessions }
+    {
+        self.machine.sessions()
+    }
 }
