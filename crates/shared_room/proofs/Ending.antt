@@ -68,7 +68,7 @@ marked_called R R' t c (Err e) le p q = subst (λ (X : Account). mark X.history 
 
 -- ---- what the pass knows after the turn
 
-calls_trail : (R : Account) → calls_of (trail_of R) ≡ R.history
+pub calls_trail : (R : Account) → calls_of (trail_of R) ≡ R.history
 calls_trail R = calls_made R.history
 
 mine_after : (s : Sight Item) (R R' : Account) (more : List (ℕ × Call)) → s.found ≡ trail_of R → trail_of R' ≡ trail_of R ++ map made more
@@ -122,19 +122,21 @@ replies_after o s R R' c reply opening replays counted found is full after withi
       refused = rest.1;
     }
 
+-- a turn that leaves the trail as it was found records nothing
+pub stays_after : (s : Sight Item) (R R' : Account) → s.found ≡ trail_of R → R' ≡ R → Stays (view_of s) (view_of (finished s (trail_of R')))
+stays_after s R R' found same =
+    let grown : trail_of R' ≡ trail_of R ++ map made [] = ap trail_of same ∙ sym (append-nil (trail_of R)) in
+    record { seen = seen_after s R R' [] found grown ∙ append-nil _; mine = mine_after s R R' [] found grown ∙ append-nil _ }
+
 -- where there was no memory, nothing was recorded, though the history that was found isn't full
 pub lacks_after : (s : Sight Item) (R R' : Account) → R.state.count ≡ length R.history → s.found ≡ trail_of R → R' ≡ R
     → may_record R.state ≡ true
     → FailsToRecord (view_of s) (view_of (finished s (trail_of R')))
 lacks_after s R R' counted found same may =
-    let grown : trail_of R' ≡ trail_of R ++ map made [] = ap trail_of same ∙ sym (append-nil (trail_of R)) in
     let n : length (calls_of s.found) ≡ length R.history = ap (λ (l : List Item). length (calls_of l)) found ∙ ap length (calls_trail R) in
     let test : nat_lt R.state.count 1048576 ≡ true = may in
     let below : R.state.count < 1048576 = grind (arith, nat_tests) in
-    record {
-      stays = record { seen = seen_after s R R' [] found grown ∙ append-nil _; mine = mine_after s R R' [] found grown ∙ append-nil _ };
-      not_full = omega (arith, counted, n, below);
-    }
+    record { stays = stays_after s R R' found same; not_full = omega (arith, counted, n, below) }
 
 -- ---- what holds of each pass
 
@@ -165,7 +167,7 @@ pub record Begins (s s' : Sight Item) : Type 0 where
   pub later : length s.ends ≤ s'.drawn
   pub turns : length s'.ends ≡ s'.drawn
 
-takes_turn : (s s' : Sight Item) (w : View) → Begins s s' → Keeps (view_of s') w → TakesTurn (view_of s) w
+pub takes_turn : (s s' : Sight Item) (w : View) → Begins s s' → Keeps (view_of s') w → TakesTurn (view_of s) w
 takes_turn s s' w b k = record {
   begins = subst (λ (l : List (ℕ × Call)). IsPrefix (calls_of s.seen) l) (sym k.found) (calls_prefix s.seen s'.found b.found);
   later = (let l = b.later in let e = k.drawn in omega arith);
@@ -174,7 +176,7 @@ takes_turn s s' w b k = record {
   lost = k.lost ∙ b.lost;
 }
 
-mine_same : (s s' : Sight Item) → Begins s s' → calls_of s'.mine ≡ calls_of s.mine
+pub mine_same : (s s' : Sight Item) → Begins s s' → calls_of s'.mine ≡ calls_of s.mine
 mine_same s s' b = ap calls_of b.mine
 
 pub answered_after : (o : State) (s s' : Sight Item) (w : View) (c : Call) (r : Result Reply Refusal) → Begins s s'

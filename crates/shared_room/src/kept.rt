@@ -10,9 +10,10 @@ ghost use Rattle.room.specs.Internal.Legal.{AreRisingFrom-prop};
 ghost use Rattle.shared_room.specs.Trails.{trail_of};
 ghost use Rattle.shared_room.specs.Internal.Handing.{AllHand-prop};
 
+use crate::look::Look;
 use causal_clock::Op;
 use history_lock::Trailed;
-use room::{Call, Reply, Room};
+use room::{Call, Operations, Reply, Room};
 use std::alloc::{AllocError, Global};
 use std::marker::Model;
 
@@ -58,6 +59,8 @@ impl Trailed for KeptRoom {
 }
 
 impl KeptRoom {
+    ghost use Rattle.shared_room.specs.Looks.{ShowsRoom};
+
     /// The room for its lock, which has recorded no call.
     pub(crate) fn new(alloc: Global, room: Room) -> Result<KeptRoom, AllocError>
         requires { room.history ≡ [] }
@@ -91,6 +94,22 @@ impl KeptRoom {
         prove!(self.room.history().len() <= 1_048_576);
         prove!(hands_operations(&call));
         self.room.call(ticket, call)
+    }
+
+    /// The operations of the log from number `after` on, and how full the room is.
+    pub(crate) fn look(&self, after: u32) -> Result<Look, AllocError>
+        ensures { IfOk result (λ look. ShowsRoom self.now.room.value.opening self.now.room.value.history after look) }
+    {
+        let calls = self.room.history().len() as u32;
+        let doc = self.room.replica().doc();
+        let version = doc.version();
+        let ops = doc.copy_ops(after.min(version), version)?;
+        Ok(Look {
+            ops: Operations::new(ops),
+            calls,
+            version,
+            sessions: self.room.sessions(),
+        })
     }
 }
 
