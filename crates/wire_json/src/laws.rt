@@ -8,6 +8,7 @@ ghost use Rattle.room_calls.specs.declared.reply.Reply.TheVariants.{Ops};
 ghost use Rattle.operation_json.specs.Operations.{items_told};
 ghost use Rattle.operation_json.specs.PackedOperations.{packed_ops_of, handed_over};
 ghost use Rattle.wire_json.specs.Text.{IsInRange, text};
+ghost use Rattle.wire_json.specs.Part.{part_told};
 
 /// Two different replies have different texts: a client can tell each reply from its line alone.
 pub fn different_replies()
@@ -23,4 +24,9 @@ pub fn packed_operations_read_back()
     ensures put { (place : ℕ) (ops : List Operation) → IsInRange (Ops place ops) → length ops ≤ 64
         → option_map (λ ds. handed_over (items_told ds))
         (option_and_then as_array (option_and_then (get (codes "ops")) (read (text (Ops place ops))))) ≡ Some (Ok ops) }
+{}
+
+/// The text of an `ops` reply of at most 64 operations tells the part of a log that the reply has.
+pub fn parts_read_back()
+    ensures { (n : ℕ) (ops : List Operation) → IsInRange (Ops n ops) → length ops ≤ 64 → part_told (text (Ops n ops)) ≡ Ok (n, ops) }
 {}

@@ -9,12 +9,14 @@ mod handed;
 mod laws;
 mod opening;
 mod outcome_bytes;
+mod part;
 mod pieces;
 mod reading;
 mod tokens;
 mod writing;
 
-pub use laws::{different_replies, packed_operations_read_back};
+pub use laws::{different_replies, packed_operations_read_back, parts_read_back};
 pub use opening::read_open;
+pub use part::read_part;
 pub use reading::{MAX_REQUEST_BYTES, RequestReader, read_request};
 pub use writing::write_reply;
