@@ -1,6 +1,7 @@
 -- What the public contracts say of a hall and of the passes of its rooms, which are the server's own.
 use Rattle.std.specs.Prelude.{◌≡◌, ◌<◌, ◌^◌, ℕ, zero, suc, length, IfSome, List, [], ◌∷◌, Option, map, bytes_eq, string_bytes}
-use Rattle.room.specs.Machine.{empty_room}
+use Rattle.replica.specs.Deliver.{ReplicaState}
+use Rattle.room.specs.Machine.{empty_room, room_over}
 use Rattle.indexmap.specs.IndexMap.{index_of_by}
 use Rattle.shared_room.specs.declared.pass.Pass.{Pass}
 use Rattle.shared_room.specs.declared.shared.SharedRoom.{SharedRoom}
@@ -45,6 +46,12 @@ first_view = record { seen = []; found = []; mine = []; drawn = 0; turns = 0; le
 pub record IsOpened (site : ℕ) (asked : List (List ℕ)) (hall : Hall) (pass : HallPass) : Type 0 where
   pub names : names_of hall ≡ asked
   pub rooms : map opening (rooms_of hall) ≡ map (λ name. empty_room site) asked
+  pub passes : map view pass.passes.items ≡ map (λ name. first_view) asked
+
+-- A room over the log of each replica, under the name at its place, and the first pass of each.
+pub record IsOpenedOver (asked : List (List ℕ)) (replicas : List ReplicaState) (hall : Hall) (pass : HallPass) : Type 0 where
+  pub names : names_of hall ≡ asked
+  pub rooms : map opening (rooms_of hall) ≡ map (λ r. room_over r.site r.log) replicas
   pub passes : map view pass.passes.items ≡ map (λ name. first_view) asked
 
 -- each of the first so many passes handed `count` draws to a new one, and the others are as before

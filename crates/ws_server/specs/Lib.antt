@@ -1,4 +1,5 @@
 pub mod Halls
+pub mod Keeping
 pub mod Gates
 pub mod Frames
 pub mod Sockets

@@ -1,5 +1,5 @@
 //! Rooms behind WebSockets: a hall of rooms by name, and an answer for each message. It passes on `serve_lines`, `Counted`,
-//! `ServeFault` and `carry` of the line engine.
+//! `ServeFault` and `carry` of the line engine, and `Look` of the shared room.
 #![tactic(auto)]
 
 mod channel;
@@ -7,6 +7,7 @@ mod conn;
 mod frame;
 mod gate;
 mod hall;
+mod keeping;
 mod message;
 mod names;
 mod socket;
@@ -17,4 +18,6 @@ pub use frame::answer_frame;
 pub use gate::{Gate, Witness};
 pub use hall::{Hall, HallPass};
 pub use line_engine::{Counted, ServeFault, carry, serve_lines};
+pub use names::names_fit;
+pub use shared_room::Look;
 pub use socket::{serve_one, serve_socket};
