@@ -1,5 +1,5 @@
 -- The calls that tokens ask for, key by key.
-use Rattle.std.proofs.Common.{◌≡◌, ◌^◌, ℕ, List, [], ◌∷◌, Some, Ok, true, false, refl, sym, subst, codes, lt-ltb, Option, None, Result, Err}
+use Rattle.std.proofs.Common.{◌≡◌, ◌^◌, ℕ, List, [], ◌∷◌, Some, Ok, true, false, refl, sym, subst, codes, lt-ltb, take, Option, None, Result, Err}
 use Rattle.std.specs.Prelude.{IfSome, IfOk}
 use Rattle.std.specs.Str.{chars, IsUtf8}
 use Rattle.json.specs.Lex.{tokens}
@@ -88,7 +88,7 @@ del_rest old a b s n v k c p f last = record {
 }
 
 pub ins_rest : (old a b c : List Token) (s n v k : ℕ) (x : List ℕ) → ReadsPlace old s n v k a → a ≡ key (codes "x") ∷ b
-    → Comes 1 b (string x) c → c ≡ end_object ∷ [] → ReadsRest (codes "ins") old (Ins s n v k (chars x))
+    → Comes 1 b (string x) c → c ≡ end_object ∷ [] → ReadsRest (codes "ins") old (Ins s n v k (take 65 (chars x)))
 ins_rest old a b c s n v k x p first told last = record {
   entries =
       (codes "s", number (unsigned s)) ∷ (codes "n", number (unsigned n)) ∷ (codes "v", number (unsigned v))

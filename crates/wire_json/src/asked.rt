@@ -7,6 +7,7 @@ ghost use Rattle.json_bytes.specs.Plain.{is_plain};
 ghost use Rattle.wire_json.specs.Internal.Handed.{ReadsField, ReadsPlace, ReadsRest, ReadsKind, ReadsCall, AsksFor};
 
 use crate::handed::rest_of_put;
+use crate::inserted::first_characters;
 use arrayvec::ArrayString;
 use json_bytes::{MAX_TEXT, PlainReader};
 use operation_json::is_closed;
@@ -118,7 +119,7 @@ fn rest_of_ins(alloc: Global, reader: &mut PlainReader<'_>) -> Result<Option<Cal
     if !reader.take_key("x") || !reader.next_text(&mut text) || !is_closed(reader) {
         return Ok(None);
     }
-    let x = Characters::from_str(alloc, text.as_str())?;
+    let x = Characters::from_str(alloc, first_characters(text.as_str()))?;
     Ok(Some(Call::Ins { s, n, v, k, x }))
 }
 

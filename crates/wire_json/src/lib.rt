@@ -6,6 +6,7 @@ mod edit_bytes;
 mod fields;
 mod flat;
 mod handed;
+mod inserted;
 mod laws;
 mod opening;
 mod outcome_bytes;
