@@ -5,7 +5,7 @@ ghost use Rattle.opid.specs.declared.refusal.Refusal.TheVariants.{Memory};
 ghost use Rattle.opid.specs.Lawful.{IsLawful, GoesOn};
 ghost use Rattle.operation_json.specs.Packing.{unfolded, unfolded_all};
 
-use crate::loading::append_all;
+use crate::loading::append_operations;
 use causal_clock::{MAX_SUM, Op};
 use characters::Characters;
 use operation_json::next_op;
@@ -68,7 +68,7 @@ fn append_item(doc: &mut Doc, ops: &mut Vec<Op>, item: &Gathered) -> Result<(), 
         → length doc.old.log + length (unfolded item.now) ≤ 131072 → ⊥)) }
 {
     unfold(ops, item)?;
-    append_all(doc, ops.as_slice())
+    append_operations(doc, ops.as_slice())
 }
 
 // Puts in the operations of an object, in place of what was there.

@@ -9,5 +9,5 @@ mod loading;
 mod saving;
 mod spelled;
 
-pub use loading::{load, load_doc};
+pub use loading::{append_operations, lacks_site, load, load_doc, open_over};
 pub use saving::save;

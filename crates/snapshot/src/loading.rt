@@ -30,6 +30,19 @@ pub fn load(alloc: Global, bytes: &[u8], site: Site) -> Result<Replica, Refusal>
         ⊎ ((e ≡ SiteUsed) × HasSite site bytes.now)) }
 {
     let doc = load_doc(alloc, bytes)?;
+    open_over(alloc, site, doc)
+}
+
+/// The replica of a site over the log of a document, which it takes; it holds nothing back.
+///
+/// Refused with `SiteUsed` exactly where the log has an operation of the site, since one of that site's numbers would be given twice;
+/// and with `Memory` in the place of any answer. Takes the steps of `Replica::over_doc`.
+pub fn open_over(alloc: Global, site: Site, doc: Doc) -> Result<Replica, Refusal>
+    requires { doc.room ≡ 0 }
+    ensures opened { IfOk result (λ r. r ≡ record { site = site; log = doc.log; held = []; room = 0 }) }
+    ensures unused { OnOk result (LacksSite site doc.log) }
+    ensures cause { IfErr result (λ e. (e ≡ Memory) ⊎ ((e ≡ SiteUsed) × (LacksSite site doc.log → ⊥))) }
+{
     if !lacks_site(&doc, site) {
         return Err(Refusal::SiteUsed);
     }
@@ -108,15 +121,18 @@ fn append_value(alloc: Global, doc: &mut Doc, value: &Value, runs: bool) -> Resu
 {
     if runs {
         let ops = read_item_ops(alloc, value)?;
-        append_all(doc, ops.as_slice())
+        append_operations(doc, ops.as_slice())
     } else {
         let op = read_op(value)?;
-        append_all(doc, &[op])
+        append_operations(doc, &[op])
     }
 }
 
-// Appends operations of which each may follow those before it.
-pub(crate) fn append_all(doc: &mut Doc, ops: &[Op]) -> Result<(), Refusal>
+/// Appends operations to a document's log, of which each may follow those before it.
+///
+/// Refused with `Memory`, and with another refusal only where one may not follow, or the log would have more than 131,072; the
+/// first of them may then have been appended. Takes the steps of `Doc::integrate` for each, and memory as it tells.
+pub fn append_operations(doc: &mut Doc, ops: &[Op]) -> Result<(), Refusal>
     ensures grown { OnOk result (doc.new.log ≡ doc.old.log ++ ops.now) }
     ensures unreserved { OnOk result (doc.old.room ≡ 0 → doc.new.room ≡ 0) }
     ensures cause { IfErr result (λ e. (e ≡ Memory)
@@ -141,8 +157,8 @@ fn append(doc: &mut Doc, op: &Op) -> Result<(), Refusal>
     Ok(())
 }
 
-// Whether no operation of the log is the site's.
-fn lacks_site(doc: &Doc, site: Site) -> bool
+/// Whether no operation of the document's log is the site's. Constant time.
+pub fn lacks_site(doc: &Doc, site: Site) -> bool
     ensures yes { result ≡ true → LacksSite site doc.now.log }
     ensures no { result ≡ false → LacksSite site doc.now.log → ⊥ }
 {

@@ -3,7 +3,7 @@ use Rattle.std.proofs.Common.{◌≡◌, ◌<◌, ◌≤◌, ◌+◌, ◌⊎◌,
 use Rattle.opid.specs.declared.refusal.Refusal.TheVariants.{Memory}
 use Rattle.opid.specs.Lawful.{MayFollow, GoesOn}
 use Rattle.snapshot.proofs.Loaded.{may_next}
-use Rattle.snapshot.proofs.loading.append_all.Goals as goal
+use Rattle.snapshot.proofs.loading.append_operations.Goals as goal
 
 pub returns-in_err-append-clause-cause : goal.returns-in_err-append-clause-cause
 returns-in_err-append-clause-cause c =

@@ -1,5 +1,5 @@
 use Rattle.std.proofs.Common.{◌≡◌, ◌++◌, take}
-use Rattle.snapshot.proofs.loading.append_all.Given as goal
+use Rattle.snapshot.proofs.loading.append_operations.Given as goal
 
 -- the operations so far are appended
 abbrev pub invariant-loop-op : goal.invariant-loop-op
