@@ -21,7 +21,7 @@ use Rattle.line_engine.specs.ServedLines.{Serves}
 use Rattle.line_engine.specs.declared.fault.ServeFault.{ServeFault}
 use Rattle.line_engine.specs.declared.fault.ServeFault.TheVariants.{Read, Write, Memory}
 use Rattle.commands.specs.declared.stop.Stop.{Stop}
-use Rattle.commands.specs.declared.stop.Stop.TheVariants.{Refused, Fault, Socket}
+use Rattle.commands.specs.declared.stop.Stop.TheVariants.{Refused, Fault, Socket, Files}
 use Rattle.replica_world.specs.World.{empty_rooms}
 use Rattle.commands.specs.Worlds.{AnswersLine, readings}
 
@@ -36,6 +36,7 @@ served_end (Ok done) = Ok tt
 served_end (Err (Refused why)) = Ok tt
 served_end (Err (Fault why)) = Err why
 served_end (Err Socket) = Ok tt
+served_end (Err Files) = Ok tt
 
 -- ---- `lines`
 
@@ -51,6 +52,7 @@ OpensNot resume site left got (Fault Read) = resume ≡ true
 OpensNot resume site left got (Fault Write) = ⊥
 OpensNot resume site left got (Fault Memory) = resume ≡ false → got ≡ []
 OpensNot resume site left got Socket = ⊥
+OpensNot resume site left got Files = ⊥
 OpensNot resume site left got (Refused why) = (resume ≡ true)
     × ((line : List ℕ) × (rest : List ℕ) × (over : Bool) × IsFirstLine over left got line rest
     × (((why ≡ BadSnapshot) × StandsForNone line) ⊎ ((why ≡ SiteUsed) × HasSite site line)))
@@ -63,6 +65,7 @@ Writes text written (Err (Fault Write)) = FallsShort written text
 Writes text written (Err (Fault Memory)) = written ≡ []
 Writes text written (Err (Refused why)) = ⊥
 Writes text written (Err Socket) = ⊥
+Writes text written (Err Files) = ⊥
 
 -- what comes after the answers, once all lines were served: nothing, or the snapshot's line
 abbrev pub Closes : {T U : Type 0} → Bool → List Operation → List ℕ → Result T ServeFault → Result U Stop → Type 0

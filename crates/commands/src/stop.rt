@@ -12,6 +12,8 @@ pub enum Stop {
     Fault(ServeFault),
     /// A listener, a connection or a thread can't be had. No command of this crate ends so; the program's `serve` does.
     Socket,
+    /// A folder or a file in it can't be had. No command of this crate ends so; the program's `serve` does.
+    Files,
 }
 
 impl Stop {
@@ -37,6 +39,7 @@ impl fmt::Display for Stop {
             Stop::Refused(why) => write!(f, "refused {} {}", why.number(), why.name()),
             Stop::Fault(why) => write!(f, "{why}"),
             Stop::Socket => f.write_str("fault socket"),
+            Stop::Files => f.write_str("fault file"),
         }
     }
 }
