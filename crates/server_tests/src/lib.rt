@@ -9,6 +9,8 @@ mod gates;
 #[cfg(test)]
 mod halls;
 #[cfg(test)]
+mod looks;
+#[cfg(test)]
 mod memory;
 #[cfg(test)]
 mod streams;
