@@ -1,0 +1,6 @@
+mod Cutting
+mod Plain
+mod Telling
+mod ReadLines
+mod WrittenLines
+mod Sites

@@ -1,0 +1,10 @@
+-- The lines so far tell the document's log.
+use Rattle.std.proofs.Common.{◌≡◌, ◌-◌, length}
+use Rattle.journal.proofs.ReadLines.{Reads}
+use Rattle.journal.proofs.reading.read_journal.Given as goal
+
+abbrev pub invariant-each_line : goal.invariant-each_line
+invariant-each_line l = record { reads : Reads l.bytes l.at l.lines l.doc.log; unreserved : l.doc.room ≡ 0 }
+
+abbrev pub decreases-each_line : goal.decreases-each_line
+decreases-each_line l = length l.bytes - l.at

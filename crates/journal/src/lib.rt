@@ -1,0 +1,15 @@
+//! Journals: a document's log as lines, each of which tells a part of it, in a file that only grows.
+//!
+//! Which log a journal's bytes stand for is told by `specs/Journal.antt`.
+#![tactic(auto)]
+
+mod fault;
+mod free;
+pub mod laws;
+mod reading;
+mod writing;
+
+pub use fault::JournalFault;
+pub use free::free_site;
+pub use reading::{Journal, read_journal};
+pub use writing::write_lines;

@@ -1,0 +1,77 @@
+//! Reading a journal: the log that its lines tell, as a document.
+ghost use Rattle.std.specs.Prelude.{◌≡◌, ◌≤◌, ◌<◌, ◌+◌, ◌++◌, ◌∷◌, ◌⊎◌, Ok, List, length, take, drop, IfOk, IfErr, OnOk, MatchOption};
+ghost use Rattle.opid.specs.declared.refusal.Refusal.TheVariants as refusals;
+ghost use Rattle.opid.specs.Operations.{Operation};
+ghost use Rattle.opid.specs.Lawful.{IsLawful, GoesOn};
+ghost use Rattle.journal.specs.declared.fault.JournalFault.TheVariants.{Memory};
+ghost use Rattle.journal.specs.Journal.{IsLine, EndsLines, StandsFor, StandsForNone, IsFaultOf, line_told};
+
+use crate::fault::JournalFault;
+use memchr::memchr;
+use opid::Refusal;
+use snapshot::append_operations;
+use std::alloc::Global;
+use versions::Doc;
+use wire_json::read_part;
+
+/// A journal that was read.
+#[derive(Drop)]
+pub struct Journal {
+    /// The document of the log that its lines tell.
+    pub doc: Doc,
+    /// How many bytes its whole lines take. What stands behind them is a line that was cut short.
+    pub length: usize,
+}
+
+/// The document of the log that the lines of the bytes tell, and how many bytes these take. A last line that no LF ends was cut
+/// short, and is left out.
+///
+/// Refused with the number of the first line that tells no part, from the next operation's number on, of which each operation may
+/// follow those before it, or with which there are more than 131,072; and with `Memory` in the place of any answer. Takes time in
+/// proportion to the bytes, and the steps of `Doc::integrate` for each operation; memory for the document, and for one line at a time.
+pub fn read_journal(alloc: Global, bytes: &[u8]) -> Result<Journal, JournalFault>
+    ensures stands { IfOk result (λ j. StandsFor bytes.now j.doc.log) }
+    ensures unreserved { IfOk result (λ j. j.doc.room ≡ 0) }
+    ensures ends { IfOk result (λ j. EndsLines j.length bytes.now) }
+    ensures cause { IfErr result (λ e. (e ≡ Memory) ⊎ StandsForNone bytes.now) }
+    ensures fault { IfErr result (λ e. IsFaultOf bytes.now e) }
+{
+    let mut doc = Doc::new(alloc);
+    let mut at = 0;
+    let mut lines = 0;
+    'each_line: while let Some(len) = line_end(&bytes[at..]) {
+        lines += 1;
+        match append_line(alloc, &mut doc, &bytes[at..at + len]) {
+            Ok(()) => at += len + 1,
+            Err(Refusal::Memory) => return Err(JournalFault::Memory),
+            Err(_) => return Err(JournalFault::Line(lines)),
+        }
+    }
+    Ok(Journal { doc, length: at })
+}
+
+// How many bytes stand before the first LF.
+fn line_end(bytes: &[u8]) -> Option<usize>
+    ensures { MatchOption result (IsLine bytes.now) (λ at. (at < length bytes.now) × IsLine (take at bytes.now)
+        × (bytes.now ≡ take at bytes.now ++ 10 ∷ drop (at + 1) bytes.now)) }
+{
+    memchr(b'\n', bytes)
+}
+
+// Appends the operations that a line tells, which are to be the next of the log.
+fn append_line(alloc: Global, doc: &mut Doc, line: &[u8]) -> Result<(), Refusal>
+    ensures grown { OnOk result ((ops : List Operation) × (line_told (length doc.old.log) line.now ≡ Ok ops) × (doc.new.log ≡ doc.old.log ++ ops)) }
+    ensures lawful { OnOk result (IsLawful doc.new.log) }
+    ensures few { OnOk result (length doc.new.log ≤ 131072) }
+    ensures unreserved { OnOk result (doc.old.room ≡ 0 → doc.new.room ≡ 0) }
+    ensures cause { IfErr result (λ e. (e ≡ refusals.Memory) ⊎ ((ops : List Operation) → line_told (length doc.old.log) line.now ≡ Ok ops
+        → GoesOn doc.old.log ops → length doc.old.log + length ops ≤ 131072 → ⊥)) }
+{
+    let (from, ops) = read_part(alloc, line)?;
+    if from != doc.version() {
+        return Err(Refusal::BadField);
+    }
+    append_operations(doc, ops.as_slice())?;
+    prove!(doc.version() <= 131_072);
+    Ok(())
+}
