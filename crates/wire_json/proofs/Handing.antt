@@ -7,7 +7,7 @@ use Rattle.opid.specs.declared.refusal.Refusal.{Refusal}
 use Rattle.opid.specs.Operations.{Operation}
 use Rattle.room_calls.specs.declared.call.Call.TheVariants.{Put}
 use Rattle.operation_json.specs.Members.{◌>>=◌}
-use Rattle.wire_json.specs.Request.{call_in}
+use Rattle.wire_json.specs.Request.{call_in, unless_too_many}
 use Rattle.operation_json.specs.Packing.{typed_behind}
 use Rattle.operation_json.specs.PackedOperations.{ItemOffer, item_offer_of, item_sited, item_operations, item_ops_of, concatenated}
 use Rattle.operation_json.specs.PackedOperations.{handed_over}
@@ -87,11 +87,11 @@ ops_read old now rest new ops opened t closed = record {
 }
 
 put_asked : (ds : List Data) (ops : List Operation) → handed_over ds ≡ Ok ops
-    → call_in (object (put_entries ((codes "t", string (codes "put")) ∷ (codes "ops", array (items_of ds)) ∷ []) no_members)) ≡ Ok (Put ops)
+    → call_in (object (put_entries ((codes "t", string (codes "put")) ∷ (codes "ops", array (items_of ds)) ∷ []) no_members)) ≡ Ok (Put (unless_too_many ops))
 put_asked ds ops h = rw (told_back ds) (rw h refl)
 
 pub put_rest : (old a b : List Token) (ops : List Operation) → old ≡ key (codes "ops") ∷ a → ReadsOps a ops b → b ≡ end_object ∷ []
-    → ReadsRest (codes "put") old (Put ops)
+    → ReadsRest (codes "put") old (Put (unless_too_many ops))
 put_rest old a b ops first r last = record {
   entries = (codes "ops", array (items_of r.values)) ∷ [];
   told = (a, b, first, r.first, last);

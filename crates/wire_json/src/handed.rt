@@ -1,6 +1,8 @@
 //! What a `put` hands over read byte by byte, with no tree, where its operations are spelled as servers spell them.
 ghost use Rattle.std.specs.Prelude.{◌≡◌, ◌≤◌, codes, length, IfOk, IfErr, IfSome};
 ghost use Rattle.opid.specs.declared.refusal.Refusal.TheVariants.{Memory};
+ghost use Rattle.room_calls.specs.declared.call.Call.TheVariants.{Put};
+ghost use Rattle.wire_json.specs.Request.{unless_too_many};
 ghost use Rattle.wire_json.specs.Internal.Handed.{ReadsOps, ReadsRest};
 
 use crate::reading::MAX_REQUEST_BYTES;
@@ -8,12 +10,12 @@ use arrayvec::ArrayString;
 use causal_clock::Op;
 use json_bytes::{MAX_TEXT, PlainReader};
 use operation_json::{behind_first, is_closed, rest_of_item, unfold_run};
-use opid::Refusal;
+use opid::{MAX_COUNT, Refusal};
 use room_calls::{Call, Operations};
 use std::alloc::Global;
 
-// What a `put` has behind its kind: operation objects and run objects, each spelled as `rest_of_item` reads it. The call has at most
-// the first 65 of their operations.
+// What a `put` has behind its kind: operation objects and run objects, each spelled as `rest_of_item` reads it. The call has none
+// of more than 64 operations.
 pub(crate) fn rest_of_put(
     alloc: Global,
     reader: &mut PlainReader<'_>,
@@ -30,7 +32,20 @@ pub(crate) fn rest_of_put(
     if !is_closed(reader) {
         return Ok(None);
     }
-    Ok(Some(Call::Put(Operations::new(ops))))
+    Ok(Some(put_of(alloc, ops)))
+}
+
+/// The `put` of these operations, or of none where they are more than a room takes, which refuses either: a refused call is recorded, and
+/// takes as little memory as it can. Constant time, beside letting them go.
+pub(crate) fn put_of(alloc: Global, ops: Vec<Op>) -> Call
+    ensures { result ≡ Put (unless_too_many ops.items) }
+{
+    let taken = if ops.len() > MAX_COUNT as usize {
+        Vec::new(alloc)
+    } else {
+        ops
+    };
+    Call::Put(Operations::new(taken))
 }
 
 // The operations of the next value, a list of objects, of which no request has as many as it may have bytes: at most the first 65.

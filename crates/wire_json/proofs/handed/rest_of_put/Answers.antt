@@ -1,14 +1,13 @@
-use Rattle.std.proofs.Common.{List, codes, sym, subst}
+use Rattle.std.proofs.Common.{codes, sym, subst}
 use Rattle.std.specs.Prelude.{IfSome}
-use Rattle.opid.specs.Operations.{Operation}
-use Rattle.room_calls.specs.declared.call.Call.TheVariants.{Put}
+use Rattle.room_calls.specs.declared.call.Call.{Call}
 use Rattle.wire_json.specs.Internal.Handed.{ReadsOps, ReadsRest}
 use Rattle.wire_json.proofs.Handing.{put_rest}
 use Rattle.wire_json.proofs.handed.rest_of_put.Goals as goal
 
 pub returns-clause-told : goal.returns-clause-told
 returns-clause-told c =
-    subst (λ (xs : List Operation). ReadsRest (codes "put") c.args.reader.now (Put xs)) (sym c.new.ensures)
+    subst (λ (call : Call). ReadsRest (codes "put") c.args.reader.now call) (sym c.put_of.ensures)
     (put_rest c.args.reader.now c.take_key.new.self c.next_ops.new.reader c.in-Some.ops.items
     (c.take_key.ensures.yes c.if-not-take_key.false)
     (subst (λ o. IfSome o (λ ops. ReadsOps c.take_key.new.self ops.items c.next_ops.new.reader)) c.in-Some.is c.in_ok-ops.ensures.told)
