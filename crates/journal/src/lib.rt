@@ -6,10 +6,12 @@
 mod fault;
 mod free;
 pub mod laws;
+mod mark;
 mod reading;
 mod writing;
 
 pub use fault::JournalFault;
 pub use free::free_site;
+pub use mark::{Mark, append};
 pub use reading::{Journal, read_journal};
 pub use writing::write_lines;
