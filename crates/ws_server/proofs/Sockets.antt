@@ -11,7 +11,7 @@ use Rattle.line_engine.specs.declared.fault.ServeFault.TheVariants.{Read, Write,
 use Rattle.ws_server.specs.declared.hall.Hall.{Hall}
 use Rattle.shared_room.specs.Views.{View}
 use Rattle.ws_server.specs.Frames.{Side, AnswersFrame}
-use Rattle.ws_server.specs.Serving.{bytes_of, FailsToSend, ServesTurn, end_of_read, fault_of_send}
+use Rattle.ws_server.specs.Serving.{bytes_of, FailsToSend, RefusesSize, ServesTurn, end_of_read, fault_of_send}
 use Rattle.ws_server.specs.Sockets.{IsOfHandshake}
 
 -- not the fault of a read
@@ -45,15 +45,18 @@ serves_unsent reads sends told_before told_after hall first mid last old new mes
 pub serves_nothing : {C G : Type 0} (reads : C → Result Message Error → C → Type 0)
     (sends : C → Content → Result (Unit {0}) Error → C → Type 0) (told_before : G → ℕ → View → G → Type 0)
     (told_after : G → ℕ → G → Type 0) (hall : Hall)
-    (first last : C) (side : Side G) (why : Error) (end : Result Bool ServeFault)
-    → reads first (Err why) last → end ≡ end_of_read why
+    (first mid last : C) (side : Side G) (why : Error) (end : Result Bool ServeFault)
+    → reads first (Err why) mid → RefusesSize sends why mid last → end ≡ end_of_read why
     → ServesTurn reads sends told_before told_after hall first side last side end
-serves_nothing reads sends told_before told_after hall first last side ConnectionClosed end read is =
-    subst (λ e. ServesTurn reads sends told_before told_after hall first side last side e) (sym is) (read, refl)
-serves_nothing reads sends told_before told_after hall first last side OutOfMemory end read is =
-    subst (λ e. ServesTurn reads sends told_before told_after hall first side last side e) (sym is) (inl (OutOfMemory, read, refl, refl))
-serves_nothing reads sends told_before told_after hall first last side why end read is =
-    subst (λ e. ServesTurn reads sends told_before told_after hall first side last side e) (sym is) (why, read, refl, refl)
+serves_nothing reads sends told_before told_after hall first mid last side ConnectionClosed end read refused is =
+    subst (λ e. ServesTurn reads sends told_before told_after hall first side last side e) (sym is)
+    (subst (λ c. reads first (Err ConnectionClosed) c) (sym refused) read, refl)
+serves_nothing reads sends told_before told_after hall first mid last side OutOfMemory end read refused is =
+    subst (λ e. ServesTurn reads sends told_before told_after hall first side last side e) (sym is)
+    (inl (OutOfMemory, mid, read, refused, refl, refl))
+serves_nothing reads sends told_before told_after hall first mid last side why end read refused is =
+    subst (λ e. ServesTurn reads sends told_before told_after hall first side last side e) (sym is)
+    (why, mid, read, refused, refl, refl)
 
 -- the socket of a handshake, once its limits were set
 pub handed_over : {S : Type 0} (given limited : Socket S) → IsOfServer given

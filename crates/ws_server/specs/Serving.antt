@@ -1,11 +1,12 @@
 -- What one turn at a connection does: a message is read, and its answer sent; and what serving a connection to its end does, turn by
 -- turn, by what its reads and sends are alone. The rules are the server's own.
-use Rattle.std.specs.Prelude.{◌≡◌, ◌⊎◌, ℕ, zero, suc, Bool, true, false, List, Option, Some, None, Result, Ok, Err}
+use Rattle.std.specs.Prelude.{◌≡◌, ◌⊎◌, ℕ, zero, suc, Bool, true, false, List, Option, Some, None, Result, Ok, Err, []}
+use Rattle.tungstenite.specs.CloseCode.{close_code_of}
 use Rattle.tungstenite.specs.Content.{Content, text, binary, ping, pong, close}
 use Rattle.tungstenite.specs.Socket.{Socket, Reads, content_of}
 use Rattle.tungstenite.specs.declared.message.Message.{Message}
 use Rattle.tungstenite.specs.declared.error.Error.{Error}
-use Rattle.tungstenite.specs.declared.error.Error.TheVariants.{ConnectionClosed, OutOfMemory}
+use Rattle.tungstenite.specs.declared.error.Error.TheVariants.{ConnectionClosed, Capacity, OutOfMemory}
 use Rattle.shared_room.specs.declared.pass.Pass.{Pass}
 use Rattle.shared_room.specs.Views.{View}
 use Rattle.ws_server.specs.declared.conn.Conn.{Conn}
@@ -30,6 +31,12 @@ abbrev pub end_of_read : Error → Result Bool ServeFault
 end_of_read ConnectionClosed = Ok false
 end_of_read OutOfMemory = Err Memory
 end_of_read why = Err Read
+
+-- a read that gave no message is answered by nothing, but at a message above a limit one send was made, well or not, of a close frame
+-- that says so (RFC 6455, 7.4.1)
+abbrev pub RefusesSize : {C : Type 0} → (C → Content → Result (Unit {0}) Error → C → Type 0) → Error → C → C → Type 0
+RefusesSize sends (Capacity cause) mid last = (sent : Result (Unit {0}) Error) × sends mid (close (Some (close_code_of 1009, []))) sent last
+RefusesSize sends why mid last = last ≡ mid
 
 -- how a turn ends at a send that failed: with `Write` for all but want of memory
 abbrev pub fault_of_send : Error → ServeFault
@@ -69,9 +76,10 @@ module _ {C G : Type 0} (reads : C → Result Message Error → C → Type 0) (s
       × reads first (Ok message) mid × (bytes_of (content_of message) ≡ Some bytes)
       × AnswersFrame told_before hall old bytes answer made new × FailsToSend sends mid answer last why
 
-  -- a read gave no message, for a cause with which a turn ends so, and nothing was answered
+  -- a read gave no message, for a cause with which a turn ends so, and nothing was answered but that it was too large
   abbrev pub ReadsNothing : C → Side G → C → Side G → Result Bool ServeFault → Type 0
-  ReadsNothing first old last new end = (why : Error) × reads first (Err why) last × (end_of_read why ≡ end) × (new ≡ old)
+  ReadsNothing first old last new end =
+      (why : Error) × (mid : C) × reads first (Err why) mid × RefusesSize sends why mid last × (end_of_read why ≡ end) × (new ≡ old)
 
   -- one read gave a message, which was answered; or it told that the connection is closed. `Read` comes of a read alone, `Write` of
   -- a send alone

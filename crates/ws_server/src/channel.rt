@@ -24,7 +24,7 @@ pub trait Channel {
     fn read_once(&mut self) -> Result<Message, Error>
         ensures { reads self.old result self.new };
 
-    /// One send of the message. Takes what the connection's send takes.
+    /// One send of the message. A close is taken once, also where a read has failed. Takes what the connection's send takes.
     fn send_once(&mut self, message: Message) -> Result<(), Error>
         ensures { sends self.old (content_of message) result self.new };
 }
@@ -39,6 +39,9 @@ impl<S: Read + Write + Drop> Channel for WebSocket<S, NoMask> {
     }
 
     fn send_once(&mut self, message: Message) -> Result<(), Error> {
-        self.send(message)
+        match message {
+            Message::Close(frame) => self.close(frame),
+            message => self.send(message),
+        }
     }
 }
