@@ -13,4 +13,6 @@ mod looks;
 #[cfg(test)]
 mod memory;
 #[cfg(test)]
+mod sizes;
+#[cfg(test)]
 mod streams;
