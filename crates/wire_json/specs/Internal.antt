@@ -2,4 +2,5 @@
 -- these files; the view of a type may, which says what its fields stand for.
 pub mod Flat
 pub mod Handed
+pub mod Parted
 pub mod Written

@@ -49,7 +49,10 @@ pub(crate) fn put_of(alloc: Global, ops: Vec<Op>) -> Call
 }
 
 // The operations of the next value, a list of objects, of which no request has as many as it may have bytes: at most the first 65.
-fn next_ops(alloc: Global, reader: &mut PlainReader<'_>) -> Result<Option<Vec<Op>>, Refusal>
+pub(crate) fn next_ops(
+    alloc: Global,
+    reader: &mut PlainReader<'_>,
+) -> Result<Option<Vec<Op>>, Refusal>
     ensures told { IfOk result (λ r. IfSome r (λ ops. ReadsOps reader.old ops.items reader.new)) }
     ensures memory { IfErr result (λ e. e ≡ Memory) }
 {

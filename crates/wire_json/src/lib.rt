@@ -13,6 +13,7 @@ mod outcome_bytes;
 mod part;
 mod pieces;
 mod reading;
+mod spelled_part;
 mod tokens;
 mod writing;
 

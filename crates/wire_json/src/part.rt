@@ -4,6 +4,7 @@ ghost use Rattle.serde_json.specs.View.{view};
 ghost use Rattle.wire_json.specs.Part.{part_told, part_in, part_members, part_of};
 ghost use Rattle.operation_json.specs.Given.{Gives, same};
 
+use crate::spelled_part::read_spelled_part;
 use causal_clock::Op;
 use operation_json::{check_keys, read_items, read_list, read_number, read_text, read_value};
 use opid::{MAX_COUNT, Refusal};
@@ -17,10 +18,14 @@ use std::alloc::Global;
 /// run objects, and `r`, whose value is the text `ops`. Refused with the first of these that applies: `BadJson` where the bytes are no
 /// JSON text in UTF-8, `BadField` where the value is no object or has no text `r`, `UnknownKind` where `r` is another text,
 /// `BadField`, `BadSite` and `BadClock` as of a `put`, and `BadCount` above 64 operations. `Memory` may stand in the place of any
-/// answer. Takes time and memory in proportion to the bytes.
+/// answer. One that is spelled as `write_reply` spells it, but for spaces and escapes, is read byte by byte: that takes no memory but the
+/// part's. Takes time in proportion to the bytes, and else memory likewise.
 pub fn read_part(alloc: Global, bytes: &[u8]) -> Result<(u32, Operations), Refusal>
     ensures { Gives same result (part_told bytes.now) }
 {
+    if let Some((from, ops)) = read_spelled_part(alloc, bytes)? {
+        return part(from, ops);
+    }
     let value = read_value(alloc, bytes)?;
     read_value_part(alloc, &value)
 }
