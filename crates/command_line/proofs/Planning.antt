@@ -46,7 +46,7 @@ world_nothing name rows is none (Serve port site conns keep every names) h =
 -- `serve` with no port
 pub serve_no_port : (rows : List Row) → ((port : ℕ) → 1 ≤ port → ReadsTo 65535 (first_of (codes "port") rows) (Some port) → ⊥)
     → AsksNothing (Some (codes "serve", rows))
-serve_no_port rows none (Serve port site conns keep every names) (named, some, read, at, one, many, kept, turn, wait, all) = none port some read
+serve_no_port rows none (Serve port site conns keep every names) (_, some, read, _, _, _, _, _, _, _) = none port some read
 serve_no_port rows none (Lines site resume snapshot) h =
     absurd (two_names (codes "serve") (codes "serve") (codes "lines") 115 108 refl refl (λ e. omega (arith, e)) refl h.0)
 serve_no_port rows none (World sites) h =
@@ -68,7 +68,7 @@ serve_no_site rows none (TextOf version) h =
 -- with no number of connections
 pub serve_no_conns : (rows : List Row) → ((conns : ℕ) → 1 ≤ conns → ReadsTo 65536 (first_of (codes "conns") rows) (Some conns) → ⊥)
     → AsksNothing (Some (codes "serve", rows))
-serve_no_conns rows none (Serve port site conns keep every names) (named, some, read, at, one, many, kept, turn, wait, all) = none conns one many
+serve_no_conns rows none (Serve port site conns keep every names) (_, _, _, _, one, many, _, _, _, _) = none conns one many
 serve_no_conns rows none (Lines site resume snapshot) h =
     absurd (two_names (codes "serve") (codes "serve") (codes "lines") 115 108 refl refl (λ e. omega (arith, e)) refl h.0)
 serve_no_conns rows none (World sites) h =
@@ -79,7 +79,7 @@ serve_no_conns rows none (TextOf version) h =
 -- with no number of seconds
 pub serve_no_every : (rows : List Row) → ((every : ℕ) → 1 ≤ every → ReadsTo 3600 (first_of (codes "every") rows) (Some every) → ⊥)
     → AsksNothing (Some (codes "serve", rows))
-serve_no_every rows none (Serve port site conns keep every names) (named, some, read, at, one, many, kept, turn, wait, all) = none every turn wait
+serve_no_every rows none (Serve port site conns keep every names) (_, _, _, _, _, _, _, turn, wait, _) = none every turn wait
 serve_no_every rows none (Lines site resume snapshot) h =
     absurd (two_names (codes "serve") (codes "serve") (codes "lines") 115 108 refl refl (λ e. omega (arith, e)) refl h.0)
 serve_no_every rows none (World sites) h =
@@ -89,7 +89,7 @@ serve_no_every rows none (TextOf version) h =
 
 -- with no names
 pub serve_no_names : (rows : List Row) → all_of (codes "name") rows ≡ None → AsksNothing (Some (codes "serve", rows))
-serve_no_names rows none (Serve port site conns keep every names) (named, some, read, at, one, many, kept, turn, wait, all) = absurd (cc (sym none ∙ all))
+serve_no_names rows none (Serve port site conns keep every names) (_, _, _, _, _, _, _, _, _, all) = absurd (cc (sym none ∙ all))
 serve_no_names rows none (Lines site resume snapshot) h =
     absurd (two_names (codes "serve") (codes "serve") (codes "lines") 115 108 refl refl (λ e. omega (arith, e)) refl h.0)
 serve_no_names rows none (World sites) h =

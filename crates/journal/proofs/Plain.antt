@@ -1,5 +1,6 @@
 -- The text of a part has no LF: it is put together of decimal digits, fixed characters and texts in quotes, in which LF is escaped.
-use Rattle.std.proofs.Common.{◌≡◌, ◌≢◌, ℕ, zero, suc, ◌<◌, ◌^◌, ◌+◌, ◌%◌, Bool, true, ◌&&◌, ◌==◌, List, [], ◌∷◌, ◌++◌, Option, Some, None, map, codes}
+use Rattle.std.proofs.Common.{◌≡◌, ◌≢◌, ℕ, zero, suc, ◌<◌, ◌^◌, ◌+◌, ◌%◌, Bool, true, ◌&&◌, ◌==◌, List, [], ◌∷◌, ◌++◌, Option, Some, None}
+use Rattle.std.proofs.Common.{map, codes}
 use Rattle.std.proofs.Common.{decimal, refl, arith, inl, inr, eq-eqb}
 use Rattle.std.specs.Prelude.{not, encode_utf8_all}
 use Rattle.std.specs.List.{AllByRecursion}

@@ -1,5 +1,6 @@
 -- What a loop over the lines of a journal knows.
-use Rattle.std.proofs.Common.{◌≡◌, ℕ, ◌+◌, ◌-◌, ◌<◌, ◌≤◌, inl, inr, List, [], ◌∷◌, ◌++◌, length, take, drop, Ok, refl, sym, ap, ◌∙◌, subst, arith}
+use Rattle.std.proofs.Common.{◌≡◌, ℕ, ◌+◌, ◌-◌, ◌<◌, ◌≤◌, inl, inr, List, [], ◌∷◌, ◌++◌, length, take, drop, Ok, refl, sym, ap, ◌∙◌, subst}
+use Rattle.std.proofs.Common.{arith}
 use Rattle.std.proofs.Common.{append_assoc, append-nil, length-append, length-drop, zero-add, lit≤}
 use Rattle.std.proofs.Math.Seq.{take-append_seam, take-add}
 use Rattle.std.proofs.lemmas.List.{drop-drop, take-append-drop, length-take-le}
@@ -78,7 +79,8 @@ ended_more bytes at len line x =
     ∙ take-append_seam (take len rest ++ 10 ∷ []) (drop (len + 1) rest) in
     inr (
       take at bytes ++ take len rest,
-      take-add at (len + 1) bytes ∙ ap (λ (t : List ℕ). take at bytes ++ t) one ∙ sym (append_assoc (take at bytes) (take len rest) (10 ∷ [])),
+      take-add at (len + 1) bytes ∙ ap (λ (t : List ℕ). take at bytes ++ t) one
+          ∙ sym (append_assoc (take at bytes) (take len rest) (10 ∷ [])),
     )
 
 pub reads_more : (bytes : List ℕ) (at k len : ℕ) (line : List ℕ) (log ops log' : List Operation) → Reads bytes at k log

@@ -1,5 +1,6 @@
 -- The log that lines tell, one line after another.
-use Rattle.std.proofs.Common.{◌≡◌, ℕ, ◌+◌, ◌<◌, ◌≤◌, ◌^◌, List, [], ◌∷◌, ◌++◌, length, take, Result, Ok, Err, refl, sym, ap, ◌∙◌, subst, arith}
+use Rattle.std.proofs.Common.{◌≡◌, ℕ, ◌+◌, ◌<◌, ◌≤◌, ◌^◌, List, [], ◌∷◌, ◌++◌, length, take, Result, Ok, Err, refl, sym, ap, ◌∙◌, subst}
+use Rattle.std.proofs.Common.{arith}
 use Rattle.std.proofs.Common.{append_assoc, append-nil, length-append, eq-eqb, add-zero}
 use Rattle.std.specs.List.{AllByRecursion}
 use Rattle.std.proofs.Math.Seq.{take-append_seam}
@@ -12,7 +13,7 @@ use Rattle.operation_json.specs.Members.{◌>>=◌}
 use Rattle.operation_json.specs.PackedOperations.{concatenated}
 use Rattle.wire_json.specs.Text.{text}
 use Rattle.wire_json.proofs.Replies.{part_reads_back}
-use Rattle.journal.specs.Journal.{IsPart, part_from, line_told, log_told, whole_lines, lines_of}
+use Rattle.journal.specs.Journal.{FitsLine, part_from, line_told, log_told, whole_lines, lines_of}
 use Rattle.journal.proofs.Cutting.{whole-line}
 use Rattle.journal.proofs.Plain.{part_line}
 
@@ -83,7 +84,8 @@ told_first n line lines total e = go (line_told n line) refl e
     inner ops (Ok ys) is f = (ops, ys, is, cc)
     inner ops (Err g) is f = cc
 
-    go : (r : Result (List Operation) Refusal) → line_told n line ≡ r → (r >>= λ ops. behind_log ops (log_told (n + length ops) lines)) ≡ Ok total
+    go : (r : Result (List Operation) Refusal) → line_told n line ≡ r
+        → (r >>= λ ops. behind_log ops (log_told (n + length ops) lines)) ≡ Ok total
         → (ops : List Operation) × (ys : List Operation) × (line_told n line ≡ Ok ops) × (ops ++ ys ≡ total)
     go (Ok ops) is f = inner ops (log_told (n + length ops) lines) is f
     go (Err g) is f = cc
@@ -105,11 +107,11 @@ no_part front ys zs log e lawful few not =
 -- ---- the lines of parts
 
 -- the text of a part tells it
-part_told_back : (n : ℕ) (ops : List Operation) → n < 2 ^ 32 → IsPart ops → line_told n (text (Ops n ops)) ≡ Ok ops
+part_told_back : (n : ℕ) (ops : List Operation) → n < 2 ^ 32 → FitsLine ops → line_told n (text (Ops n ops)) ≡ Ok ops
 part_told_back n ops h p =
     ap (λ r. r >>= part_from n) (part_reads_back n ops (h, p.in_range) p.few) ∙ rw (eq-eqb n n refl) refl
 
-pub parts_told : (n : ℕ) (parts : List (List Operation)) → AllByRecursion IsPart parts → n + length (concatenated parts) ≤ 131072
+pub parts_told : (n : ℕ) (parts : List (List Operation)) → AllByRecursion FitsLine parts → n + length (concatenated parts) ≤ 131072
     → log_told n (whole_lines (lines_of n parts)) ≡ Ok (concatenated parts)
 parts_told n [] h few = refl
 parts_told n (p ∷ ps) h few =

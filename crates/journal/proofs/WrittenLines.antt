@@ -7,7 +7,7 @@ use Rattle.opid.specs.Lawful.{IsLawful}
 use Rattle.room_calls.specs.declared.reply.Reply.TheVariants.{Ops}
 use Rattle.operation_json.specs.PackedOperations.{concatenated}
 use Rattle.wire_json.specs.Text.{text}
-use Rattle.journal.specs.Journal.{IsEnded, IsPart, AreLinesOf, StandsFor, whole_lines, lines_of, log_told}
+use Rattle.journal.specs.Journal.{IsEnded, FitsLine, AreLinesOf, StandsFor, whole_lines, lines_of, log_told}
 use Rattle.journal.proofs.Cutting.{whole-append, ended-append}
 use Rattle.journal.proofs.Telling.{told_both, parts_told}
 
@@ -38,15 +38,15 @@ concatenated-push [] part = append-nil part
 concatenated-push (p ∷ ps) part =
     ap (λ (t : List Operation). p ++ t) (concatenated-push ps part) ∙ sym (append_assoc p (concatenated ps) part)
 
-all-push : (parts : List (List Operation)) (part : List Operation) → AllByRecursion IsPart parts → IsPart part
-    → AllByRecursion IsPart (parts ++ part ∷ [])
+all-push : (parts : List (List Operation)) (part : List Operation) → AllByRecursion FitsLine parts → FitsLine part
+    → AllByRecursion FitsLine (parts ++ part ∷ [])
 all-push [] part h k = (k, tt)
 all-push (p ∷ ps) part h k = (h.0, all-push ps part h.1 k)
 
 pub no_lines : (n : ℕ) (ops : List Operation) (bytes : List ℕ) → ops ≡ [] → bytes ≡ [] → AreLinesOf n ops bytes
 no_lines n ops bytes e f = record { parts = []; whole = sym e; each = tt; written = f }
 
-pub lines_more : (n : ℕ) (ops part ops' : List Operation) (m : ℕ) (old new : List ℕ) → AreLinesOf n ops old → IsPart part
+pub lines_more : (n : ℕ) (ops part ops' : List Operation) (m : ℕ) (old new : List ℕ) → AreLinesOf n ops old → FitsLine part
     → m ≡ n + length ops → new ≡ old ++ line_of m part → ops' ≡ ops ++ part → AreLinesOf n ops' new
 lines_more n ops part ops' m old new a p at is grown =
     let place : m ≡ n + length (concatenated a.parts) = at ∙ ap (λ (xs : List Operation). n + length xs) (sym a.whole) in

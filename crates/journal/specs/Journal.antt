@@ -1,6 +1,7 @@
 -- Which log a journal's bytes stand for: lines of JSON (RFC 8259), each an object that tells a part of the log, one after another. The
 -- format is the server's own.
-use Rattle.std.specs.Prelude.{◌≡◌, ◌≢◌, ◌≤◌, ◌+◌, ◌-◌, ◌==◌, ◌⊎◌, ℕ, if◌then◌else◌, Result, Ok, Err, List, [], ◌∷◌, ◌++◌, length, take, drop}
+use Rattle.std.specs.Prelude.{◌≡◌, ◌≢◌, ◌≤◌, ◌+◌, ◌-◌, ◌==◌, ◌⊎◌, ℕ, if◌then◌else◌, Result, Ok, Err, List, [], ◌∷◌, ◌++◌, length, take}
+use Rattle.std.specs.Prelude.{drop}
 use Rattle.std.specs.Prelude.{All}
 use Rattle.std.specs.List.{AllByRecursion}
 use Rattle.opid.specs.declared.refusal.Refusal.{Refusal}
@@ -98,7 +99,7 @@ lines_of n [] = []
 lines_of n (part ∷ parts) = text (Ops n part) ++ 10 ∷ lines_of (n + length part) parts
 
 -- 1 to 64 operations, which are within their ranges
-pub record IsPart (ops : List Operation) : Type 0 where
+pub record FitsLine (ops : List Operation) : Type 0 where
   pub some : 1 ≤ length ops
   pub few : length ops ≤ 64
   pub in_range : AllByRecursion IsOperationInRange ops
@@ -107,5 +108,5 @@ pub record IsPart (ops : List Operation) : Type 0 where
 pub record AreLinesOf (n : ℕ) (ops : List Operation) (bytes : List ℕ) : Type 0 where
   pub parts : List (List Operation)
   pub whole : concatenated parts ≡ ops
-  pub each : AllByRecursion IsPart parts
+  pub each : AllByRecursion FitsLine parts
   pub written : bytes ≡ lines_of n parts

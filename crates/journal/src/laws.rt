@@ -8,7 +8,8 @@ ghost use Rattle.journal.specs.Journal.{IsEnded, EndsLines, StandsFor, AreLinesO
 /// log are appended to whole lines that stand for it, all are whole lines, and stand for the log with these operations.
 pub fn journals_grow()
     ensures empty { StandsFor [] [] }
-    ensures whole { (n : ℕ) (bytes : List ℕ) (log : List Operation) → EndsLines n bytes → StandsFor bytes log → StandsFor (take n bytes) log }
+    ensures whole { (n : ℕ) (bytes : List ℕ) (log : List Operation) → EndsLines n bytes → StandsFor bytes log
+        → StandsFor (take n bytes) log }
     ensures grown { (bytes more : List ℕ) (log ops : List Operation) → IsEnded bytes → StandsFor bytes log
         → AreLinesOf (length log) ops more → IsLawful (log ++ ops) → length (log ++ ops) ≤ 131072 → StandsFor (bytes ++ more) (log ++ ops) }
     ensures ended { (n : ℕ) (bytes more : List ℕ) (ops : List Operation) → IsEnded bytes → AreLinesOf n ops more → IsEnded (bytes ++ more) }

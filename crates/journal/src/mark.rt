@@ -23,17 +23,14 @@ pub struct Mark {
 ///
 /// An error is `OutOfMemory`, `InvalidInput` where there would be more than 131,072 operations, or what the writer failed with; then some
 /// bytes of the lines may be written. Takes time and memory in proportion to the lines.
-pub fn append<W: Write>(
-    alloc: Global,
-    mark: Mark,
-    ops: &[Op],
-    output: &mut W,
-) -> io::Result<Mark>
+pub fn append<W: Write>(alloc: Global, mark: Mark, ops: &[Op], output: &mut W) -> io::Result<Mark>
     ensures appended { IfOk result (λ next. (lines : List ℕ) × AreLinesOf mark.version ops.now lines
         × Appends (W.contents output.old) (W.contents output.new) lines
         × (next.version ≡ mark.version + length ops.now) × (next.length ≡ min (mark.length + length lines) (2 ^ 64 - 1))) }
 {
-    if mark.version as usize > MAX_OPERATIONS || ops.len() > MAX_OPERATIONS - mark.version as usize {
+    if mark.version as usize > MAX_OPERATIONS
+        || ops.len() > MAX_OPERATIONS - mark.version as usize
+    {
         return Err(Error::from(ErrorKind::InvalidInput));
     }
     let Ok(lines) = write_lines(alloc, mark.version, ops) else {

@@ -60,7 +60,8 @@ fn line_end(bytes: &[u8]) -> Option<usize>
 
 // Appends the operations that a line tells, which are to be the next of the log.
 fn append_line(alloc: Global, doc: &mut Doc, line: &[u8]) -> Result<(), Refusal>
-    ensures grown { OnOk result ((ops : List Operation) × (line_told (length doc.old.log) line.now ≡ Ok ops) × (doc.new.log ≡ doc.old.log ++ ops)) }
+    ensures grown { OnOk result ((ops : List Operation) × (line_told (length doc.old.log) line.now ≡ Ok ops)
+        × (doc.new.log ≡ doc.old.log ++ ops)) }
     ensures lawful { OnOk result (IsLawful doc.new.log) }
     ensures few { OnOk result (length doc.new.log ≤ 131072) }
     ensures unreserved { OnOk result (doc.old.room ≡ 0 → doc.new.room ≡ 0) }

@@ -1,5 +1,6 @@
 -- The calls that tokens ask for, key by key.
-use Rattle.std.proofs.Common.{◌≡◌, ◌^◌, ℕ, List, [], ◌∷◌, Some, Ok, true, false, refl, sym, subst, codes, lt-ltb, take, Option, None, Result, Err}
+use Rattle.std.proofs.Common.{◌≡◌, ◌^◌, ℕ, List, [], ◌∷◌, Some, Ok, true, false, refl, sym, subst, codes, lt-ltb, take, Option, None}
+use Rattle.std.proofs.Common.{Result, Err}
 use Rattle.std.specs.Prelude.{IfSome, IfOk}
 use Rattle.std.specs.Str.{chars, IsUtf8}
 use Rattle.json.specs.Lex.{tokens}

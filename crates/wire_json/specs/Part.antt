@@ -9,8 +9,8 @@ use Rattle.operation_json.specs.Members.{◌>>=◌, only_keys, number_at, text_a
 use Rattle.operation_json.specs.PackedOperations.{operations_at}
 
 -- a part has at most 64 operations, of which the first has this number in the log
-abbrev pub part_of : ℕ → List Operation → Result (ℕ × List Operation) Refusal
-part_of n ops = if nat_le (length ops) 64 then Ok (n, ops) else Err BadCount
+abbrev pub part_at : ℕ → List Operation → Result (ℕ × List Operation) Refusal
+part_at n ops = if nat_le (length ops) 64 then Ok (n, ops) else Err BadCount
 
 -- the number of the part's first operation, and the part
 abbrev pub part_members : Data → Result (ℕ × List Operation) Refusal
@@ -18,7 +18,7 @@ part_members d = do
   keys ← only_keys (codes "from" ∷ codes "ops" ∷ codes "r" ∷ []) d
   n ← number_at (codes "from") d
   ops ← operations_at (codes "ops") d
-  part_of n ops
+  part_at n ops
 
 -- the part that an object of this kind tells
 abbrev pub part_named : List ℕ → Data → Result (ℕ × List Operation) Refusal

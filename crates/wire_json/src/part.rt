@@ -1,7 +1,7 @@
 //! Reading a part of a log, as an `ops` reply tells it.
 ghost use Rattle.std.specs.Prelude.{◌≡◌};
 ghost use Rattle.serde_json.specs.View.{view};
-ghost use Rattle.wire_json.specs.Part.{part_told, part_in, part_members, part_of};
+ghost use Rattle.wire_json.specs.Part.{part_told, part_in, part_members, part_at};
 ghost use Rattle.operation_json.specs.Given.{Gives, same};
 
 use crate::spelled_part::read_spelled_part;
@@ -50,7 +50,7 @@ fn read_members(alloc: Global, value: &Value) -> Result<(u32, Operations), Refus
 
 // The part of these operations, if they aren't too many.
 fn part(from: u32, ops: Vec<Op>) -> Result<(u32, Operations), Refusal>
-    ensures { result ≡ part_of from ops.items }
+    ensures { result ≡ part_at from ops.items }
 {
     if ops.len() > MAX_COUNT as usize {
         return Err(Refusal::BadCount);

@@ -1,5 +1,6 @@
 -- Replicas that become rooms one after another, and rooms over empty logs.
-use Rattle.std.proofs.Common.{◌≡◌, ℕ, zero, suc, ◌+◌, List, [], ◌∷◌, length, map, drop, replicate, Some, slice_get, refl, ap, sym, ◌∙◌, arith}
+use Rattle.std.proofs.Common.{◌≡◌, ℕ, zero, suc, ◌+◌, List, [], ◌∷◌, length, map, drop, replicate, Some, slice_get, refl, ap, sym, ◌∙◌}
+use Rattle.std.proofs.Common.{arith}
 use Rattle.replica.specs.Deliver.{ReplicaState}
 use Rattle.room.specs.Machine.{room_over, empty_room}
 
@@ -19,7 +20,8 @@ abbrev pub empty_replica : ℕ → ReplicaState
 empty_replica site = record { site = site; log = []; held = []; room = 0 }
 
 over_empty : {A : Type 0} (site : ℕ) (asked : List A)
-    → map (λ (r : ReplicaState). room_over r.site r.log) (replicate (length asked) (empty_replica site)) ≡ map (λ name. empty_room site) asked
+    → map (λ (r : ReplicaState). room_over r.site r.log) (replicate (length asked) (empty_replica site))
+    ≡ map (λ name. empty_room site) asked
 over_empty site [] = refl
 over_empty site (name ∷ names) = ap (λ l. empty_room site ∷ l) (over_empty site names)
 

@@ -6,7 +6,7 @@ use Rattle.opid.specs.Operations.{Operation}
 use Rattle.json_bytes.specs.Internal.Coming.{value_of_tokens}
 use Rattle.json_bytes.specs.Plain.{Comes}
 use Rattle.operation_json.specs.Members.{json_of}
-use Rattle.wire_json.specs.Part.{part_in, part_of}
+use Rattle.wire_json.specs.Part.{part_in, part_at}
 use Rattle.wire_json.specs.Internal.Handed.{ReadsField}
 
 -- of the tokens `old` the bracket that opens an object and its first operation's number come first, and `new` are the rest
@@ -27,10 +27,10 @@ pub record ClosesPart (old : List Token) : Type 0 where
 pub record ReadsPart (all : List Token) (n : ℕ) (ops : List Operation) : Type 0 where
   pub value : Data
   pub is : value_of_tokens all ≡ Some value
-  pub tells : part_in value ≡ part_of n ops
+  pub tells : part_in value ≡ part_at n ops
 
 -- the bytes are such a value
 pub record TellsPart (bytes : List ℕ) (n : ℕ) (ops : List Operation) : Type 0 where
   pub value : Data
   pub is : json_of bytes ≡ Ok value
-  pub tells : part_in value ≡ part_of n ops
+  pub tells : part_in value ≡ part_at n ops

@@ -13,7 +13,8 @@ returns c =
     let replays : R.state ≡ state_of R.opening R.history =
     subst (λ (a : Account). a.state ≡ state_of a.opening a.history) c.deref.ensures (sym c.history.ensures.consistent.replays) in
     let log : c.doc-doc.result.now.log ≡ (state_of R.opening R.history).log =
-    c.doc-doc.ensures.value ∙ c.replica.ensures.log ∙ ap (λ (a : Account). a.state.log) c.deref-2.ensures ∙ ap (λ (S : State). S.log) replays in
+    c.doc-doc.ensures.value ∙ c.replica.ensures.log ∙ ap (λ (a : Account). a.state.log) c.deref-2.ensures
+    ∙ ap (λ (S : State). S.log) replays in
     let whole = rest_of_log c.doc-doc.result.now.log c.in_ok-ops.ops.items c.args.after c.version-version.result c.min.result
     c.version-version.ensures.value c.min.ensures c.in_ok-ops.ensures in
     record {

@@ -24,7 +24,8 @@ returns-clause-pass g c =
 pub returns-clause-looked : goal.returns-clause-looked
 returns-clause-looked g c =
     let same = same_length (rooms_of c.args.self.now) c.args.pass.now.passes.items c.requires.pass in
-    let read = slice_get_read c.args.pass.now.passes.items _ c.args.at c.index_mut.result.now refl (omega arith) c.index_mut.ensures.value in
+    let read = slice_get_read c.args.pass.now.passes.items _ c.args.at c.index_mut.result.now refl (omega arith)
+    c.index_mut.ensures.value in
     let told = c.look.ensures in (
       c.room.result.now,
       c.index_mut.result.now,
