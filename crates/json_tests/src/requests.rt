@@ -169,17 +169,19 @@ fn requests_without_texts(rt: HostRuntime) -> Result<(), Fail> {
     Ok(())
 }
 
-// So many characters of two bytes.
-fn text_of(alloc: Global, length: u32) -> Result<String, AllocError> {
+// The character so many times.
+fn text_of(alloc: Global, ch: char, length: u32) -> Result<String, AllocError> {
     let mut text = String::new(alloc);
     for _ in 0..length {
-        text.push('\u{e9}')?;
+        text.push(ch)?;
     }
     Ok(text)
 }
 
-fn insertion_is_read(alloc: Global, length: u32) -> Result<bool, Refusal> {
-    let text = text_of(alloc, length)?;
+// Whether the call of an insertion of such a text has it up to its 65th character.
+fn insertion_is_read(alloc: Global, ch: char, length: u32) -> Result<bool, Refusal> {
+    let text = text_of(alloc, ch, length)?;
+    let kept = text_of(alloc, ch, length.min(65))?;
     let member = format!(in alloc; "\"x\":\"{text}\"")?;
     asks(
         alloc,
@@ -196,7 +198,7 @@ fn insertion_is_read(alloc: Global, length: u32) -> Result<bool, Refusal> {
             n: 2,
             v: 70_000,
             k: 5,
-            x: Characters::new(text),
+            x: Characters::new(kept),
         },
     )
 }
@@ -204,9 +206,22 @@ fn insertion_is_read(alloc: Global, length: u32) -> Result<bool, Refusal> {
 // Of more than 64 characters too, which the room refuses.
 #[test]
 fn insertions_of_every_length(rt: HostRuntime) -> Result<(), Fail> {
-    let mut all = insertion_is_read(rt.alloc(), 200)?;
-    for length in 0..66 {
-        all &= insertion_is_read(rt.alloc(), length)?;
+    let mut all = insertion_is_read(rt.alloc(), '\u{e9}', 200)?;
+    for length in 0..67 {
+        all &= insertion_is_read(rt.alloc(), '\u{e9}', length)?;
+    }
+    assert!(rt; all);
+    Ok(())
+}
+
+// Characters of one byte and of four, up to what a request has room for.
+#[test]
+fn insertions_that_are_cut(rt: HostRuntime) -> Result<(), Fail> {
+    let mut all = insertion_is_read(rt.alloc(), 'a', 65_000)?;
+    all &= insertion_is_read(rt.alloc(), '\u{1f600}', 16_000)?;
+    for length in 64..67 {
+        all &= insertion_is_read(rt.alloc(), 'a', length)?;
+        all &= insertion_is_read(rt.alloc(), '\u{1f600}', length)?;
     }
     assert!(rt; all);
     Ok(())
@@ -259,7 +274,7 @@ fn told_singly(alloc: Global, count: u32) -> Result<String, AllocError> {
 
 // The list that tells them as a run, of which there are two at least.
 fn told_as_a_run(alloc: Global, count: u32) -> Result<String, AllocError> {
-    let text = text_of(alloc, count)?;
+    let text = text_of(alloc, '\u{e9}', count)?;
     format!(in alloc;
         "\"ops\":[{{\"c\":[[20,1]],\"k\":\"r\",\"p\":null,\"s\":20,\"x\":\"{text}\"}}]"
     )
@@ -320,7 +335,7 @@ fn are_refused(alloc: Global) -> Result<bool, AllocError> {
     ] {
         all &= is_refused(alloc, text, why);
     }
-    let long = text_of(alloc, 32_769)?;
+    let long = text_of(alloc, '\u{e9}', 32_769)?;
     Ok(all && is_refused(alloc, long.as_str(), Refusal::TooLong))
 }
 
