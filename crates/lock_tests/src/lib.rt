@@ -14,6 +14,8 @@ mod lines;
 #[cfg(test)]
 mod locks;
 #[cfg(test)]
+mod looks;
+#[cfg(test)]
 mod shared;
 #[cfg(test)]
 mod tries;
