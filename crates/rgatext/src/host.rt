@@ -1,23 +1,41 @@
-//! Serves rooms over WebSockets on loopback, a thread for each connection.
-ghost use Rattle.std.specs.Prelude.{◌≡◌, ◌↔◌, false, Err};
+//! Serves rooms over WebSockets on loopback: a thread for each connection, and one that looks at the rooms meanwhile.
+ghost use Rattle.std.specs.Prelude.{◌≡◌, ◌↔◌, false, Err, IfOk};
 ghost use Rattle.std.specs.Thread.{IsSync};
 ghost use Rattle.ws_server.specs.Halls.{IsHallPassOf};
 ghost use Rattle.ws_server.specs.Names.{names_fit};
 
+use crate::rooms::{Opened, open_rooms};
+use crate::watch::{Ended, watch};
 use commands::Stop;
 use line_engine::ServeFault;
 use log::{Log, warn};
 use opid::{Refusal, Site};
 use std::alloc::Global;
+use std::fs::{File, Files};
 use std::io::Print;
 use std::net::{Net, TcpListener, TcpStream};
 use std::sync::{Mutex, Wait};
 use std::thread;
 use std::thread::Threads;
-use ws_server::{Gate, Hall, HallPass, serve_socket};
+use std::time::{Clock, Duration};
+use ws_server::{Gate, Hall, HallPass, names_fit, serve_socket};
 
 // How many calls a connection may make in each room.
 const DRAWS: u64 = 2_097_152;
+
+// How often the rooms are looked at at most: each second for more than 30,000 years.
+const LOOKS: u64 = 1 << 40;
+
+/// What `serve` is to do, as the plan tells it.
+#[derive(Clone, Copy)]
+pub(crate) struct Serving<'a> {
+    pub(crate) port: u16,
+    pub(crate) site: Option<Site>,
+    pub(crate) conns: u32,
+    pub(crate) keep: Option<&'a str>,
+    pub(crate) every: u32,
+    pub(crate) names: &'a [String],
+}
 
 // A gate that lets everything pass.
 #[derive(Drop)]
@@ -56,16 +74,21 @@ fn serve<R: Wait>(
 }
 
 // The next connection, which sends what it has at once: a reply that waits to be longer would hold up a client that
-// sends many requests before it reads.
-fn accept(listener: &TcpListener) -> Result<TcpStream, Stop>
+// sends many requests before it reads. One that can't be had is warned of.
+fn accept<R: Log>(rt: &R, listener: &TcpListener) -> Result<TcpStream, Stop>
     ensures fits { (result ≡ Err (Stop.Refused Refusal.BadField)) → ⊥ }
 {
-    let Ok((stream, _)) = listener.accept() else {
-        return Err(Stop::Socket);
-    };
-    // No answer waits for another (docs/decisions, P15). Where this fails the other side has gone, as the first read will tell.
-    let _ = stream.set_nodelay(true);
-    Ok(stream)
+    match listener.accept() {
+        Ok((stream, _)) => {
+            // No answer waits for another (docs/decisions, P15). Where this fails the other side has gone, as the first read will tell.
+            let _ = stream.set_nodelay(true);
+            Ok(stream)
+        }
+        Err(why) => {
+            warn!(rt; "no further connection is accepted: {why}");
+            Err(Stop::Socket)
+        }
+    }
 }
 
 // A listener at the port, once it was told of.
@@ -84,10 +107,23 @@ fn listen<R: Net<Listener = TcpListener, Stream = TcpStream> + Print>(
     }
 }
 
+// Tells which site the rooms are opened at, where they are kept.
+fn tell_site<R: Print>(rt: &R, serving: &Serving<'_>, site: Site) -> Result<(), Stop>
+    ensures fits { (result ≡ Err (Stop.Refused Refusal.BadField)) → ⊥ }
+{
+    if serving.keep.is_none() {
+        return Ok(());
+    }
+    match println!(rt; "site {}", site.number()) {
+        Ok(()) => Ok(()),
+        Err(_) => Err(Stop::Fault(ServeFault::Write)),
+    }
+}
+
 // Serves so many connections, each by a thread, until all have ended. Once the last is accepted, or one can't be had,
-// nobody listens any more (docs/decisions, P17). A thread's handle is given up at once, so that a thread that has ended leaves nothing
-// behind (docs/decisions, P16).
-fn serve_all<R: Net<Listener = TcpListener, Stream = TcpStream> + Threads + Wait + Sync>(
+// nobody listens any more (docs/decisions, P17), which is warned of. A thread's handle is given up at once, so that a thread that has
+// ended leaves nothing behind (docs/decisions, P16).
+fn serve_all<R: Net<Listener = TcpListener, Stream = TcpStream> + Threads + Wait + Log + Sync>(
     rt: &R,
     alloc: Global,
     hall: &Hall,
@@ -107,7 +143,7 @@ fn serve_all<R: Net<Listener = TcpListener, Stream = TcpStream> + Threads + Wait
             ensures { (result ≡ Err (Stop.Refused Refusal.BadField)) → ⊥ }
         {
             for n in 0..conns {
-                let stream = accept(&listener)?;
+                let stream = accept(rt, &listener)?;
                 let given = match hall.split(alloc, &mut pass, DRAWS) {
                     Ok(given) => given,
                     Err(why) => return Err(Stop::of(why)),
@@ -124,30 +160,99 @@ fn serve_all<R: Net<Listener = TcpListener, Stream = TcpStream> + Threads + Wait
                     return Err(Stop::Socket);
                 }
             }
+            warn!(rt; "the last of {conns} connections is accepted: nobody listens any more");
             Ok(())
         },
     )
 }
 
-/// Serves a room for each name on port `port` of 127.0.0.1, prints `listening` and the port once it listens, accepts
-/// `conns` connections, waits for all and ends. Takes a thread for each connection that is there, and a few bytes for each
-/// that has ended.
-///
-/// A connection's fault ends it alone, and is warned of at the end, in order of acceptance. Names that don't fit are
-/// refused with `BadField`; a listener, a connection or a thread that can't be had ends it with `Socket`, once the
-/// connections that were accepted have ended.
-pub fn host<
-    R: Net<Listener = TcpListener, Stream = TcpStream> + Threads + Wait + Print + Log + Sync,
->(rt: &R, alloc: Global, port: u16, site: Site, conns: u32, names: &[String]) -> Result<(), Stop>
-    ensures unfit { (names_fit names.now ≡ false) ↔ (result ≡ Err (Stop.Refused Refusal.BadField)) }
+// Serves connections until all have ended, and looks at the rooms meanwhile and once more then.
+fn serve_watched<
+    R: Net<Listener = TcpListener, Stream = TcpStream> + Clock + Threads + Wait + Log + Sync,
+>(
+    rt: &R,
+    alloc: Global,
+    opened: Opened,
+    listener: TcpListener,
+    serving: &Serving<'_>,
+    ends: &Ends,
+) -> Result<(), Stop>
+    requires { IsHallPassOf opened.hall opened.pass }
+    ensures fits { (result ≡ Err (Stop.Refused Refusal.BadField)) → ⊥ }
 {
-    let (hall, pass) = match Hall::new(alloc, site, names) {
-        Ok(made) => made,
+    let Opened {
+        hall,
+        mut pass,
+        watched,
+        site: _,
+        lock,
+    } = opened;
+    let watching = match hall.split(alloc, &mut pass, LOOKS) {
+        Ok(watching) => watching,
         Err(why) => return Err(Stop::of(why)),
     };
-    let listener = listen(rt, port)?;
+    let every = Duration::from_secs(serving.every as u64);
+    let conns = serving.conns;
+    let (hall, ended) = (&hall, &Ended::new());
+    let (is_whole, served) = thread::join(
+        rt,
+        move ||
+            requires { IsSync R.row × IsHallPassOf hall.now watching }
+        { watch(rt, alloc, hall, watching, watched, every, ended) },
+        move || -> Result<(), Stop>
+            requires { IsSync R.row × IsHallPassOf hall.now pass }
+            ensures { (result ≡ Err (Stop.Refused Refusal.BadField)) → ⊥ }
+        {
+            let served = serve_all(rt, alloc, hall, pass, listener, conns, ends);
+            ended.tell(rt);
+            served
+        },
+    );
+    drop(lock);
+    served?;
+    if is_whole {
+        Ok(())
+    } else {
+        Err(Stop::Fault(ServeFault::Write))
+    }
+}
+
+/// Serves a room for each name on the port of 127.0.0.1, prints `listening` and the port once it listens, accepts so many
+/// connections, waits for all and ends. With a folder, each room opens over what its file there stands for, `site` and its number are
+/// printed next, and what a room's log gains goes to its file each `every` seconds and at the end. Takes a thread for each connection
+/// that is there and one more, and a few bytes for each connection that has ended.
+///
+/// A connection's fault ends it alone, and is warned of at the end, in order of acceptance; a limit that comes near, a last connection,
+/// and a file that can't be written are warned of when they are met. Names that don't fit are refused with `BadField`, a kept log that
+/// has operations of the site with `SiteUsed`, and a file that stands for no log with `BadSnapshot`; `Files` where a file can't be had;
+/// a listener, a connection or a thread that can't be had ends it with `Socket`, once the connections that were accepted have ended;
+/// and the last write to a file that fails with `Write`.
+pub(crate) fn host<
+    R: Net<Listener = TcpListener, Stream = TcpStream>
+        + Files<File = File>
+        + Clock
+        + Threads
+        + Wait
+        + Print
+        + Log
+        + Sync,
+>(rt: &R, alloc: Global, serving: &Serving<'_>) -> Result<(), Stop>
+    ensures unfit { (names_fit serving.now.names.now ≡ false) ↔ (result ≡ Err (Stop.Refused Refusal.BadField)) }
+{
+    if !names_fit(serving.names) {
+        return Err(Stop::Refused(Refusal::BadField));
+    }
+    let opened = open_rooms(rt, alloc, serving.keep, serving.site, serving.names)?;
+    let listener = listen(rt, serving.port)?;
+    tell_site(rt, serving, opened.site)?;
     let ends = Mutex::new(Vec::new(alloc));
-    serve_all(rt, alloc, &hall, pass, listener, conns, &ends)?;
+    serve_watched(rt, alloc, opened, listener, serving, &ends)?;
+    tell_ends(rt, ends);
+    Ok(())
+}
+
+// Warns of each connection that ended with a fault.
+fn tell_ends<R: Log>(rt: &R, ends: Ends) {
     let mut n = 0u32;
     for end in ends.into_inner() {
         n = n.saturating_add(1);
@@ -155,5 +260,4 @@ pub fn host<
             warn!(rt; "connection {n} {fault}");
         }
     }
-    Ok(())
 }

@@ -4,12 +4,14 @@
 ghost use Rattle.commands.specs.Plays.{IsPlayed};
 
 mod host;
+mod kept;
+mod rooms;
+mod watch;
 
 use command_line::plan;
 use commands::{Ending, Stop, play};
-use host::host;
+use host::{Serving, host};
 use line_engine::Counted;
-use opid::Site;
 use plans::{Plan, PlanFault};
 use std::alloc::AllocError;
 use std::process::ExitCode;
@@ -60,14 +62,6 @@ fn tell(rt: &HostRuntime, ending: Ending) -> ExitCode {
     ExitCode::from(ending.status())
 }
 
-// The site of rooms for which none is asked.
-fn first_site() -> Site {
-    match Site::new(0) {
-        Ok(site) => site,
-        Err(_) => unreachable!(),
-    }
-}
-
 fn main(rt: HostRuntime) -> ExitCode {
     let plan = match asked(&rt) {
         Ok(plan) => plan,
@@ -78,16 +72,20 @@ fn main(rt: HostRuntime) -> ExitCode {
             port,
             site,
             conns,
+            keep,
+            every,
             names,
-            ..
-        } => host(
-            &rt,
-            rt.alloc(),
-            *port,
-            site.unwrap_or(first_site()),
-            *conns,
-            names,
-        ),
+        } => {
+            let serving = Serving {
+                port: *port,
+                site: *site,
+                conns: *conns,
+                keep: keep.as_ref().map(|folder| folder.as_str()),
+                every: *every,
+                names,
+            };
+            host(&rt, rt.alloc(), &serving)
+        }
         _ => play_streams(&rt, &plan),
     };
     tell(&rt, Ending::of(ran))
