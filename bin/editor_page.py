@@ -7,6 +7,7 @@ import random
 import socket
 import subprocess
 import sys
+import tempfile
 import threading
 import time
 
@@ -33,14 +34,15 @@ class Pages(http.server.SimpleHTTPRequestHandler):
 
 
 class Server:
-    """`rgatext serve`, which may be killed and started anew at the same port."""
+    """`rgatext serve`, which may be killed and started anew at the same port, and keeps its rooms in a folder if there is one."""
 
-    def __init__(self, *rooms):
-        self.rooms, self.port = rooms, free_port()
+    def __init__(self, *rooms, folder=None):
+        self.rooms, self.port, self.folder = rooms, free_port(), folder
         self.start()
 
     def start(self, site=0):
-        words = ["serve", "--port", str(self.port), "--site", str(site), *self.rooms]
+        how = ["--keep", self.folder, "--every", "1"] if self.folder else ["--site", str(site)]
+        words = ["serve", "--port", str(self.port), *how, *self.rooms]
         self.child = subprocess.Popen([top + "/bin/rgatext", *words], stdout=subprocess.PIPE)
         assert self.child.stdout.readline() == f"listening {self.port}\n".encode()
 
@@ -320,6 +322,25 @@ def tries_refilled_run():
     clear("a refilled run")
 
 
+def tries_kept_run():
+    with tempfile.TemporaryDirectory() as folder:
+        kept = Server("notes", folder=folder)
+        both = [Window(kept.port) for _ in range(2)]
+        both[0].type("kept here")
+        until(lambda: both[1].text == "kept here", "before the server is killed")
+        time.sleep(2.5)
+        kept.kill()
+        both[0].type("!")
+        kept.start()
+        until(lambda: all((it.text, it.state) == ("kept here!", "up to date") for it in both), "a room that was kept", 30)
+        both[1].select(0, 0)
+        both[1].type("all ")
+        until(lambda: all((it.text, it.state) == ("all kept here!", "up to date") for it in both), "a kept room goes on")
+        for it in both:
+            it.quit()
+        kept.kill()
+
+
 def tries_65_windows():
     line = Socket(f"ws://127.0.0.1:{server.port}", "notes")
     sessions = [line({"t": "join"})["s"] for _ in range(62)]
@@ -411,7 +432,7 @@ try:
         windows[0].run("scrollTo(0, 0)")
         windows[0].driver.save_screenshot(sys.argv[2])
         clear("a picture")
-    for attempt in (tries_65_windows, tries_full_room, tries_bad_addresses, tries_codemirror):
+    for attempt in (tries_kept_run, tries_65_windows, tries_full_room, tries_bad_addresses, tries_codemirror):
         attempt()
         print(attempt.__name__.removeprefix("tries_").replace("_", " "))
     print("bin/try_editor_page: all as it should be")

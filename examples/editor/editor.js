@@ -78,8 +78,8 @@ class Editor {
     };
     this.change(() => {
       // all of it or nothing
-      const cost = others.reduce((sum, [from, to]) => sum + this.session.cost(from, to - from, ""), this.session.cost(start, 0, text));
-      const whole = cost + this.session.cost(first[0], first[1] - first[0], "");
+      const cost = (sum, [from, to]) => sum + this.session.cost(from, to - from, "");
+      const whole = [first, ...others].reduce(cost, this.session.cost(start, 0, text));
       if (whole > this.session.left) throw new Full(this.session.left);
       for (const [from, to] of others.reverse()) replace(from, to, "");
       if (first[0] === start) {
