@@ -2,6 +2,8 @@
  *   REFUSE_ALLOCATION=N   the Nth call of malloc or realloc gives nothing
  *   FAIL_READ=N           the Nth read fails
  *   FAIL_WRITE=N          the Nth write fails; with WRITE_NOTHING set, it takes 0 bytes
+ *   FAIL_SYNC=N           the Nth sync of a file or a folder fails
+ *   FAIL_THREAD=N         the Nth thread can't be made
  *   REFUSE_ON             each later call of the same kind is refused, too
  *   SHORT_WRITES          every write that isn't refused takes one byte
  *   TELL=FILE             a file that gets a byte for each call that is refused
@@ -10,6 +12,7 @@
 #include <dlfcn.h>
 #include <errno.h>
 #include <fcntl.h>
+#include <pthread.h>
 #include <stdatomic.h>
 #include <stdlib.h>
 #include <unistd.h>
@@ -20,7 +23,7 @@
     if (!under) \
         under = dlsym(RTLD_NEXT, #name)
 
-static atomic_long allocations, reads, writes;
+static atomic_long allocations, reads, writes, syncs, threads;
 
 static void tell(void)
 {
@@ -71,4 +74,22 @@ ssize_t write(int to, const void *bytes, size_t size)
     if (to == 1 && is_refused(&writes, "FAIL_WRITE", EIO))
         return getenv("WRITE_NOTHING") ? 0 : -1;
     return under(to, bytes, to == 1 && size > 1 && getenv("SHORT_WRITES") ? 1 : size);
+}
+
+int fsync(int file)
+{
+    UNDER(fsync);
+    return is_refused(&syncs, "FAIL_SYNC", EIO) ? -1 : under(file);
+}
+
+int fdatasync(int file)
+{
+    UNDER(fdatasync);
+    return is_refused(&syncs, "FAIL_SYNC", EIO) ? -1 : under(file);
+}
+
+int pthread_create(pthread_t *thread, const pthread_attr_t *how, void *(*run)(void *), void *with)
+{
+    UNDER(pthread_create);
+    return is_refused(&threads, "FAIL_THREAD", EAGAIN) ? EAGAIN : under(thread, how, run, with);
 }

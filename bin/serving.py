@@ -83,7 +83,7 @@ class WebSocket:
                 (size,) = struct.unpack("!H", self.take(2))
             elif size == 127:
                 (size,) = struct.unpack("!Q", self.take(8))
-            return first & 15, self.take(size).decode(errors="replace")
+            return first & 15, self.take(size).decode(errors="surrogateescape")
         except (EOFError, ConnectionError):
             return None
 

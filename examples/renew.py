@@ -1,7 +1,7 @@
 #!/usr/bin/env python3
 """Makes of a kept room the file of a new document with the same text, for when its sites or its log are used up:
 
-    python3 examples/renew.py notes.ops > fresh/notes.ops
+    python3 examples/renew.py rooms/notes.ops > notes.new && mv notes.new fresh/notes.ops
 
 It reads the file as `rgatext serve --keep` leaves it, has the program print its text, has a room of site 0 take that text in, and
 writes what `--keep` would have written of that room. With `--snapshot` before the file's name it only prints the snapshot that the
@@ -24,9 +24,9 @@ def run(*words, given):
 
 
 def kept_operations(data):
-    """The operations and runs that stand in a kept file. A last line that was cut short is left out."""
-    whole, _, _ = data.rpartition("\n")
-    return [it for line in whole.split("\n") if line for it in json.loads(line)["ops"]]
+    """The operations and runs that stand in a kept file. A last line that was cut short, inside a character perhaps, is left out."""
+    whole, _, _ = data.rpartition(b"\n")
+    return [it for line in whole.split(b"\n") if line for it in json.loads(line)["ops"]]
 
 
 def typed(text):
@@ -45,7 +45,7 @@ def kept(text):
 
 
 def main(words):
-    operations = kept_operations(pathlib.Path(words[-1]).read_text(encoding="utf-8"))
+    operations = kept_operations(pathlib.Path(words[-1]).read_bytes())
     snapshot = json.dumps({"format": 2, "ops": operations}, separators=(",", ":"))
     if words[0] == "--snapshot":
         print(snapshot)

@@ -13,14 +13,17 @@ use Rattle.plans.specs.declared.fault.PlanFault.{PlanFault}
 use Rattle.plans.specs.declared.fault.PlanFault.TheVariants.{Help, Words, Memory}
 use Rattle.plans.specs.declared.plan.Plan.TheVariants.{Lines, Text as TextOf, Serve, World}
 
--- `--site N`, a whole number from 0 to 31, or 0
+-- `--site N`, a whole number from 0 to 31
 abbrev pub site_option : Rule
 site_option = record (new_rule (codes "site")) {
   long = Some (codes "site");
   parser = Some (vp.Signed (pos 0) (pos 31));
   value_names = 1;
-  defaults = codes "0" ∷ [];
 }
+
+-- the same, or 0
+abbrev pub site_or_zero_option : Rule
+site_or_zero_option = record site_option { defaults = codes "0" ∷ [] }
 
 -- `--version V`, a whole number of 32 bits
 abbrev pub version_option : Rule
@@ -60,14 +63,6 @@ conns_option = record (new_rule (codes "conns")) {
   defaults = codes "65536" ∷ [];
 }
 
--- `--site N` of `serve`, a whole number from 0 to 31
-abbrev pub serve_site_option : Rule
-serve_site_option = record (new_rule (codes "site")) {
-  long = Some (codes "site");
-  parser = Some (vp.Signed (pos 0) (pos 31));
-  value_names = 1;
-}
-
 -- `--keep FOLDER`
 abbrev pub keep_option : Rule
 keep_option = record (new_rule (codes "keep")) { long = Some (codes "keep"); value_names = 1 }
@@ -93,7 +88,7 @@ flag_option name = record (new_rule name) { long = Some name; action = Some SetT
 -- the subcommand `lines`
 abbrev pub lines_command : App
 lines_command =
-    with_rule (with_rule (with_rule (new_app (codes "lines")) site_option) (flag_option (codes "resume"))) (flag_option (codes "snapshot"))
+    with_rule (with_rule (with_rule (new_app (codes "lines")) site_or_zero_option) (flag_option (codes "resume"))) (flag_option (codes "snapshot"))
 
 -- the subcommand `text`
 abbrev pub text_command : App
@@ -106,7 +101,7 @@ world_command = with_rule (new_app (codes "world")) sites_option
 -- the subcommand `serve`
 abbrev pub serve_command : App
 serve_command =
-    with_rule (with_rule (with_rule (with_rule (with_rule (with_rule (new_app (codes "serve")) port_option) serve_site_option)
+    with_rule (with_rule (with_rule (with_rule (with_rule (with_rule (new_app (codes "serve")) port_option) site_option)
     conns_option) keep_option) every_option) name_words
 
 -- the program, which asks for a subcommand

@@ -4,10 +4,10 @@ ghost use Rattle.std.specs.Prelude.{codes};
 ghost use Rattle.clap.specs.Words.{app_of, found_of, rows_of, rule_of, new_app, with_rule};
 ghost use Rattle.clap.specs.declared.builder.command.Command.TheViews.{out-Command};
 ghost use Rattle.plans.specs.declared.plan.Plan.{Plan};
-ghost use Rattle.command_line.specs.CommandLine.{serve_command, port_option, serve_site_option, conns_option, keep_option, every_option};
+ghost use Rattle.command_line.specs.CommandLine.{serve_command, port_option, site_option, conns_option, keep_option, every_option};
 ghost use Rattle.command_line.specs.CommandLine.{name_words, AsksIn, AsksNothing, ReadsTo};
 
-use crate::words::site_in;
+use crate::words::{site_arg, site_in};
 use clap::{Arg, ArgAction, ArgMatches, Command, value_parser};
 use opid::Site;
 use plans::Plan;
@@ -30,11 +30,13 @@ pub(crate) fn serve_command<'a>(alloc: Global) -> Result<Command<'a>, AllocError
 // The subcommand with what it is told of its connections alone.
 fn line_command<'a>(alloc: Global) -> Result<Command<'a>, AllocError>
     ensures shape { IfOk result (λ made. app_of made
-        ≡ with_rule (with_rule (with_rule (new_app (codes "serve")) port_option) serve_site_option) conns_option) }
+        ≡ with_rule (with_rule (with_rule (new_app (codes "serve")) port_option) site_option) conns_option) }
     ensures local { IfOk result (λ made. (out-Command made).has_globals ≡ false) }
 {
     let port = port_arg(alloc);
-    let site = site_arg(alloc);
+    let site = site_arg(alloc).help(
+        "The rooms' site number, 0 to 31: 0, or with --keep the least that no kept log has an operation of",
+    );
     let conns = conns_arg(alloc);
     let serve = Command::new(alloc, "serve").about("Serves rooms over WebSockets");
     let serve = serve.arg(port)?;
@@ -52,19 +54,6 @@ fn port_arg<'a>(alloc: Global) -> Arg<'a>
         .value_name("P")
         .value_parser(value_parser!(u16).range(1..=65535))
         .help("The port of 127.0.0.1, 1 to 65535")
-}
-
-fn site_arg<'a>(alloc: Global) -> Arg<'a>
-    ensures rule { rule_of result ≡ serve_site_option }
-    ensures local { result.global ≡ false }
-{
-    Arg::new(alloc, "site")
-        .long("site")
-        .value_name("N")
-        .value_parser(value_parser!(u8).range(0..=31))
-        .help(
-            "The rooms' site number, 0 to 31: 0, or with --keep the least that no kept log has an operation of",
-        )
 }
 
 fn conns_arg<'a>(alloc: Global) -> Arg<'a>

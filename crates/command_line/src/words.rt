@@ -3,8 +3,9 @@ ghost use Rattle.std.specs.Prelude.{◌≡◌, [], Some, None, Option, ℕ, ◌�
 ghost use Rattle.clap.specs.Words.{app_of, fault_of, found_of, kind_of, rows_of, rule_of, first_of, subcommand_of, subcommand_rows_of};
 ghost use Rattle.clap.specs.declared.builder.command.Command.TheViews.{out-Command};
 ghost use Rattle.plans.specs.declared.plan.Plan.{Plan};
-ghost use Rattle.command_line.specs.CommandLine.{rgatext, lines_command, text_command, world_command, site_option, flag_option};
-ghost use Rattle.command_line.specs.CommandLine.{version_option, sites_option, AsksForPlan, AsksNothing, ReadsTo, Refuses, ToldBy, is_set};
+ghost use Rattle.command_line.specs.CommandLine.{rgatext, lines_command, text_command, world_command, site_option, site_or_zero_option};
+ghost use Rattle.command_line.specs.CommandLine.{version_option, sites_option, flag_option, AsksForPlan, AsksNothing, ReadsTo};
+ghost use Rattle.command_line.specs.CommandLine.{Refuses, ToldBy, is_set};
 
 use crate::serve_words::{serve_command, serve_plan};
 use clap::error::ErrorKind;
@@ -56,7 +57,7 @@ fn lines_command<'a>(alloc: Global) -> Result<Command<'a>, AllocError>
     ensures shape { IfOk result (λ made. app_of made ≡ lines_command) }
     ensures local { IfOk result (λ made. (out-Command made).has_globals ≡ false) }
 {
-    let site = site_arg(alloc);
+    let site = site_or_zero_arg(alloc);
     let resume = flag_arg(
         alloc,
         "resume",
@@ -97,7 +98,8 @@ fn world_command<'a>(alloc: Global) -> Result<Command<'a>, AllocError>
     world.arg(sites)
 }
 
-fn site_arg<'a>(alloc: Global) -> Arg<'a>
+// `--site` alone.
+pub(crate) fn site_arg<'a>(alloc: Global) -> Arg<'a>
     ensures rule { rule_of result ≡ site_option }
     ensures local { result.global ≡ false }
 {
@@ -105,8 +107,14 @@ fn site_arg<'a>(alloc: Global) -> Arg<'a>
         .long("site")
         .value_name("N")
         .value_parser(value_parser!(u8).range(0..=31))
-        .default_value("0")
         .help("The room's site number, 0 to 31")
+}
+
+fn site_or_zero_arg<'a>(alloc: Global) -> Arg<'a>
+    ensures rule { rule_of result ≡ site_or_zero_option }
+    ensures local { result.global ≡ false }
+{
+    site_arg(alloc).default_value("0")
 }
 
 fn version_arg<'a>(alloc: Global) -> Arg<'a>

@@ -1,4 +1,4 @@
--- How the program ends: its statuses and last lines are its own.
+-- How the program ends: its statuses and last lines are the server's own.
 use Rattle.std.specs.Prelude.{ℕ, Bool, true, false, Result, Ok, Err}
 use Rattle.line_engine.specs.declared.fault.ServeFault.TheVariants.{Write}
 use Rattle.commands.specs.declared.stop.Stop.{Stop}

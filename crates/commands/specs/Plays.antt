@@ -1,4 +1,4 @@
--- What a run of a plan does. The commands are the program's own.
+-- What a run of a plan does. The commands are the server's own.
 use Rattle.std.specs.Prelude.{ℕ, List, Option, Result}
 use Rattle.commands.specs.declared.stop.Stop.{Stop}
 use Rattle.commands.specs.Played.{PlaysLines, PlaysText, PlaysWorld}

@@ -4,7 +4,8 @@ use Rattle.std.proofs.Common.{append_assoc, append-nil}
 use Rattle.std.proofs.lemmas.Bool.{ne_eqb}
 use Rattle.std.proofs.lemmas.List.Elements.{All-head, All-tail}
 use lib.Dec.{eqb}
-use Rattle.journal.specs.Journal.{IsLine, IsEnded, behind_byte, whole_lines}
+use Rattle.wire_json.specs.Line.{IsLine}
+use Rattle.journal.specs.Journal.{IsEnded, behind_byte, whole_lines}
 
 -- a line with its LF is cut off
 pub whole-line : (line rest : List ℕ) → IsLine line → whole_lines (line ++ 10 ∷ rest) ≡ line ∷ whole_lines rest

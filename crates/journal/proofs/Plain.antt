@@ -22,7 +22,7 @@ use Rattle.operation_json.specs.Text.{stamp_text, parent_text, op_text_of, item_
 use Rattle.operation_json.proofs.PackedBack.{IsPacked, are_packed}
 use Rattle.operation_json.proofs.Pairs.{pairs_small}
 use Rattle.wire_json.specs.Text.{text}
-use Rattle.journal.specs.Journal.{IsLine}
+use Rattle.wire_json.specs.Line.{IsLine}
 
 -- ---- fixed characters, digits and quoted texts
 

@@ -7,7 +7,8 @@ use Rattle.std.proofs.lemmas.List.{drop-drop, take-append-drop, length-take-le}
 use Rattle.opid.specs.Operations.{Operation}
 use Rattle.opid.specs.Lawful.{IsLawful, GoesOn}
 use Rattle.opid.proofs.Gathered.{take_none}
-use Rattle.journal.specs.Journal.{IsLine, IsEnded, EndsLines, whole_lines, line_told, TellLog, TellNone, StandsFor, StandsForNone}
+use Rattle.wire_json.specs.Line.{IsLine}
+use Rattle.journal.specs.Journal.{IsEnded, EndsLines, whole_lines, line_told, TellLog, TellNone, StandsFor, StandsForNone}
 use Rattle.journal.specs.Journal.{IsFirstFault}
 use Rattle.journal.proofs.Cutting.{whole-line, whole-none, whole-append}
 use Rattle.journal.proofs.Telling.{told_both, told_behind, told_first, told_one, no_part}

@@ -1,7 +1,6 @@
 -- Which log a journal's bytes stand for: lines of JSON (RFC 8259), each an object that tells a part of the log, one after another. The
 -- format is the server's own.
-use Rattle.std.specs.Prelude.{◌≡◌, ◌≢◌, ◌≤◌, ◌+◌, ◌-◌, ◌==◌, ◌⊎◌, ℕ, if◌then◌else◌, Result, Ok, Err, List, [], ◌∷◌, ◌++◌, length, take}
-use Rattle.std.specs.Prelude.{drop}
+use Rattle.std.specs.Prelude.{◌≡◌, ◌≤◌, ◌+◌, ◌-◌, ◌==◌, ◌⊎◌, ℕ, if◌then◌else◌, Result, Ok, Err, List, [], ◌∷◌, ◌++◌, length, take, drop}
 use Rattle.std.specs.Prelude.{All}
 use Rattle.std.specs.List.{AllByRecursion}
 use Rattle.opid.specs.declared.refusal.Refusal.{Refusal}
@@ -12,16 +11,13 @@ use Rattle.room_calls.specs.declared.reply.Reply.TheVariants.{Ops}
 use Rattle.operation_json.specs.Members.{◌>>=◌}
 use Rattle.operation_json.specs.PackedOperations.{concatenated}
 use Rattle.operation_json.specs.Text.{IsOperationInRange}
+use Rattle.wire_json.specs.Line.{IsLine}
 use Rattle.wire_json.specs.Part.{part_told}
 use Rattle.wire_json.specs.Text.{text}
 use Rattle.journal.specs.declared.fault.JournalFault.{JournalFault}
 use Rattle.journal.specs.declared.fault.JournalFault.TheVariants.{Memory, Line}
 
 -- ---- lines: they end with LF, which is the byte 10
-
--- no byte is LF
-abbrev pub IsLine : List ℕ → Type 0
-IsLine bytes = All (λ byte. byte ≢ 10) bytes
 
 -- there are no bytes, or the last one is LF
 abbrev pub IsEnded : List ℕ → Type 0

@@ -1,4 +1,4 @@
--- Which sites made none of the operations of some logs.
+-- Which sites made none of the operations of some logs: those that the server's own rule lets it open rooms at.
 use Rattle.std.specs.Prelude.{ℕ, List}
 use Rattle.std.specs.List.{AllByRecursion}
 use Rattle.versions.specs.Document.{Document}

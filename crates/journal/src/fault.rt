@@ -8,6 +8,6 @@ pub enum JournalFault {
     #[error("memory was refused")]
     Memory,
     /// The line of this number, from 1 on, tells no part that may follow those before it.
-    #[error("line {0} tells no next part of the log")]
+    #[error("line {0} doesn't go on with the log")]
     Line(usize),
 }

@@ -4,7 +4,8 @@ ghost use Rattle.opid.specs.declared.refusal.Refusal.TheVariants as refusals;
 ghost use Rattle.opid.specs.Operations.{Operation};
 ghost use Rattle.opid.specs.Lawful.{IsLawful, GoesOn};
 ghost use Rattle.journal.specs.declared.fault.JournalFault.TheVariants.{Memory};
-ghost use Rattle.journal.specs.Journal.{IsLine, EndsLines, StandsFor, StandsForNone, IsFaultOf, line_told};
+ghost use Rattle.wire_json.specs.Line.{IsLine};
+ghost use Rattle.journal.specs.Journal.{EndsLines, StandsFor, StandsForNone, IsFaultOf, line_told};
 
 use crate::fault::JournalFault;
 use memchr::memchr;

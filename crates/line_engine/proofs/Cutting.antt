@@ -5,7 +5,8 @@ use lib.Dec.{eqb}
 use Rattle.std.specs.List.{flat_map, onto_first}
 use Rattle.std.proofs.lemmas.List.{append-nil}
 use Rattle.std.proofs.lemmas.List.Elements.{All-head, All-tail}
-use Rattle.line_engine.specs.Lines.{IsLine, ended, cut}
+use Rattle.wire_json.specs.Line.{IsLine}
+use Rattle.line_engine.specs.Lines.{ended, cut}
 
 -- a line with its LF is cut off
 pub cut-line : (line rest : List ℕ) → IsLine line → cut (line ++ 10 ∷ rest) ≡ line ∷ cut rest

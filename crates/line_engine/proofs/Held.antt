@@ -8,7 +8,7 @@ use Rattle.std.proofs.lemmas.Grind.{common_steps}
 use Rattle.std.proofs.lemmas.Bool.{eq-eqb, eqb-true}
 use Rattle.std.proofs.lemmas.List.Elements.{All-from_get_or, All-append, All-same}
 use Rattle.std.specs.Io.KnownBytes.{Consumes, IsAtEnd}
-use Rattle.line_engine.specs.Lines.{IsLine}
+use Rattle.wire_json.specs.Line.{IsLine}
 
 -- the part of the buffer from `start` on, of this length
 abbrev pub part : ℕ → ℕ → List ℕ → List ℕ

@@ -4,7 +4,7 @@ use Rattle.std.proofs.Common.{append_assoc, arith, length-append}
 use Rattle.std.specs.Io.KnownBytes.{Consumes}
 use Rattle.std.proofs.lemmas.List.{take_at}
 use Rattle.std.proofs.lemmas.List.Elements.{All-append, All-same}
-use Rattle.line_engine.specs.Lines.{IsLine}
+use Rattle.wire_json.specs.Line.{IsLine}
 use Rattle.line_engine.specs.Internal.Turns.{Skips, Cuts}
 use Rattle.line_engine.specs.declared.window.Next.{Next}
 use Rattle.line_engine.specs.declared.window.Next.TheVariants.{Line, Long, Last, LastLong}

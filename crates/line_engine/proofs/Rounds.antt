@@ -3,7 +3,8 @@ use Rattle.std.proofs.Common.{ℕ, List, [], ◌∷◌, ◌++◌, All, Option, B
 use Rattle.std.specs.List.{flat_map}
 use Rattle.std.specs.Io.KnownBytes.{Consumes, Appends}
 use Rattle.std.proofs.lemmas.List.Elements.{All-push}
-use Rattle.line_engine.specs.Lines.{IsLine, ended}
+use Rattle.wire_json.specs.Line.{IsLine}
+use Rattle.line_engine.specs.Lines.{ended}
 use Rattle.line_engine.specs.ServedLines.{AreAnswered, Serves}
 use Rattle.line_engine.specs.Internal.Turns.{Turn}
 use Rattle.line_engine.specs.declared.fault.ServeFault.{ServeFault}

@@ -3,7 +3,8 @@ use Rattle.std.proofs.Common.{◌≡◌, ℕ, ◌<◌, length, arith, List, [], 
 use Rattle.std.proofs.Common.{sym, ap, subst, ◌∙◌, append_assoc, length-append}
 use Rattle.std.specs.List.{flat_map}
 use Rattle.std.proofs.lemmas.List.Elements.{All-append, All-nil}
-use Rattle.line_engine.specs.Lines.{IsLine, FallsShort, ended, cut}
+use Rattle.wire_json.specs.Line.{IsLine}
+use Rattle.line_engine.specs.Lines.{FallsShort, ended, cut}
 use Rattle.line_engine.specs.ServedLines.{AreAnswered, Serves, ServesPart, Reaches}
 use Rattle.line_engine.specs.Internal.Turns.{Turn, SentOn, after_sending}
 use Rattle.std.specs.Io.KnownBytes.{Appends, IsAtEnd}

@@ -1,4 +1,5 @@
--- The answer to a line that is a request, over a desk's own steps. That a request has a limit is a case of `request`.
+-- The answer to a line that is a request, over a desk's own steps. That a request has a limit is a case of `request`. The rules
+-- are the server's own.
 use Rattle.std.specs.Prelude.{◌≡◌, ◌⊎◌, ℕ, ◌≤◌, List, length, Result, Ok, Err}
 use Rattle.opid.specs.declared.refusal.Refusal.{Refusal}
 use Rattle.opid.specs.declared.refusal.Refusal.TheVariants as Why

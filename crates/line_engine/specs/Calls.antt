@@ -1,4 +1,5 @@
--- Calls of a reader or of a writer, one after another, and how many failed. What a call may do is the reader's or the writer's own.
+-- Calls of a reader or of a writer, one after another, and how many failed. What a call may do is the reader's or the writer's own; the
+-- count is the server's own.
 use Rattle.std.specs.Prelude.{◌≡◌, ◌<◌, ◌≤◌, ◌⊎◌, ℕ, zero, suc, ◌+◌, ◌-◌, ◌^◌, List, [], ◌∷◌, length, Result, Ok, Err}
 
 -- from one state to another by calls with these results

@@ -1,11 +1,8 @@
 -- Bytes cut at LF, which is the byte 10: the server's own channel.
-use Rattle.std.specs.Prelude.{◌≡◌, ◌≢◌, ◌==◌, ◌<◌, ℕ, length, List, Option, Bool, true, false, [], ◌∷◌, ◌++◌, if◌then◌else◌, All}
+use Rattle.std.specs.Prelude.{◌≡◌, ◌==◌, ◌<◌, ℕ, length, List, Option, Bool, true, false, [], ◌∷◌, ◌++◌, if◌then◌else◌}
 use Rattle.std.specs.List.{onto_first}
 use Rattle.std.specs.Io.KnownBytes.{IsAtEnd}
-
--- no byte is LF
-abbrev pub IsLine : List ℕ → Type 0
-IsLine bytes = All (λ byte. byte ≢ 10) bytes
+use Rattle.wire_json.specs.Line.{IsLine}
 
 -- a line with its LF
 abbrev pub ended : List ℕ → List ℕ

@@ -3,7 +3,8 @@
 use Rattle.std.specs.Prelude.{◌≡◌, ◌⊎◌, ℕ, ◌<◌, List, [], ◌∷◌, ◌++◌, All, length, Option, Result, Ok, Err}
 use Rattle.std.specs.List.{flat_map}
 use Rattle.std.specs.Io.KnownBytes.{IsAtEnd}
-use Rattle.line_engine.specs.Lines.{IsLine, FallsShort, ended, cut}
+use Rattle.wire_json.specs.Line.{IsLine}
+use Rattle.line_engine.specs.Lines.{FallsShort, ended, cut}
 use Rattle.line_engine.specs.LineBytes.{TellsNoRefusal}
 use Rattle.line_engine.specs.declared.fault.ServeFault.{ServeFault}
 use Rattle.line_engine.specs.declared.fault.ServeFault.TheVariants.{Read, Write, Memory}

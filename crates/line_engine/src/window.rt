@@ -3,7 +3,7 @@ ghost use Rattle.std.specs.Prelude.{◌≡◌, ℕ, ◌+◌, ◌-◌, ◌*◌, �
 ghost use Rattle.std.specs.Prelude.{IsNone, IsSome, OnSome, MatchOption, All, Some};
 ghost use Rattle.std.specs.Io.KnownBytes.{Keeps, Consumes, IsAtEnd};
 ghost use Rattle.line_engine.specs.Calls.{for_a_block, CountsReads};
-ghost use Rattle.line_engine.specs.Lines.{IsLine};
+ghost use Rattle.wire_json.specs.Line.{IsLine};
 ghost use Rattle.line_engine.specs.Internal.Turns.{work, Cuts, Skips, EndsAtLast, Fills};
 
 use crate::counted::Counted;

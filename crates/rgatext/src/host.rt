@@ -91,6 +91,14 @@ fn accept<R: Log>(rt: &R, listener: &TcpListener) -> Result<TcpStream, Stop>
     }
 }
 
+// Warns that nobody listens any more, and passes on how `serve` ends by that.
+fn closed<R: Log>(rt: &R, stop: Stop) -> Stop
+    ensures { result ≡ stop }
+{
+    warn!(rt; "no further connection is accepted: {stop}");
+    stop
+}
+
 // A listener at the port, once it was told of.
 fn listen<R: Net<Listener = TcpListener, Stream = TcpStream> + Print>(
     rt: &R,
@@ -146,10 +154,10 @@ fn serve_all<R: Net<Listener = TcpListener, Stream = TcpStream> + Threads + Wait
                 let stream = accept(rt, &listener)?;
                 let given = match hall.split(alloc, &mut pass, DRAWS) {
                     Ok(given) => given,
-                    Err(why) => return Err(Stop::of(why)),
+                    Err(why) => return Err(closed(rt, Stop::of(why))),
                 };
                 if ends.lock(rt).push(None).is_err() {
-                    return Err(Stop::Fault(ServeFault::Memory));
+                    return Err(closed(rt, Stop::Fault(ServeFault::Memory)));
                 }
                 let worker = scope.spawn(
                     move ||
@@ -157,7 +165,7 @@ fn serve_all<R: Net<Listener = TcpListener, Stream = TcpStream> + Threads + Wait
                     { serve(rt, alloc, hall, given, stream, ends, n as usize) },
                 );
                 if worker.is_err() {
-                    return Err(Stop::Socket);
+                    return Err(closed(rt, Stop::Socket));
                 }
             }
             warn!(rt; "the last of {conns} connections is accepted: nobody listens any more");
@@ -166,7 +174,8 @@ fn serve_all<R: Net<Listener = TcpListener, Stream = TcpStream> + Threads + Wait
     )
 }
 
-// Serves connections until all have ended, and looks at the rooms meanwhile and once more then.
+// Serves connections until all have ended, and looks at the rooms meanwhile and once more then. Where no thread can be had that looks, no
+// connection is accepted.
 fn serve_watched<
     R: Net<Listener = TcpListener, Stream = TcpStream> + Clock + Threads + Wait + Log + Sync,
 >(
@@ -194,21 +203,35 @@ fn serve_watched<
     let every = Duration::from_secs(serving.every as u64);
     let conns = serving.conns;
     let (hall, ended) = (&hall, &Ended::new());
-    let (is_whole, served) = thread::join(
+    let served = thread::scope(
+        thread::scope_env(),
         rt,
-        move ||
-            requires { IsSync R.row × IsHallPassOf hall.now watching }
-        { watch(rt, alloc, hall, watching, watched, every, ended) },
-        move || -> Result<(), Stop>
-            requires { IsSync R.row × IsHallPassOf hall.now pass }
+        move |scope| -> Result<(), Stop>
+            requires { IsSync R.row × IsHallPassOf hall.now watching × IsHallPassOf hall.now pass }
             ensures { (result ≡ Err (Stop.Refused Refusal.BadField)) → ⊥ }
         {
+            let watcher = scope.spawn(
+                move || -> bool
+                    requires { IsSync R.row × IsHallPassOf hall.now watching }
+                { watch(rt, alloc, hall, watching, watched, every, ended) },
+            );
+            let Ok(watcher) = watcher else {
+                return Err(closed(rt, Stop::Socket));
+            };
             let served = serve_all(rt, alloc, hall, pass, listener, conns, ends);
             ended.tell(rt);
-            served
+            whole(watcher.join(rt), served)
         },
     );
     drop(lock);
+    served
+}
+
+// How it ends where all connections have ended so, and all that was to be kept is, or isn't.
+fn whole(is_whole: bool, served: Result<(), Stop>) -> Result<(), Stop>
+    requires { (served ≡ Err (Stop.Refused Refusal.BadField)) → ⊥ }
+    ensures fits { (result ≡ Err (Stop.Refused Refusal.BadField)) → ⊥ }
+{
     served?;
     if is_whole {
         Ok(())

@@ -152,8 +152,8 @@ pub(crate) fn open_file<R: Files<File = File> + Log>(
             Ok((kept, journal.doc))
         }
         Err(JournalFault::Memory) => Err(Stop::Fault(ServeFault::Memory)),
-        Err(JournalFault::Line(number)) => {
-            warn!(rt; "{path}: line {number} doesn't go on with the log");
+        Err(why) => {
+            warn!(rt; "{path}: {why}");
             Err(Stop::Refused(Refusal::BadSnapshot))
         }
     }

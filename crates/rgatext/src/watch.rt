@@ -118,7 +118,7 @@ impl Watched {
         }
         if look.sessions >= MANY_SESSIONS && !self.has_many_sessions {
             self.has_many_sessions = true;
-            warn!(rt; "room {}: {} of 64 sessions were opened", self.name, look.sessions);
+            warn!(rt; "room {}: {} of 64 sessions are there", self.name, look.sessions);
         }
     }
 

@@ -1,3 +1,4 @@
+pub mod Line
 pub mod Request
 pub mod Text
 pub mod Part

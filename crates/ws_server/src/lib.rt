@@ -1,5 +1,5 @@
 //! Rooms behind WebSockets: a hall of rooms by name, and an answer for each message. It passes on `serve_lines`, `Counted`,
-//! `ServeFault` and `carry` of the line engine, and `Look` of the shared room.
+//! `ServeFault` and `carry` of the line engine.
 #![tactic(auto)]
 
 mod channel;
@@ -19,5 +19,4 @@ pub use gate::{Gate, Witness};
 pub use hall::{Hall, HallPass};
 pub use line_engine::{Counted, ServeFault, carry, serve_lines};
 pub use names::names_fit;
-pub use shared_room::Look;
 pub use socket::{serve_one, serve_socket};

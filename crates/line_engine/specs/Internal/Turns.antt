@@ -2,7 +2,8 @@
 use Rattle.std.specs.Prelude.{◌≡◌, ℕ, ◌+◌, ◌-◌, ◌*◌, ◌^◌, ◌<◌, ◌≤◌, List, [], ◌∷◌, ◌++◌, length, Bool, true, false, Option, None, Some}
 use Rattle.std.specs.Prelude.{Result, Ok, Err}
 use Rattle.line_engine.specs.LineBytes.{TellsNoRefusal}
-use Rattle.line_engine.specs.Lines.{IsLine, FallsShort, ended}
+use Rattle.wire_json.specs.Line.{IsLine}
+use Rattle.line_engine.specs.Lines.{FallsShort, ended}
 use Rattle.line_engine.specs.ServedLines.{ServesAll, Serves}
 use Rattle.std.specs.Io.KnownBytes.{IsAtEnd, Consumes, Appends}
 use Rattle.line_engine.specs.declared.fault.ServeFault.{ServeFault}

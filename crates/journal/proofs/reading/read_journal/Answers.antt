@@ -1,7 +1,7 @@
 -- The next line tells what follows the log, or else the bytes stand for none.
 use Rattle.std.proofs.Common.{◌≡◌, ◌+◌, ◌-◌, inl, inr, List, ℕ, arith, length, take, drop, ap, subst, length-drop, rules}
 use Rattle.std.proofs.lemmas.List.{take_all}
-use Rattle.journal.specs.Journal.{IsLine}
+use Rattle.wire_json.specs.Line.{IsLine}
 use Rattle.journal.proofs.ReadLines.{next_line, reads_more, reads_all, refuted, IsRefuted}
 use Rattle.journal.proofs.reading.read_journal.Goals as goal
 

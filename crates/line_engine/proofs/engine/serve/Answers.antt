@@ -1,7 +1,7 @@
 -- A turn more is a line more, and the last turn ends the whole.
 use Rattle.std.proofs.Common.{[], ◌++◌, Ok, Err, refl, ◌∙◌, append-nil}
 use Rattle.std.proofs.lemmas.List.Elements.{All-nil}
-use Rattle.line_engine.specs.Lines.{IsLine}
+use Rattle.wire_json.specs.Line.{IsLine}
 use Rattle.line_engine.specs.Calls.{for_a_block, of_bytes}
 use Rattle.line_engine.proofs.Making.{reads_none, reads_more, writes_none, writes_more}
 use Rattle.line_engine.proofs.Known.{Consumes-none, Appends-none}

@@ -1,7 +1,7 @@
 -- What was held at first and what was read are the bytes kept, which have no LF, and those held.
 use Rattle.std.proofs.Common.{◌≡◌, ℕ, List, ◌++◌}
 use Rattle.std.specs.Io.KnownBytes.{Consumes}
-use Rattle.line_engine.specs.Lines.{IsLine}
+use Rattle.wire_json.specs.Line.{IsLine}
 use Rattle.line_engine.specs.Internal.Turns.{work}
 use Rattle.line_engine.proofs.taking.first_line.Given as goal
 

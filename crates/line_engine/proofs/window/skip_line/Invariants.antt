@@ -2,7 +2,7 @@
 use Rattle.std.proofs.Common.{◌≡◌, ◌≤◌, ℕ, List, []}
 use Rattle.std.specs.Io.KnownBytes.{Consumes}
 use Rattle.line_engine.specs.Calls.{for_a_block, CountsReads}
-use Rattle.line_engine.specs.Lines.{IsLine}
+use Rattle.wire_json.specs.Line.{IsLine}
 use Rattle.line_engine.specs.Internal.Turns.{work}
 use Rattle.line_engine.proofs.window.skip_line.Given as goal
 

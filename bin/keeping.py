@@ -1,0 +1,224 @@
+"""What bin/try_kept and bin/try_serving have in common: servers that keep their rooms, what stands in their files, and editors that
+type."""
+import atexit
+import json
+import os
+import pathlib
+import random
+import re
+import resource
+import signal
+import subprocess
+import sys
+import tempfile
+import threading
+import time
+
+from conversations import TOP
+from plain_world import object_of, operation_of, packed
+from serving import CLOSE, WebSocket, free_port
+
+PROGRAM, BUILT = str(TOP / "bin" / "rgatext"), str(TOP / "crates" / "rgatext" / "out" / "rgatext")
+EVERY = 1
+LAST = "the last of {} connections is accepted: nobody listens any more"
+JOIN, RENEW = '{"t":"join"}', TOP / "examples" / "renew.py"
+LEAVE, NO_SESSION = '{"t":"leave","s":99}', '{"n":5,"r":"no"}'
+subprocess.run([PROGRAM, "--help"], check=True, stdout=subprocess.DEVNULL)
+room = tempfile.TemporaryDirectory()
+top = pathlib.Path(room.name)
+SHIM = top / "refusing.so"
+compiler = [os.environ.get("CC", "cc"), "-O2", "-shared", "-fPIC", "-o", SHIM, TOP / "bin" / "refusing.c", "-ldl"]
+subprocess.run(compiler, check=True)
+failed = False
+
+
+def expect(title, got, wanted):
+    global failed
+    if got != wanted:
+        failed = True
+        print(f"{title}: {got!r:.2000}, and not {wanted!r:.2000}")
+
+
+class Peer(WebSocket):
+    """A client that closes as it should."""
+
+    def close(self):
+        self.send(b"\x03\xe8", CLOSE)
+        self.receive()
+        self.line.close()
+
+
+class Server:
+    """A run of the server over a folder."""
+
+    def __init__(self, folder, *words, rooms=("notes",), most_bytes=None, **failing):
+        port = free_port()
+        words = ["--port", str(port), "--keep", str(folder), "--every", str(EVERY), *words, *rooms]
+        self.port = port
+        self.run = subprocess.Popen(
+            [BUILT if failing else PROGRAM, "serve", *words],
+            env=environment(failing),
+            stdin=subprocess.DEVNULL,
+            stdout=subprocess.PIPE,
+            stderr=subprocess.PIPE,
+            preexec_fn=most_bytes and (lambda: limit(most_bytes)),
+        )
+        atexit.register(self.run.kill)  # (where a trial breaks off)
+        expect("listening", self.run.stdout.readline(), f"listening {port}\n".encode())
+        told = re.fullmatch(rb"site (\d+)\n", self.run.stdout.readline())
+        self.site = told and int(told[1])
+
+    def peer(self, room="notes"):
+        peer = Peer(self.port)
+        peer.shake()
+        expect("open", peer.ask(json.dumps({"t": "open", "room": room})), '{"r":"opened"}')
+        return peer
+
+    def text(self, room="notes"):
+        """What a room reads."""
+        peer = self.peer(room)
+        answer = json.loads(peer.ask('{"t":"read"}'))
+        peer.close()
+        return answer["x"]
+
+    def kill(self):
+        self.run.kill()
+        self.run.communicate()
+
+    def ends(self, title, *warnings):
+        """It ends by itself with status 0, and warns of this."""
+        printed, told = self.run.communicate(timeout=120)
+        expect(title, (self.run.returncode, printed, warned(told)), (0, b"", list(warnings)))
+
+
+def environment(failing):
+    """Where the calls that are named so fail (bin/refusing.c)."""
+    return {**os.environ, "LD_PRELOAD": str(SHIM), **failing} if failing else None
+
+
+def warned(told):
+    """What was warned of, without where in the program."""
+    return [re.sub(r"^\[WARN  rgatext::\w+\] ", "", line) for line in told.decode().splitlines()]
+
+
+def limit(most_bytes):
+    """No file gets longer: a write that would fails, as on a full disk."""
+    signal.signal(signal.SIGXFSZ, signal.SIG_IGN)
+    resource.setrlimit(resource.RLIMIT_FSIZE, (most_bytes, resource.RLIM_INFINITY))
+
+
+def unfolded(objects):
+    """The operations that the objects of a reply to `ops` tell."""
+    operations = []
+    for it in objects:
+        clock = [0] * 32
+        for site, count in it["c"]:
+            clock[site] = count
+        place = it.get("t") or it.get("p")
+        place = place and tuple(place)
+        for char in it.get("x", [None]):
+            operations.append(operation_of(it["s"], tuple(clock), "d" if it["k"] == "d" else "i", place, char))
+            place = operations[-1].stamp
+            clock[it["s"]] += 1
+    return operations
+
+
+def kept(file):
+    """The operations that stand in a kept file, whose lines are parts of a log one after another, each of 1 to 64 operations."""
+    operations = []
+    for line in file.read_bytes().split(b"\n")[:-1]:
+        told = json.loads(line)
+        part = unfolded(told["ops"])
+        expect("a kept line", (sorted(told), told["r"], told["from"], 0 < len(part) <= 64), (["from", "ops", "r"], "ops", len(operations), True))
+        operations += part
+    return operations
+
+
+class Editor(threading.Thread):
+    """Types and deletes until the line ends, and notes when which version was accepted."""
+
+    def __init__(self, server, seed):
+        super().__init__(daemon=True)
+        self.server, self.random, self.accepted = server, random.Random(seed), []
+        self.start()
+
+    def run(self):
+        try:
+            self.type(self.server.peer())
+        except (OSError, EOFError, TypeError):  # (the server was killed)
+            pass
+
+    def type(self, peer):
+        joined = json.loads(peer.ask('{"t":"join"}'))
+        s, n, version = joined["s"], 1, joined["v"]
+        while True:
+            asked = {"t": "ins", "s": s, "n": n, "v": version, "k": 0, "x": "typed "[: self.random.randint(1, 6)]}
+            if self.random.random() < 0.3 and n > 1:
+                asked = {"t": "del", "s": s, "n": n, "v": version, "k": 0, "c": 1}
+            answer = json.loads(peer.ask(json.dumps(asked)))
+            if answer["r"] == "ok":
+                self.accepted.append((time.monotonic(), answer["to"]))
+                n += 1
+            news = json.loads(peer.ask(json.dumps({"t": "pull", "s": s, "have": version, "max": 64})))
+            version += len(news["es"])
+            time.sleep(self.random.random() / 50)
+
+
+class Reader(threading.Thread):
+    """Asks for the log's operations until the line ends."""
+
+    def __init__(self, server, after):
+        super().__init__(daemon=True)
+        self.server, self.after, self.seen = server, after, []
+        self.start()
+
+    def run(self):
+        try:
+            peer = self.server.peer()
+            after = self.after
+            while True:
+                told = json.loads(peer.ask(json.dumps({"t": "ops", "after": after, "max": 64})))
+                part = unfolded(told["ops"])
+                self.seen += part
+                after += len(part)
+                time.sleep(0 if part else 0.02)
+        except (OSError, EOFError, TypeError):
+            pass
+
+
+def lines_of(operations):
+    """A kept file with these operations, as the page tells its form."""
+    text = ""
+    for at in range(0, len(operations), 64):
+        objects = [object_of(run) for run in packed(operations[at : at + 64])]
+        text += json.dumps({"from": at, "ops": objects, "r": "ops"}, separators=(",", ":"), ensure_ascii=False) + "\n"
+    return text
+
+
+def typed_by(sites, each):
+    """A log in which so many sites typed one after another, each some characters at the front."""
+    operations, clock = [], [0] * 32
+    for site in range(sites):
+        for char in "x" * each:
+            clock[site] += 1
+            operations.append(operation_of(site, tuple(clock), "i", None, char))
+    return operations
+
+
+def refused(title, folder, *words, told, rooms=("notes",), named=None, **failing):
+    """A server that ends before it listens, with lines of these patterns on standard error, and changes no file."""
+    before = {it: it.read_bytes() for it in folder.glob("*.ops") if it.is_file()} if folder.is_dir() else {}
+    words = ["--port", str(free_port()), "--keep", str(folder) if named is None else named, *words, *rooms]
+    words = [BUILT if failing else PROGRAM, "serve", *words]
+    run = subprocess.run(words, env=environment(failing), stdin=subprocess.DEVNULL, capture_output=True, timeout=60)
+    got = warned(run.stderr)
+    is_as_told = len(got) == len(told) and all(re.fullmatch(wanted, it) for wanted, it in zip(told, got))
+    expect(title, (run.returncode, run.stdout, is_as_told or got), (1, b"", True))
+    expect(f"{title}: the files", {it: it.read_bytes() for it in before}, before)
+
+
+def end(name):
+    """Says whether all was as told, and ends."""
+    print(f"bin/{name}: " + ("not all is as told" if failed else "all is as told"))
+    room.cleanup()
+    sys.exit(failed)
