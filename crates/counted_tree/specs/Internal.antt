@@ -13,7 +13,7 @@ pub mod Settled
 pub mod Inserted
 pub mod Along
 pub mod Table
-pub mod Looks
+pub mod Counter
 pub mod PackedRow
 pub mod PackedRoot
 pub mod Roots

@@ -1,4 +1,4 @@
--- That a call has counted; the measure is the project's own. A step is a look at a node.
+-- That a call has counted; the measure is the server's own. A step is a look at a node.
 use Rattle.std.specs.Prelude.{ℕ, ◌+◌, ◌-◌, ◌^◌, ◌≤◌, min}
 
 -- the counter has gone on by one at least, unless it is at its end

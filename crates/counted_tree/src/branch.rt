@@ -5,7 +5,7 @@ ghost use Rattle.counted_tree.specs.Internal.Branch.{IsBranchOf, IsBranch};
 ghost use Rattle.counted_tree.specs.Internal.Change.{tree_in};
 ghost use Rattle.counted_tree.specs.Internal.Table.{HasRow};
 ghost use Rattle.counted_tree.specs.Internal.Tree.Tree.{Leaf};
-ghost use Rattle.counted_tree.specs.Internal.Looks.{CountsOn};
+ghost use Rattle.counted_tree.specs.Internal.Counter.{CountsOn};
 
 use crate::build::look;
 use crate::entry::KEYS;

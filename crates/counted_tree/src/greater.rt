@@ -1,5 +1,5 @@
 //! How far one comes past entries with a greater key: by the least keys of whole subtrees.
-ghost use Rattle.std.specs.Prelude.{◌≡◌, ◌+◌, ◌-◌, ◌*◌, ◌^◌, ◌≤◌, min, length, true, None, IsSome};
+ghost use Rattle.std.specs.Prelude.{◌≡◌, ◌+◌, ◌*◌, ◌≤◌, length, true, None, IsSome};
 ghost use Rattle.counted_tree.specs.Internal.Tree.{entries, height};
 ghost use Rattle.counted_tree.specs.Internal.Arena.{IsLinkBelow, AreSound};
 ghost use Rattle.counted_tree.specs.Internal.Change.{tree_in};
@@ -7,6 +7,7 @@ ghost use Rattle.counted_tree.specs.Internal.Along.{entry_at, after_at, elem_at}
 ghost use Rattle.counted_tree.specs.Greater.{passed};
 ghost use Rattle.counted_tree.specs.Internal.Stops.{all_greater, last_of, stop};
 ghost use Rattle.counted_tree.specs.Steps.{IsCounted};
+ghost use Rattle.counted_tree.specs.Internal.Counter.{CountsOn};
 ghost use Rattle.counted_tree.specs.Internal.Table.{HasRow, IsKept};
 
 use crate::build::look;
@@ -28,7 +29,7 @@ fn are_greater(
     requires row { HasRow table.now (tree_in nodes.now link) }
     ensures greater { result ≡ all_greater key (entries (tree_in nodes.now link)) }
     ensures cost { steps.new ≤ steps.old + 1 }
-    ensures rises { min steps.old (2 ^ 64 - 1) ≤ steps.new }
+    ensures counts_on { CountsOn steps.old steps.new }
 {
     let Some(at) = link else { return true };
     let node = look(nodes, at, steps);
@@ -47,7 +48,7 @@ pub fn last_in(
     requires link { IsLinkBelow (length nodes.now.nodes) link }
     ensures last { result ≡ last_of last (entries (tree_in nodes.now link)) }
     ensures cost { steps.new ≤ steps.old + height (tree_in nodes.now link) }
-    ensures rises { min steps.old (2 ^ 64 - 1) ≤ steps.new }
+    ensures counts_on { CountsOn steps.old steps.new }
 {
     let Some(at) = link else { return last };
     let node = look(nodes, at, steps);
@@ -69,7 +70,7 @@ pub fn passed_in(
     requires kept { IsKept table.now (tree_in nodes.now link) }
     ensures last { result ≡ passed key last (entries (tree_in nodes.now link)) }
     ensures cost { steps.new ≤ steps.old + 2 * height (tree_in nodes.now link) }
-    ensures rises { min steps.old (2 ^ 64 - 1) ≤ steps.new }
+    ensures counts_on { CountsOn steps.old steps.new }
     ensures counted { IsSome link → IsCounted steps.old steps.new }
 {
     let Some(at) = link else { return last };
@@ -98,7 +99,7 @@ fn stop_in(
     requires kept { IsKept table.now (tree_in nodes.now link) }
     ensures last { result ≡ stop key last (entries (tree_in nodes.now link)) }
     ensures cost { steps.new ≤ steps.old + 2 * height (tree_in nodes.now link) + 1 }
-    ensures rises { min steps.old (2 ^ 64 - 1) ≤ steps.new }
+    ensures counts_on { CountsOn steps.old steps.new }
     ensures passed { all_greater key (entries (tree_in nodes.now link)) ≡ true → steps.new ≤ steps.old + 1 }
 {
     if are_greater(nodes, table, link, key, steps) {

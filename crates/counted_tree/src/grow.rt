@@ -12,7 +12,7 @@ ghost use Rattle.counted_tree.specs.Internal.Change.{tree_in, Adds};
 ghost use Rattle.counted_tree.specs.Internal.Grown.{Gains, MayRise, IsGrown};
 ghost use Rattle.counted_tree.specs.Internal.Settled.{grown_link, IsTold};
 ghost use Rattle.counted_tree.specs.Internal.Table.{HasRow, PointsTo, IsReady, Hangs};
-ghost use Rattle.counted_tree.specs.Internal.Looks.{CountsOn};
+ghost use Rattle.counted_tree.specs.Internal.Counter.{CountsOn};
 
 use crate::above::Above;
 use crate::branch::{Branch, branch_of};
@@ -82,7 +82,7 @@ fn grow_left(
         → IsGrown (tree_of (trees nodes.old.nodes) node) (tree_in nodes.new (grown_link result))
         (made + (length nodes.new.nodes - length nodes.old.nodes)) }
     ensures hangs { Hangs table.old table.new (tree_in nodes.new (grown_link result)) }
-    ensures looks { steps.new + 4 * length nodes.old.nodes + 2 ≤ steps.old + 4 * length nodes.new.nodes }
+    ensures cost { steps.new + 4 * length nodes.old.nodes + 2 ≤ steps.old + 4 * length nodes.new.nodes }
     ensures counts_on { CountsOn steps.old steps.new }
 {
     let row = table[node.entry.elem as usize].get();
@@ -96,9 +96,9 @@ fn grow_left(
         elem: node.entry.elem,
         side: Side::Left,
     };
-    // A side that has grown isn't empty, which spares the copy a case.
-    let Some(_) = left.link else { unreachable!() };
-    let number = copy_left(nodes, at, node, left.link, left_size);
+    // A side that has grown isn't empty.
+    let Some(top) = left.link else { unreachable!() };
+    let number = copy_left(nodes, at, node, top, left_size);
     hang(table, left, Some(on_left));
     settle(number, node.entry.elem, row, entry)
 }
@@ -135,7 +135,7 @@ fn grow_right(
         → IsGrown (tree_of (trees nodes.old.nodes) node) (tree_in nodes.new (grown_link result))
         (made + (length nodes.new.nodes - length nodes.old.nodes)) }
     ensures hangs { Hangs table.old table.new (tree_in nodes.new (grown_link result)) }
-    ensures looks { steps.new + 4 * length nodes.old.nodes + 2 ≤ steps.old + 4 * length nodes.new.nodes }
+    ensures cost { steps.new + 4 * length nodes.old.nodes + 2 ≤ steps.old + 4 * length nodes.new.nodes }
     ensures counts_on { CountsOn steps.old steps.new }
 {
     let row = table[node.entry.elem as usize].get();
@@ -149,9 +149,11 @@ fn grow_right(
         elem: node.entry.elem,
         side: Side::Right,
     };
-    // A side that has grown isn't empty, which spares the copy a case.
-    let Some(_) = right.link else { unreachable!() };
-    let number = copy_right(nodes, at, node, right.link);
+    // A side that has grown isn't empty.
+    let Some(top) = right.link else {
+        unreachable!()
+    };
+    let number = copy_right(nodes, at, node, top);
     hang(table, right, Some(on_right));
     settle(number, node.entry.elem, row, entry)
 }
@@ -188,13 +190,13 @@ pub fn lift_left(
         → IsGrown (tree_of (trees nodes.old.nodes) node) (tree_in nodes.new (grown_link result))
         (made + (length nodes.new.nodes - length nodes.old.nodes)) }
     ensures hangs { Hangs table.old table.new (tree_in nodes.new (grown_link result)) }
-    ensures looks { steps.new + 4 * length nodes.old.nodes + 2 ≤ steps.old + 4 * length nodes.new.nodes }
+    ensures cost { steps.new + 4 * length nodes.old.nodes + 2 ≤ steps.old + 4 * length nodes.new.nodes }
     ensures counts_on { CountsOn steps.old steps.new }
 {
     let left_size = node.left_size.plus(Size::of(entry));
     match left {
         Grown::Settled(number) => {
-            let top = copy_left(nodes, at, node, Some(number), left_size);
+            let top = copy_left(nodes, at, node, number, left_size);
             Grown::Settled(top)
         }
         Grown::Loose(branch) => {
@@ -235,12 +237,12 @@ pub fn lift_right(
         → IsGrown (tree_of (trees nodes.old.nodes) node) (tree_in nodes.new (grown_link result))
         (made + (length nodes.new.nodes - length nodes.old.nodes)) }
     ensures hangs { Hangs table.old table.new (tree_in nodes.new (grown_link result)) }
-    ensures looks { steps.new + 4 * length nodes.old.nodes + 2 ≤ steps.old + 4 * length nodes.new.nodes }
+    ensures cost { steps.new + 4 * length nodes.old.nodes + 2 ≤ steps.old + 4 * length nodes.new.nodes }
     ensures counts_on { CountsOn steps.old steps.new }
 {
     match right {
         Grown::Settled(number) => {
-            let top = copy_right(nodes, at, node, Some(number));
+            let top = copy_right(nodes, at, node, number);
             Grown::Settled(top)
         }
         Grown::Loose(branch) => grow_right(nodes, table, at, node, branch, entry, steps),

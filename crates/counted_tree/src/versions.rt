@@ -247,7 +247,7 @@ impl VersionTree {
     /// Adds a version with a further element, shown, right after another one, or before all others: its key, below 2^23,
     /// and whether it has two units stay with it for good. Tells how many shown elements stand before it, and how many units
     /// these have, as `ranks` would. Takes memory from the reserve alone. Climbs from the element before, if there is one, and
-    /// takes at most four steps for each node that it makes: 160 in the longest log. Takes one at least where there is an element.
+    /// takes at most four steps for each node that it makes, so 160 in the longest log, and one at least where there is an element.
     pub fn insert_after(
         &mut self,
         before: Option<u32>,
@@ -269,6 +269,7 @@ impl VersionTree {
         ensures units { result.units ≡ length (units (entries_before elem (newest_list self.new))) }
         ensures few { (result.shown ≤ 131072) × (result.units ≤ 2 * 131072) }
         ensures cost { steps.new ≤ steps.old + (8 * digits (length (newest_list self.new)) + 16) }
+        ensures each { steps.new + 4 * self.old.nodes ≤ steps.old + 4 * self.new.nodes }
         ensures counted { 0 < length (newest_list self.old) → IsCounted steps.old steps.new }
     {
         let root = last_root(self.roots.as_slice());
@@ -308,7 +309,7 @@ impl VersionTree {
     }
 
     /// The same, and tells how many shown elements stand before it, and how many units these have, as `ranks` would before. Climbs
-    /// from the element, looks at nodes for at most as many steps as `ranks` may, and copies each that it looks at.
+    /// from the element, and takes at most as many steps as `ranks` may, and at most one for each node that it makes.
     pub fn hide_ranked(&mut self, elem: u32, steps: &mut Steps) -> Size
         requires room { 1 ≤ self.old.room }
         requires shown { Shows elem (newest_list self.old) }
@@ -320,6 +321,7 @@ impl VersionTree {
         ensures units { result.units ≡ length (units (entries_before elem (newest_list self.old))) }
         ensures few { (result.shown ≤ 131072) × (result.units ≤ 2 * 131072) }
         ensures cost { steps.new ≤ steps.old + 2 * digits (length (newest_list self.old)) }
+        ensures each { steps.new + self.old.nodes ≤ steps.old + self.new.nodes }
         ensures counted { IsCounted steps.old steps.new }
     {
         let root = last_root(self.roots.as_slice());

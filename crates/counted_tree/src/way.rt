@@ -4,7 +4,7 @@ ghost use Rattle.counted_tree.specs.Internal.Arena.{AreSound};
 ghost use Rattle.counted_tree.specs.Internal.Change.{tree_in};
 ghost use Rattle.counted_tree.specs.Internal.Along.{entry_at};
 ghost use Rattle.counted_tree.specs.Internal.Inserted.{AreAlong};
-ghost use Rattle.counted_tree.specs.Internal.Looks.{CountsOn};
+ghost use Rattle.counted_tree.specs.Internal.Counter.{CountsOn};
 
 use crate::build::look;
 use crate::climb::MAX_HEIGHT;

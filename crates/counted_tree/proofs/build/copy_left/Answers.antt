@@ -1,4 +1,4 @@
-use Rattle.std.proofs.Common.{arith}
+use Rattle.std.proofs.Common.{Some, arith}
 use Rattle.std.proofs.lemmas.Option.{slice_get_within}
 use Rattle.counted_tree.specs.Internal.Tree.{entries}
 use Rattle.counted_tree.specs.Internal.Change.{tree_in}
@@ -9,7 +9,7 @@ use Rattle.counted_tree.proofs.build.copy_left.Goals as goal
 
 pub push_with_left-requires : goal.push_with_left-requires
 push_with_left-requires c =
-    let s = entries (tree_in c.args.nodes.now c.args.left) in
+    let s = entries (tree_in c.args.nodes.now (Some c.args.left)) in
     let few = size_few c.args.size s c.requires.size in
     let some = units_few s in
     record {
@@ -24,7 +24,7 @@ push_with_left-requires c =
 pub returns : goal.returns
 returns c =
     let p = c.push_with_left.ensures in
-    let copied = copied_left c.args.nodes.now c.push_with_left.new.self c.args.node c.args.left c.args.size c.push_with_left.result
+    let copied = copied_left c.args.nodes.now c.push_with_left.new.self c.args.node (Some c.args.left) c.args.size c.push_with_left.result
     c.requires.sound c.requires.node c.requires.left c.requires.balanced c.requires.size (p.nodes c.args.node c.requires.at)
     p.room p.keys_and_widths p.key_and_width_room p.number in
     record { adds = copied.adds; count = copied.count; number = copied.number; tree = copied.tree }

@@ -1,3 +1,4 @@
+use Rattle.std.proofs.Common.{Some}
 use Rattle.std.proofs.lemmas.Option.{slice_get_within}
 use Rattle.counted_tree.proofs.Copies.{copied_right}
 use Rattle.counted_tree.proofs.build.copy_right.Goals as goal
@@ -8,7 +9,7 @@ push_with_right-requires-clause-number c = slice_get_within c.args.nodes.now.nod
 pub returns : goal.returns
 returns c =
     let p = c.push_with_right.ensures in
-    let copied = copied_right c.args.nodes.now c.push_with_right.new.self c.args.node c.args.right c.push_with_right.result
+    let copied = copied_right c.args.nodes.now c.push_with_right.new.self c.args.node (Some c.args.right) c.push_with_right.result
     c.requires.sound c.requires.node c.requires.right c.requires.balanced (p.nodes c.args.node c.requires.at)
     p.room p.keys_and_widths p.key_and_width_room p.number in
     record { adds = copied.adds; count = copied.count; number = copied.number; tree = copied.tree }

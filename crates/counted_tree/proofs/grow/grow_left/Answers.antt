@@ -1,11 +1,12 @@
-use Rattle.std.proofs.Common.{◌≡◌, ◌∷◌, ◌-◌, ◌<◌, length, Some, ap, ◌∙◌, arith, refl, sym, subst, inl, inr}
+use Rattle.std.proofs.Common.{◌≡◌, ℕ, ◌∷◌, ◌-◌, ◌<◌, length, Option, Some, ap, ◌∙◌, arith, refl, sym, subst, inl, inr}
 use Rattle.std.proofs.lemmas.Bool.{cases_lt}
 use Rattle.counted_tree.specs.Internal.Tree.{entries, height}
 use Rattle.counted_tree.specs.Internal.Tree.Tree.{Fork}
-use Rattle.counted_tree.specs.Internal.Arena.{trees, tree_of}
+use Rattle.counted_tree.specs.Internal.Arena.{IsLinkBelow, trees, tree_of}
 use Rattle.counted_tree.specs.Internal.Branch.{IsBranchOf}
-use Rattle.counted_tree.specs.Internal.Change.{tree_in, IsRebuilt}
+use Rattle.counted_tree.specs.Internal.Change.{tree_in, DifferByAtMost, IsRebuilt}
 use Rattle.counted_tree.specs.Internal.Settled.{KeepsRow, IsTold}
+use Rattle.counted_tree.specs.Internal.Size.{IsSizeOf}
 use Rattle.counted_tree.specs.Internal.Table.{Hangs}
 use Rattle.counted_tree.proofs.Branches.{branch_small, read_row, row_of_branch}
 use Rattle.counted_tree.proofs.Gains.{gains_left, gains_least}
@@ -58,7 +59,19 @@ copy_left-number-requires-clause-balanced c =
     let row = read_row c.args.table.now (Fork l n.entry r) l r n.entry c.get-row.result c.index-table-node.result refl c.requires.row
     c.get-row.ensures in
     let below : height s < height (Fork l n.entry r) = omega (arith, row.1, c.requires.left.tells.height, c.if-left-row.false) in
+    subst (λ (o : Option ℕ). DifferByAtMost 1 (height (tree_in a o)) (height r)) c.in-Some.is
     (stays_left l r s n.entry c.requires.node.balanced c.requires.rises below).0
+
+pub copy_left-number-requires-clause-left : goal.copy_left-number-requires-clause-left
+copy_left-number-requires-clause-left c = subst (IsLinkBelow (length c.args.nodes.now.nodes)) c.in-Some.is c.requires.left.link
+
+pub copy_left-number-requires-clause-size : goal.copy_left-number-requires-clause-size
+copy_left-number-requires-clause-size c =
+    subst (λ (o : Option ℕ). IsSizeOf c.args.left_size (entries (tree_in c.args.nodes.now o))) c.in-Some.is c.requires.size
+
+pub copy_left-number-requires-clause-few : goal.copy_left-number-requires-clause-few
+copy_left-number-requires-clause-few c =
+    subst (λ (o : Option ℕ). length (entries (tree_in c.args.nodes.now o)) < 131072) c.in-Some.is (omega (arith, c.requires.few))
 
 pub returns : goal.returns
 returns c =
@@ -80,7 +93,7 @@ returns c =
     let one : length d.nodes - length a.nodes ≡ 1 = omega (arith, c.copy_left-number.ensures.count) in
     let least = gains_least c.args.entry.now (entries (Fork l n.entry r)) (entries (Fork s n.entry r))
     (gains_left c.args.entry.now n.entry (entries l) (entries s) (entries r) c.requires.gains) in
-    let is = c.copy_left-number.ensures.tree in
+    let is = c.copy_left-number.ensures.tree ∙ ap (λ (o : Option ℕ). Fork (tree_in a o) n.entry r) (sym c.in-Some.is) in
     let tree = ap (tree_in d) c.settle.ensures.link ∙ is in
     let hung = c.hang.ensures s c.requires.left.tells in
     record {
@@ -100,6 +113,6 @@ returns c =
       grown = λ made g. grown_left l r s _ n.entry made (length d.nodes - length a.nodes) c.requires.node.balanced g
           (subst (IsRebuilt s n.entry r) (sym tree) p) (omega (arith, one)) (λ _. one);
       hangs = subst (Hangs old new) (sym tree) (hangs_left_side s r n.entry old new c.requires.ready c.requires.other hung);
-      looks = omega (arith, c.copy_left-number.ensures.count);
+      cost = omega (arith, c.copy_left-number.ensures.count);
       counts_on = omega arith;
     }

@@ -1,10 +1,10 @@
-use Rattle.std.proofs.Common.{◌≡◌, ◌∷◌, ◌-◌, ◌<◌, length, Some, ap, ◌∙◌, arith, refl, sym, subst, inl, inr}
+use Rattle.std.proofs.Common.{◌≡◌, ℕ, ◌∷◌, ◌-◌, ◌<◌, length, Option, Some, ap, ◌∙◌, arith, refl, sym, subst, inl, inr}
 use Rattle.std.proofs.lemmas.Bool.{cases_lt}
 use Rattle.counted_tree.specs.Internal.Tree.{entries, height}
 use Rattle.counted_tree.specs.Internal.Tree.Tree.{Fork}
-use Rattle.counted_tree.specs.Internal.Arena.{trees, tree_of}
+use Rattle.counted_tree.specs.Internal.Arena.{IsLinkBelow, trees, tree_of}
 use Rattle.counted_tree.specs.Internal.Branch.{IsBranchOf}
-use Rattle.counted_tree.specs.Internal.Change.{tree_in, IsRebuilt}
+use Rattle.counted_tree.specs.Internal.Change.{tree_in, DifferByAtMost, IsRebuilt}
 use Rattle.counted_tree.specs.Internal.Settled.{KeepsRow, IsTold}
 use Rattle.counted_tree.specs.Internal.Table.{Hangs}
 use Rattle.counted_tree.proofs.Branches.{branch_small, read_row, row_of_branch}
@@ -58,7 +58,11 @@ copy_right-number-requires-clause-balanced c =
     let row = read_row c.args.table.now (Fork l n.entry r) l r n.entry c.get-row.result c.index-table-node.result refl c.requires.row
     c.get-row.ensures in
     let below : height s < height (Fork l n.entry r) = omega (arith, row.1, c.requires.right.tells.height, c.if-right-row.false) in
+    subst (λ (o : Option ℕ). DifferByAtMost 1 (height l) (height (tree_in a o))) c.in-Some.is
     (stays_right l r s n.entry c.requires.node.balanced c.requires.rises below).0
+
+pub copy_right-number-requires-clause-right : goal.copy_right-number-requires-clause-right
+copy_right-number-requires-clause-right c = subst (IsLinkBelow (length c.args.nodes.now.nodes)) c.in-Some.is c.requires.right.link
 
 pub returns : goal.returns
 returns c =
@@ -80,7 +84,7 @@ returns c =
     let one : length d.nodes - length a.nodes ≡ 1 = omega (arith, c.copy_right-number.ensures.count) in
     let least = gains_least c.args.entry.now (entries (Fork l n.entry r)) (entries (Fork l n.entry s))
     (gains_right c.args.entry.now n.entry (entries r) (entries s) (entries l) c.requires.gains) in
-    let is = c.copy_right-number.ensures.tree in
+    let is = c.copy_right-number.ensures.tree ∙ ap (λ (o : Option ℕ). Fork l n.entry (tree_in a o)) (sym c.in-Some.is) in
     let tree = ap (tree_in d) c.settle.ensures.link ∙ is in
     let hung = c.hang.ensures s c.requires.right.tells in
     record {
@@ -100,6 +104,6 @@ returns c =
       grown = λ made g. grown_right l r s _ n.entry made (length d.nodes - length a.nodes) c.requires.node.balanced g
           (subst (IsRebuilt l n.entry s) (sym tree) p) (omega (arith, one)) (λ _. one);
       hangs = subst (Hangs old new) (sym tree) (hangs_right_side l s n.entry old new c.requires.ready c.requires.other hung);
-      looks = omega (arith, c.copy_right-number.ensures.count);
+      cost = omega (arith, c.copy_right-number.ensures.count);
       counts_on = omega arith;
     }

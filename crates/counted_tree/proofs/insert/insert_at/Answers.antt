@@ -52,7 +52,7 @@ loop-level-init c =
       within = omega arith;
       made = made_there a c.insert_behind-made.new.nodes tb c.insert_behind-made.new.table t path ns c.args.entry.now
           c.insert_behind-made.result (length path) (get_or ns (length path) 0) along number refl c.insert_behind-made.ensures.inserted;
-      looks = omega (arith, c.insert_behind-made.ensures.looks, c.numbers_along-numbers.ensures.cost);
+      cost = omega (arith, c.insert_behind-made.ensures.cost, c.numbers_along-numbers.ensures.cost);
       counted = omega (arith, c.insert_behind-made.ensures.counted, c.numbers_along-numbers.ensures.counts_on);
     }
 
@@ -136,7 +136,7 @@ loop-level-preserved c =
       within = omega (arith, inv.within);
       made = lifted_there a c.lift-made.new.nodes tb c.lift-made.new.table t path ns c.args.entry.now c.lift-made.result
           level i k s along number side one (c.lift-made.ensures.inserted a tb (drop level path) lifts);
-      looks = omega (arith, one, c.lift-made.ensures.looks, inv.looks);
+      cost = omega (arith, one, c.lift-made.ensures.cost, inv.cost);
       counted = omega (arith, c.lift-made.ensures.counts_on, inv.counted);
     }
 
@@ -148,11 +148,11 @@ returns-clause-inserted c =
     subst (λ j. IsInserted a c.loop-level.nodes c.args.table.now c.loop-level.table (under (tree_in a c.args.link) (take j path))
     (drop j path) c.args.entry.now c.loop-level.made) e c.loop-level.invariant.made
 
-pub returns-in-Settled-clause-looks : goal.returns-in-Settled-clause-looks
-returns-in-Settled-clause-looks c = omega (arith, c.lift_settled.ensures.looks, c.loop-level.invariant.looks)
+pub returns-in-Settled-clause-cost : goal.returns-in-Settled-clause-cost
+returns-in-Settled-clause-cost c = omega (arith, c.lift_settled.ensures.cost, c.loop-level.invariant.cost)
 
-pub returns-clause-looks : goal.returns-clause-looks
-returns-clause-looks c = omega (arith, c.loop-level-test.false, c.loop-level.invariant.looks)
+pub returns-clause-cost : goal.returns-clause-cost
+returns-clause-cost c = omega (arith, c.loop-level-test.false, c.loop-level.invariant.cost)
 
 pub returns-in-Settled-clause-counted : goal.returns-in-Settled-clause-counted
 returns-in-Settled-clause-counted c = omega (arith, c.lift_settled.ensures.counts_on, c.loop-level.invariant.counted)

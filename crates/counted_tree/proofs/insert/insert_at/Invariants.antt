@@ -10,7 +10,7 @@ invariant-loop-level l = record {
   within : l.level ≤ length l.path;
   made : IsInserted l.fn.nodes l.nodes l.fn.table l.table (under (tree_in l.fn.nodes l.fn.link) (take l.level l.path))
       (drop l.level l.path) l.entry l.made;
-  looks : l.steps + 4 * length l.fn.nodes.nodes ≤ l.fn.steps + l.level + 4 * length l.nodes.nodes;
+  cost : l.steps + 4 * length l.fn.nodes.nodes ≤ l.fn.steps + l.level + 4 * length l.nodes.nodes;
   counted : IsCounted l.fn.steps l.steps;
 }
 

@@ -65,7 +65,7 @@ loop-level-preserved c =
                 made level i k s r.along number
                 side one (c.step_settled-made.ensures.inserted a tb mid (drop level path) c.args.entry.now c.of-more.ensures lifts);
           };
-      looks = omega (arith, one, c.step_settled-made.ensures.looks, inv.looks);
+      cost = omega (arith, one, c.step_settled-made.ensures.cost, inv.cost);
       counts_on = omega (arith, c.step_settled-made.ensures.counts_on, inv.counts_on);
     }
 
@@ -81,5 +81,5 @@ returns-clause-inserted c =
     subst (λ j. IsInserted a c.loop-level.nodes tb mid (under t (take j path)) (drop j path) c.args.entry.now
     part) e (c.loop-level.invariant.risen a tb mid t given).part_made
 
-pub returns-clause-looks : goal.returns-clause-looks
-returns-clause-looks c = omega (arith, c.loop-level-test.false, c.loop-level.invariant.looks)
+pub returns-clause-cost : goal.returns-clause-cost
+returns-clause-cost c = omega (arith, c.loop-level-test.false, c.loop-level.invariant.cost)

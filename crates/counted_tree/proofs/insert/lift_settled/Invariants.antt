@@ -4,7 +4,7 @@ use Rattle.counted_tree.specs.declared.row.Row.{Row}
 use Rattle.counted_tree.specs.Internal.Tree.{Tree}
 use Rattle.counted_tree.specs.Internal.Store.{Store}
 use Rattle.counted_tree.specs.Internal.Inserted.{IsRisen}
-use Rattle.counted_tree.specs.Internal.Looks.{CountsOn}
+use Rattle.counted_tree.specs.Internal.Counter.{CountsOn}
 use Rattle.counted_tree.proofs.insert.lift_settled.Given as goal
 
 abbrev pub invariant-loop-level : goal.invariant-loop-level
@@ -16,7 +16,7 @@ invariant-loop-level l = record {
         top = Settled l.top;
         rank = record { shown = l.shown; units = l.units };
       });
-  looks : l.steps + l.fn.levels + 4 * length l.fn.nodes.nodes ≤ l.fn.steps + l.level + 4 * length l.nodes.nodes;
+  cost : l.steps + l.fn.levels + 4 * length l.fn.nodes.nodes ≤ l.fn.steps + l.level + 4 * length l.nodes.nodes;
   counts_on : CountsOn l.fn.steps l.steps;
 }
 

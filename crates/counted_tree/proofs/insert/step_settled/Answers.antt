@@ -86,12 +86,12 @@ returns-in-Right-clause-inserted c = λ a tb mid path x more given.
     (subst (λ z. IsInserted a d tb mid (tree_in a (Some c.args.at)) (Right ∷ path) x (record { top = Settled k; rank = z }))
     (sym c.through-past.ensures) whole)
 
-pub returns-in-Left-clause-looks : goal.returns-in-Left-clause-looks
-returns-in-Left-clause-looks c =
+pub returns-in-Left-clause-cost : goal.returns-in-Left-clause-cost
+returns-in-Left-clause-cost c =
     let made = c.push_with_left-top.ensures.nodes c.look-node.result c.look-node.ensures.node in
     omega (arith, c.look-node.ensures.cost, ap length made ∙ length_push c.args.nodes.now.nodes _)
 
-pub returns-in-Right-clause-looks : goal.returns-in-Right-clause-looks
-returns-in-Right-clause-looks c =
+pub returns-in-Right-clause-cost : goal.returns-in-Right-clause-cost
+returns-in-Right-clause-cost c =
     let made = c.push_with_right-top.ensures.nodes c.look-node.result c.look-node.ensures.node in
     omega (arith, c.look-node.ensures.cost, ap length made ∙ length_push c.args.nodes.now.nodes _)

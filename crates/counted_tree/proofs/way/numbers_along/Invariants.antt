@@ -2,7 +2,7 @@ use Rattle.std.proofs.Common.{◌≡◌, ◌+◌, ◌<◌, ◌≤◌, length, ta
 use Rattle.counted_tree.specs.Internal.Change.{tree_in}
 use Rattle.counted_tree.specs.Internal.Along.{under}
 use Rattle.counted_tree.specs.Internal.Inserted.{AreAlong}
-use Rattle.counted_tree.specs.Internal.Looks.{CountsOn}
+use Rattle.counted_tree.specs.Internal.Counter.{CountsOn}
 use Rattle.counted_tree.proofs.way.numbers_along.Given as goal
 
 abbrev pub invariant-loop-side : goal.invariant-loop-side

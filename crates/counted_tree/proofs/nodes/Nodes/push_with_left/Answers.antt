@@ -33,7 +33,7 @@ returns-clause-nodes c =
     c.self.view_is in
     let at : slice_get nodes c.args.at ≡ Some packed =
     read_at nodes c.args.at packed (omega (arith, long, length-nodes_of keys_and_widths nodes, c.requires.number)) c.index-packed.ensures in
-    let change : Node → Node = λ n. record n { left = c.args.left; left_size = c.args.size } in
+    let change : Node → Node = λ n. record n { left = Some c.args.left; left_size = c.args.size } in
     λ n there. ap (nodes_of keys_and_widths) c.push_reserved.ensures.items
     ∙ nodes_copied keys_and_widths nodes c.args.at packed c.with_left.result change n at
     (subst (λ (s : Store). slice_get s.nodes c.args.at ≡ Some n) (sym c.self.view_is) there) c.with_left.ensures.node
