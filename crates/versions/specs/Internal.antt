@@ -4,3 +4,4 @@ pub mod Named
 pub mod Joined
 pub mod Kept
 pub mod KeptEdits
+pub mod Walked
