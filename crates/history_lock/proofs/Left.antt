@@ -10,8 +10,8 @@ use Rattle.history_lock.specs.declared.pass.Stage.TheVariants.{Inside}
 use Rattle.history_lock.specs.declared.pass.Sight.{Sight}
 use Rattle.history_lock.specs.Sights.{total, left_of, weigh, weight_of, last_or, NeverFalls, longer, Among}
 use Rattle.history_lock.specs.Sights.{finished}
-use Rattle.history_lock.specs.Lock.{home, out, Stands, Fits, HasTicket, Lock}
-use Rattle.history_lock.specs.Told.{leaves}
+use Rattle.history_lock.specs.Internal.Lock.{home, out, Stands, Fits, HasTicket, Lock}
+use Rattle.history_lock.specs.Internal.Steps.{leaves}
 use Rattle.history_lock.proofs.Prefixes.{prefix_self, prefix_trans, prefix_length}
 use Rattle.history_lock.proofs.Prefixes.{longer_prefix, longer_whole, among_prefix, among_append, among_drop}
 use Rattle.history_lock.proofs.Prefixes.{weigh_append, weigh_drop, rising_snoc}

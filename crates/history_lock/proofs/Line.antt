@@ -10,7 +10,7 @@ use Rattle.history_lock.specs.declared.pass.Stage.{Stage}
 use Rattle.history_lock.specs.declared.pass.Stage.TheVariants.{Idle, Waiting, Inside, Peeked}
 use Rattle.history_lock.specs.declared.pass.Sight.{Sight}
 use Rattle.history_lock.specs.Sights.{kept_draws}
-use Rattle.history_lock.specs.Lock.{Place, out, Stands, HasTicket}
+use Rattle.history_lock.specs.Internal.Lock.{Place, out, Stands, HasTicket}
 use Rattle.history_lock.proofs.Passes.{set_at}
 
 pick : {P : Type 0} → Dec P → ℕ → ℕ → ℕ

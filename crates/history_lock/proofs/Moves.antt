@@ -11,7 +11,7 @@ use Rattle.atomic_table.proofs.Lists.{set_else, at_longer}
 use Rattle.history_lock.specs.declared.pass.Stage.TheVariants.{Inside}
 use Rattle.history_lock.specs.declared.pass.Sight.{Sight}
 use Rattle.history_lock.specs.Sights.{left_of, weigh, weight_of}
-use Rattle.history_lock.specs.Lock.{Place, home, out, Stands, Fits, HasTicket, Lies, Lock}
+use Rattle.history_lock.specs.Internal.Lock.{Place, home, out, Stands, Fits, HasTicket, Lies, Lock}
 use Rattle.history_lock.proofs.Passes.{set_at, total_set, part_of_total}
 use Rattle.history_lock.proofs.Line.{stands_on}
 use Rattle.history_lock.proofs.Line.{Held, held_on, each_set}

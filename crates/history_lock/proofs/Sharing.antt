@@ -13,7 +13,7 @@ use Rattle.history_lock.specs.declared.pass.Stage.TheVariants.{Idle}
 use Rattle.history_lock.specs.declared.pass.Sight.{Sight}
 use Rattle.history_lock.specs.Sights.{left_of, weight_of, longer, Among, opened, spent}
 use Rattle.history_lock.specs.Sights.{kept_draws, given_draws, joined}
-use Rattle.history_lock.specs.Lock.{Place, home, out, Stands, Fits, HasTicket, Lies, Lock}
+use Rattle.history_lock.specs.Internal.Lock.{Place, home, out, Stands, Fits, HasTicket, Lies, Lock}
 use Rattle.history_lock.proofs.Prefixes.{prefix_self, prefix_nil, longer_first, longer_second}
 use Rattle.history_lock.proofs.Prefixes.{longer_whole, among_prefix, among_nil, among_append}
 use Rattle.history_lock.proofs.Prefixes.{weigh_append}

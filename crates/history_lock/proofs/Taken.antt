@@ -15,8 +15,8 @@ use Rattle.history_lock.specs.declared.pass.Stage.TheVariants.{Waiting, Inside, 
 use Rattle.history_lock.specs.declared.pass.Sight.{Sight}
 use Rattle.history_lock.specs.Sights.{total, left_of, last_or, longer, Among, opened, drew, took}
 use Rattle.history_lock.specs.Sights.{won, gave_up}
-use Rattle.history_lock.specs.Lock.{slot_at, Stands, HasTicket, Lock}
-use Rattle.history_lock.specs.Told.{looks, tries}
+use Rattle.history_lock.specs.Internal.Lock.{slot_at, Stands, HasTicket, Lock}
+use Rattle.history_lock.specs.Internal.Steps.{looks, tries}
 use Rattle.history_lock.proofs.Prefixes.{prefix_self, prefix_length}
 use Rattle.history_lock.proofs.Prefixes.{longer_prefix, longer_whole, among_prefix}
 use Rattle.history_lock.proofs.Passes.{part_of_total}

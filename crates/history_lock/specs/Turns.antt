@@ -1,4 +1,4 @@
--- What a pass knows of the turns of its lock: which trail was left for each. The lock and this account of it are the project's own.
+-- What a pass knows of the turns of its lock: which trail was left for each. The lock and this account of it are the server's own.
 use Rattle.std.specs.Prelude.{◌≡◌, ℕ, ◌+◌, ◌<◌, ◌≤◌, List, ◌∷◌, length, Some, slice_get}
 use mathlib.Core.List.{IsPrefix}
 use Rattle.history_lock.specs.declared.pass.Sight.{Sight}

@@ -1,9 +1,10 @@
 //! A lock whose tickets are served in their order, round a value that only grows, and passes that know what they have
 //! seen of it.
 //!
-//! The lock is this project's own. Its one rule stands in `specs/Lock.antt`; the seven kinds of its atomic steps, and
-//! the load that ends a join, in `specs/Told.antt`; what a pass knows in `specs/Sights.antt`; which trail was left for
-//! each turn in `specs/Turns.antt`; and the words of the public contracts in `specs/Locks.antt`.
+//! The lock is the server's own. What a pass knows stands in `specs/Sights.antt`; which trail was left for each turn in
+//! `specs/Turns.antt`; what a pass is told as its turn comes in `specs/Told.antt`; and the words of the public contracts in
+//! `specs/Locks.antt`. The lock's one rule and the kinds of its atomic steps are the code's alone: `specs/Internal/Lock.antt`,
+//! `specs/Internal/Steps.antt`.
 #![tactic(auto)]
 
 mod bells;

@@ -1,8 +1,8 @@
 //! The lock's rule, and what each of its steps tells. These types are for the proofs alone; their meaning stands in
 //! specs/.
 ghost use Rattle.history_lock.specs.Sights.{opened, spent, kept_draws, given_draws, joined};
-ghost use Rattle.history_lock.specs.Lock.{Lock};
-ghost use Rattle.history_lock.specs.Told.{draws_ticket, looks, leaves, peeks, tries, learns};
+ghost use Rattle.history_lock.specs.Internal.Lock.{Lock};
+ghost use Rattle.history_lock.specs.Internal.Steps.{draws_ticket, looks, leaves, peeks, tries, learns};
 ghost use Rattle.std.specs.Prelude.{ℕ, ◌^◌, length};
 
 use crate::pass::Sight;
