@@ -1,4 +1,5 @@
--- The first operation that is ready, in the field's own words: none before it is ready, and the others stay as they stand.
+-- The first operation that is ready, in the field's own words (Roh, Jeon, Kim and Lee 2011; causal delivery): none before it is
+-- ready, and the others stay as they stand.
 use Rattle.std.specs.Prelude.{◌≡◌, ℕ, true, false, List, ◌∷◌, ◌++◌}
 use Rattle.std.specs.List.{AllByRecursion}
 use Rattle.opid.specs.Clocks.{is_next}

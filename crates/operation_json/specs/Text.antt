@@ -1,4 +1,5 @@
--- The one text of an operation, and of operations packed: compact JSON (RFC 8259), its keys in the order of their bytes.
+-- The one text of an operation, and of operations packed: compact JSON (RFC 8259), its keys in the order of their bytes. The form is
+-- the server's own.
 use Rattle.std.specs.Prelude.{ℕ, ◌<◌, ◌^◌, nat_lt, IsTrue, Option, Some, None, List, [], ◌∷◌, ◌++◌, map, filter, codes, decimal}
 use Rattle.std.specs.Str.{all_scalars}
 use Rattle.opid.specs.declared.stamp.Stamp.{Stamp}

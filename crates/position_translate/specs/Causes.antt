@@ -1,5 +1,5 @@
 -- Why operations that are asked for by a place in a version of a log are refused, memory apart: the first of the
--- causes, in this order. A place counts characters, as in Attiya and others 2016, or UTF-16 code units; the limits are this
+-- causes, in this order. A place counts characters, as in Attiya and others 2016, or UTF-16 code units; the limits are the
 -- server's own.
 use Rattle.std.specs.Prelude.{ℕ, ◌+◌, Bool, true, false, ◌||◌, nat_lt, if◌then◌else◌, Option, Some, None, List, length, take, drop}
 use Rattle.opid.specs.declared.refusal.Refusal.{Refusal}

@@ -1,5 +1,5 @@
 -- Which part of a log bytes tell, or why they are refused: the JSON object that an `ops` reply is (RFC 8259), as `serde_json` reads
--- it.
+-- it. The reply is the server's own.
 use Rattle.std.specs.Prelude.{ℕ, nat_le, if◌then◌else◌, Result, Ok, Err, List, length, [], ◌∷◌, codes, bytes_eq}
 use Rattle.serde_json.specs.Data.{Data}
 use Rattle.opid.specs.declared.refusal.Refusal.{Refusal}

@@ -1,4 +1,4 @@
--- The one text of a reply: a compact JSON object (RFC 8259), its keys in the order of their bytes.
+-- The one text of a reply: a compact JSON object (RFC 8259), its keys in the order of their bytes. The replies are the server's own.
 use Rattle.std.specs.Prelude.{ℕ, ◌<◌, ◌^◌, IsTrue, List, [], ◌∷◌, ◌++◌, map, codes, decimal}
 use Rattle.std.specs.Str.{all_scalars}
 use Rattle.std.specs.List.{AllByRecursion}
