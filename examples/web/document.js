@@ -5,6 +5,7 @@
  * The text is a list of pieces. A piece is the room's, or it was put in here and is new or under way; and it may be gone, which is a
  * deletion that is new or under way. What is shown are the pieces that aren't gone. The room's text are the pieces that are its own.
  */
+import { beginning, characters, differences, isInside } from "./text.js";
 
 /** The most characters of an insertion, and the most units of a deletion, that one submission has. */
 export const MOST = 64;
@@ -54,11 +55,6 @@ class Piece {
   }
 }
 
-/** Whether the place of the text is inside of a pair of units. */
-export function isInside(text, place) {
-  return (text.charCodeAt(place - 1) & 0xfc00) === 0xd800 && (text.charCodeAt(place) & 0xfc00) === 0xdc00;
-}
-
 /** A place carried over changes of the text. At equality it stays before what is put in. */
 export function carried(place, changes) {
   for (const { at, removed, text } of changes) {
@@ -70,40 +66,8 @@ export function carried(place, changes) {
   return place;
 }
 
-/**
- * The one change that leads from a text to another. What both end with counts first in the last `behind` units, as behind a caret, then
- * what they begin with, and then what they end with. No end of it is inside of a pair.
- * @returns {Change}
- */
-export function difference(from, to, behind = 0) {
-  const most = Math.min(from.length, to.length);
-  const isSameEnd = (end) => from[from.length - 1 - end] === to[to.length - 1 - end];
-  let start = 0;
-  let end = 0;
-  while (end < Math.min(behind, most) && isSameEnd(end)) end += 1;
-  while (start < most - end && from[start] === to[start]) start += 1;
-  while (end < most - start && isSameEnd(end)) end += 1;
-  if (isInside(from, start) || isInside(to, start)) start -= 1;
-  if (isInside(from, from.length - end) || isInside(to, to.length - end)) end -= 1;
-  return { at: start, removed: from.length - end - start, text: to.slice(start, to.length - end) };
-}
-
-/** The first so many characters of a text. */
-function beginning(text, characters) {
-  let end = 0;
-  for (let n = 0; n < characters && end < text.length; n += 1) end += text.codePointAt(end) > 0xffff ? 2 : 1;
-  return text.slice(0, end);
-}
-
-/** How many characters a text has. */
-function characters(text) {
-  let count = 0;
-  for (const _ of text) count += 1;
-  return count;
-}
-
 /** Adds a change, or lengthens the last one where it goes on there. */
-function add(changes, change) {
+export function add(changes, change) {
   const last = changes.at(-1);
   if (last !== undefined && last.removed === 0 && change.removed === 0 && change.at === last.at + last.text.length) last.text += change.text;
   else if (last !== undefined && last.text === "" && change.text === "" && change.at === last.at) last.removed += change.removed;
@@ -117,10 +81,12 @@ export class Document {
   /** What is under way: nothing, or what was sent; once it is accepted, from and to which version it leads. */
   #sent = null;
 
-  /** The document of a room's text at a version. */
-  constructor(text = "", version = 0) {
+  /** The document of a room's text at a version, whose log has this last. */
+  constructor(text = "", version = 0, last = []) {
     this.#pieces = text === "" ? [] : [new Piece(text, "room")];
     this.version = version;
+    /** What the log has last up to the version: of an insertion its character, and an empty text of a deletion. @type {string[]} */
+    this.last = last;
   }
 
   /** The text that is shown. */
@@ -131,6 +97,17 @@ export class Document {
   /** The room's text at the document's version. */
   get roomText() {
     return this.#pieces.map((piece) => (piece.isRooms ? piece.text : "")).join("");
+  }
+
+  /** The room's text as it is once what is under way is played. */
+  get textToCome() {
+    return this.#pieces.map((piece) => (piece.owner !== "new" && piece.gone !== "sent" ? piece.text : "")).join("");
+  }
+
+  /** What the log has of what is under way, once it is accepted, as `last` tells it. */
+  get underWay() {
+    const signs = this.#pieces.map((piece) => (piece.owner === "sent" || piece.gone === "sent" ? [...piece.text] : []));
+    return signs.flat().map((sign) => (this.#sent.submission.t === "ins" ? sign : ""));
   }
 
   /** The texts that were put in here and that the room isn't known to have. */
@@ -290,6 +267,13 @@ export class Document {
     }
   }
 
+  /** What is under way is the room's, where it is shown. */
+  came() {
+    this.#sent = null;
+    this.#pieces = this.#pieces.filter((piece) => piece.gone !== "sent");
+    for (const piece of this.#pieces) if (piece.owner === "sent") piece.owner = "room";
+  }
+
   /**
    * Plays edits that lead from the document's version on, and gives the changes of the shown text, each of the text that the ones before
    * lead to. While something is under way it has to be accepted before.
@@ -308,17 +292,21 @@ export class Document {
       }
       this.version += 1;
       if (isOwn && this.version === this.#sent.to) this.#sent = null;
+      this.last.push(edit[0] === "i" ? edit[2] : "");
     }
+    this.last.splice(0, this.last.length - MOST);
     return changes;
   }
 
   /** The room has another text by now, of a version whose way from this one isn't known: what both have in common stays. */
-  follow(text, version) {
+  follow({ roomText, version, last }) {
     const changes = [];
-    const { at, removed, text: put } = difference(this.roomText, text);
-    this.#take(at, removed, changes);
-    if (put !== "") this.#put(at, put, changes);
+    for (const { at, removed, text } of differences(this.roomText, roomText)) {
+      this.#take(at, removed, changes);
+      if (text !== "") this.#put(at, text, changes);
+    }
     this.version = version;
+    this.last = last;
     return changes;
   }
 

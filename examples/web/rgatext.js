@@ -7,13 +7,15 @@
  *     session.addEventListener("changes", ({ detail }) => { ... });  // what to play on an editor's own text
  *     session.replace(0, 0, "Hello");
  */
-import { carried, difference, Document } from "./document.js";
+import { Connection, Lost, Refused } from "./connection.js";
+import { add, carried, Document, MOST } from "./document.js";
+import { Log } from "./log.js";
+import { difference, differences } from "./text.js";
 
-export { carried, difference, Document };
+export { carried, difference, Document, Lost, Refused };
 
 /**
- * An open line to a room: `ask` sends a request and gives its reply, in the order of requests, or throws `Lost`.
- * @typedef {{ask(request: object): Promise<object>, close(): void}} Line
+ * @typedef {import("./connection.js").Line} Line
  * @typedef {import("./document.js").Change} Change
  * @typedef {"joining" | "up to date" | "sending" | "offline" | "refused" | "another text" | "closed"} State
  */
@@ -21,34 +23,13 @@ export { carried, difference, Document };
 /** The most operations of a room. */
 const OPERATIONS = 131_072;
 
-/** The most edits of a pull, and operations of an `ops`. */
-const MOST = 64;
-
-/** Milliseconds: between two rounds of a typist, between two pulls that bring nothing, until an answer is missed, until a retry. */
+/** Milliseconds: between two rounds of a typist, between two pulls that bring nothing, until a retry. */
 const TYPING = 200;
 const IDLE = 1_000;
-const MISSED = 8_000;
 const RETRY = 100;
 const LONGEST = 5_000;
 
-/** What the numbers of refusals mean that a session may come to. */
-const REASONS = {
-  4: "the server has no room of this name",
-  6: "64 editors are there, and no more may join",
-  12: "the room is full: it takes no more changes",
-  13: "the room is at its end: it takes no more calls",
-};
-
-/** No answer came. The request may have been carried out. */
-export class Lost extends Error {}
-
-/** The server refused a request; `number` says why. */
-export class Refused extends Error {
-  constructor(number) {
-    super(REASONS[number] ?? `the server refused a request with ${number}`);
-    this.number = number;
-  }
-}
+const ANOTHER = "the room has another text by now";
 
 /** A change that doesn't fit into the room. Nothing of it was done. */
 export class Full extends RangeError {
@@ -65,59 +46,26 @@ export class Ended extends Error {
   }
 }
 
-const pause = (milliseconds) => new Promise((resolve) => setTimeout(resolve, milliseconds));
-
-/** A line over a WebSocket: requests go out, and their replies come in the same order. */
-export class SocketLine {
-  /** Connects, and opens the room. */
-  static async open(address, room, Socket = globalThis.WebSocket) {
-    const line = new SocketLine(new Socket(address));
-    const reply = await line.ask({ t: "open", room });
-    if (reply.r !== "opened") {
-      line.close();
-      throw new Refused(reply.n);
-    }
-    return line;
-  }
-
-  constructor(socket) {
-    this.socket = socket;
-    this.asked = [];
-    this.isOpen = true;
-    this.opened = new Promise((resolve, reject) => {
-      socket.addEventListener("open", resolve);
-      socket.addEventListener("close", () => {
-        this.close();
-        reject(new Lost());
-      });
-      socket.addEventListener("error", () => this.close());
-    });
-    this.opened.catch(() => {});
-    socket.addEventListener("message", ({ data }) => this.asked.shift()?.resolve(JSON.parse(data)));
-  }
-
-  /** Sends a request, and gives its reply. An answer that is missed ends the line. */
-  async ask(request) {
-    let timer;
-    try {
-      return await new Promise((resolve, reject) => {
-        if (!this.isOpen) reject(new Lost());
-        timer = setTimeout(() => this.close(), MISSED);
-        this.asked.push({ resolve, reject });
-        this.opened.then(() => this.socket.send(JSON.stringify(request)), reject);
-      });
-    } finally {
-      clearTimeout(timer);
-    }
-  }
-
-  close() {
-    if (!this.isOpen) return;
-    this.isOpen = false;
-    this.socket.close();
-    for (const { reject } of this.asked.splice(0)) reject(new Lost());
+/** The room and the session don't have one count any more, on a line that is there: the run of the server is the same. */
+class OutOfStep extends Error {
+  constructor(number) {
+    super();
+    this.isGone = number === 5;
   }
 }
+
+/** What a refused request leads to. */
+function refusal(number) {
+  if (number === 25) return new Lost();
+  return [5, 7, 8, 9, 22].includes(number) ? new OutOfStep(number) : new Refused(number);
+}
+
+/** In how many characters two texts differ. */
+function distance(from, to) {
+  return differences(from, to).reduce((sum, { removed, text }) => sum + removed + text.length, 0);
+}
+
+const pause = (milliseconds) => new Promise((resolve) => setTimeout(resolve, milliseconds));
 
 /**
  * A session. It tells of itself by events: `changes`, whose `detail` is a list of changes of the shown text, made by others or by the room;
@@ -126,13 +74,16 @@ export class SocketLine {
 export class Session extends EventTarget {
   #connect;
   #line = null;
+  #log = new Log((request) => this.#ask(request));
   #number = null; // of the session; none before it has joined
   #last = { n: 0, from: 0, to: 0 }; // the last accepted submission
   #underWay = null; // the request of a submission whose answer wasn't seen
-  #known = { version: 0, operations: "" }; // what the log was known to have last, for whether another run goes on with it
   #other = null; // the document of another run of the server, until the user chooses
+  #compared = null; // its version where the user chose to put in what is shown
   #wake = () => {};
+  #isServed = false; // the line is open, and the session is there
   #isClosed = false;
+  #leaving = null; // the request to leave, once the session is closed
   #isRefused = false; // for good: nothing is tried any more
 
   /**
@@ -146,6 +97,8 @@ export class Session extends EventTarget {
     /** @type {State} */
     this.state = "joining";
     this.why = "";
+    /** Whether another run of the server has another text, of which the user is to choose. */
+    this.hasOther = false;
     /** Settles when the session has ended; `state` and `why` tell how. */
     this.ended = this.#run();
     this.ended.catch(() => {});
@@ -212,69 +165,99 @@ export class Session extends EventTarget {
     this.#goOn();
   }
 
-  /** Another run of the server has another text: makes it the one that is shown. */
+  /** Another run of the server has another text: makes it the one that is shown, unless the room changes before. */
   putMine() {
     if (this.#other === null) return;
+    if (this.#isRefused) throw new Ended(this.why);
     const { at, removed, text } = difference(this.#other.roomText, this.text);
     const left = OPERATIONS - this.#other.version;
     if (this.#other.cost(at, removed, text) > left) throw new Full(left);
-    this.document = this.#other;
-    this.document.replace(at, removed, text);
-    this.#goOn();
+    this.#compared = this.#other.version;
+    this.#wake();
   }
 
-  /** Ends the session: leaves the room, where the line is there, and sends nothing more. */
+  /** Ends the session: leaves the room at once, or where the line isn't there tries to, once; sends nothing more. */
   async close() {
     this.#isClosed = true;
+    if (this.#isServed) this.#leave().catch(() => {});
     this.#wake();
     await this.ended;
   }
 
+  /** The user has chosen, or needn't. */
   #goOn() {
     this.#other = null;
-    this.#tell("sending");
+    this.#compared = null;
+    this.#tell(this.#isServed ? "sending" : this.state, this.#isServed ? "" : this.why);
     this.#wake();
   }
 
   #tell(state, why = "") {
-    if (state === this.state && why === this.why) return;
-    this.state = state;
-    this.why = why;
+    const hasOther = this.#other !== null;
+    if (state === this.state && why === this.why && hasOther === this.hasOther) return;
+    Object.assign(this, { state, why, hasOther });
     this.dispatchEvent(new CustomEvent("state"));
   }
 
   #tellChanges(changes) {
-    const told = changes.filter(({ removed, text }) => removed > 0 || text !== "");
+    const told = [];
+    for (const change of changes) if (change.removed > 0 || change.text !== "") add(told, change);
     if (told.length > 0) this.dispatchEvent(new CustomEvent("changes", { detail: told }));
   }
 
   /** Connects, again and again, and serves each line as long as it lasts. */
   async #run() {
-    for (let wait = RETRY; !this.#isClosed; ) {
+    for (let wait = RETRY; !this.#isClosed && !this.#isRefused; wait = Math.min(2 * wait, LONGEST)) {
       try {
         this.#line = await this.#connect();
         await this.#resume();
+        this.#isServed = true;
         wait = RETRY;
         await this.#serve();
-        await this.#ask({ t: "leave", s: this.#number });
+        await this.#leave();
       } catch (fault) {
-        const isFault = !(fault instanceof Lost || fault instanceof Refused);
-        if (isFault || (fault instanceof Refused && fault.number !== 25)) {
-          this.#isRefused = fault.number !== 6;
-          this.#tell("refused", fault.message);
-          if (isFault) this.#line?.close();
-          if (isFault) throw fault;
-          if (this.#isRefused) break;
-        } else if (this.state !== "joining") {
-          this.#tell("offline");
-        }
+        this.#failed(fault);
       }
+      this.#isServed = false;
       this.#line?.close();
-      if (!this.#isClosed) await this.#sleep(wait);
-      wait = Math.min(2 * wait, LONGEST);
+      if (!this.#isClosed && !this.#isRefused) await this.#sleep(wait);
+    }
+    if (!this.#isClosed) return;
+    await this.#leaveLate();
+    this.#tell("closed");
+  }
+
+  /** Says what went wrong, and whether it is for good. A fault that is none of the line's or the room's is thrown on. */
+  #failed(fault) {
+    if (this.#isClosed && fault instanceof Lost) return;
+    const isFault = !(fault instanceof Lost || fault instanceof Refused || fault instanceof OutOfStep);
+    if (isFault || (fault instanceof Refused && fault.number !== 26)) {
+      this.#isRefused = fault.number !== 6;
+      this.#tell("refused", fault.message);
+    } else {
+      this.#tell("offline", fault.message);
+    }
+    if (isFault) this.#line?.close();
+    if (isFault) throw fault;
+  }
+
+  /** Asks for the end of the session, once. */
+  #leave() {
+    this.#leaving ??= this.#line.ask({ t: "leave", s: this.#number });
+    return this.#leaving;
+  }
+
+  /** Leaves a session that was closed while the line wasn't there: once, and only where the run of the server is the same. */
+  async #leaveLate() {
+    const isLeft = this.#leaving === null ? this.#number === null : await this.#leaving.then(() => true, () => false);
+    if (isLeft) return;
+    try {
+      this.#line = await this.#connect();
+      if (await this.#isOurs(await this.#findOut())) await this.#ask({ t: "leave", s: this.#number });
+    } catch {
+      // the session stays
     }
     this.#line?.close();
-    if (this.#isClosed) this.#tell("closed");
   }
 
   /** Waits, but not longer than until something is to be done. */
@@ -287,7 +270,8 @@ export class Session extends EventTarget {
   async #ask(request) {
     for (;;) {
       const reply = await this.#line.ask(request);
-      if (reply.r !== "no" || reply.n !== 26) return reply;
+      if (reply.r !== "no" || (reply.n !== 25 && reply.n !== 26)) return reply;
+      if (reply.n === 25) throw new Lost();
       await pause(RETRY);
     }
   }
@@ -295,124 +279,127 @@ export class Session extends EventTarget {
   /** Asks, and throws where that is refused. */
   async #must(request) {
     const reply = await this.#ask(request);
-    if (reply.r === "no") throw new Refused(reply.n);
+    if (reply.r === "no") throw refusal(reply.n);
     return reply;
   }
 
   /** The session on a new line: the same one where the run of the server is the same, else a new one. */
   async #resume() {
     if (this.#number === null) {
-      const { v, x } = await this.#join();
+      const room = await this.#join();
       const mine = this.text; // what was typed before the first answer stands at the beginning
-      this.document = new Document(x, v);
+      this.document = room;
       if (mine !== "") this.document.replace(0, 0, mine);
-      this.#tellChanges([{ at: mine.length, removed: 0, text: x }]);
-    } else if (!(await this.#isSameRun())) {
-      await this.#joinAnew();
+      this.#tellChanges([{ at: mine.length, removed: 0, text: room.roomText }]);
+      return;
     }
+    const found = await this.#findOut();
+    if (found !== "same") await this.#joinAnew(await this.#isOurs(found));
   }
 
+  /** Joins, and gives the room's document. Only once all of it is there the session is the new one. */
   async #join() {
-    const joined = await this.#must({ t: "join", u: 16 });
-    this.#number = joined.s;
+    const { s, v, x } = await this.#must({ t: "join", u: 16 });
+    const last = await this.#log.last(v);
+    this.#number = s;
     this.#last = { n: 0, from: 0, to: 0 };
     this.#underWay = null;
-    return joined;
+    return new Document(x, v, last);
+  }
+
+  /** The document that the session follows. */
+  get #current() {
+    return this.#other ?? this.document;
   }
 
   /**
-   * Whether the server is in the same run: it answers the last accepted submission, asked for once more with an empty text, as it did.
-   * Where one was under way it may have been accepted since, and is then the last: its operations tell.
+   * What the session's number is on a new line. The same run of the server answers the last accepted submission, asked for once more with
+   * an empty text, as it did. Where one was under way it may have been accepted since, and is then the last: its operations tell.
+   * @returns {Promise<"same" | "unused" | "another">}
    */
-  async #isSameRun() {
+  async #findOut() {
     const again = (n) => this.#ask({ t: "ins", s: this.#number, n, v: 0, k: 0, x: "" });
     const { n, from, to } = this.#last;
     let reply = n > 0 ? await again(n) : { r: "no", n: 7 };
-    if (reply.r === "ok") return reply.from === from && reply.to === to;
+    let isSame = reply.r === "ok" && reply.from === from && reply.to === to;
+    if (reply.n === 7) {
+      reply = await again(n + 1);
+      isSame = reply.r === "ok" && this.#underWay !== null && (await this.#log.is(this.document, reply.from, reply.to));
+    }
     if (reply.n === 13) throw new Refused(13);
-    if (reply.n !== 7) return false;
-    reply = await again(n + 1);
-    if (reply.r === "ok") return this.#underWay !== null && (await this.#isMine(reply));
-    if (n > 0 || (reply.n !== 8 && reply.n !== 10) || !(await this.#readsTheSame())) return false;
-    await this.#ask({ t: "leave", s: this.#number }); // unused, and perhaps another client's in another run: no two may share it
-    this.document.takeBack();
-    const { v, x } = await this.#join();
-    this.#tellChanges(this.document.follow(x, v));
-    return true;
+    if (isSame) return (await this.#log.goesOn(this.document)) ? "same" : "another";
+    return n === 0 && (reply.n === 8 || reply.n === 10) ? "unused" : "another";
   }
 
   /**
-   * Whether the operations of an answer are those of the submission that is under way, in a log that begins as is known here. A deletion
-   * tells no place, so of those only the count is compared.
+   * Whether what was found is the session's own, or may be left as such: it is unused and its log the one that is known, so that who else
+   * may have it loses nothing.
    */
-  async #isMine({ from, to }) {
-    const { version, operations } = this.#known;
-    if (version > 0 && (version > from || (await this.#operations(version)) !== operations)) return false;
-    const { ops } = await this.#must({ t: "ops", after: from, max: Math.min(to - from, MOST) });
-    const request = this.#underWay;
-    const count = request.t === "ins" ? [...request.x].length : to - from;
-    return to - from === count && textOf(ops) === (request.t === "ins" ? request.x : "");
+  async #isOurs(found) {
+    return found === "same" || (found === "unused" && (await this.#log.goesOn(this.#current)));
   }
 
-  /** Whether the session, which has submitted nothing, leads to the text that is read. */
-  async #readsTheSame() {
-    const { roomText, version } = this.#other ?? this.document;
+  /**
+   * Joins, and goes on where the log goes on from what is known, as it does in the same run of the server. Else the text of the room
+   * stands beside that which is shown, until the user chooses. `isOwn`: the number is that of a session to leave.
+   */
+  async #joinAnew(isOwn, isSameRun = isOwn) {
+    const goesOn = (isSameRun && this.#other === null) || (await this.#log.goesOn(this.document));
+    const came = goesOn && this.document.isWaiting && (await this.#log.has(this.document));
+    const edits = isOwn && this.#other === null && !came ? await this.#editsSince() : [];
+    if (isOwn) await this.#ask({ t: "leave", s: this.#number });
+    const room = await this.#join();
+    const isThere = room.roomText === this.document.textToCome || (came && this.#isWhereShown(room.roomText));
+    if (!isThere && (came || !goesOn)) return this.#setBeside(room);
+    const changes = [];
+    if (isThere) this.document.came();
+    else this.document.takeBack();
+    if (!isThere) changes.push(...this.document.play(edits));
+    this.#tellChanges([...changes, ...this.document.follow(room)]);
+    this.#goOn();
+  }
+
+  #setBeside(room) {
+    this.#other = room;
+    this.#compared = null;
+    this.#tell("another text", ANOTHER);
+  }
+
+  /** Whether what is under way, which the log has, is in the room's text where it is shown. */
+  #isWhereShown(text) {
+    return distance(this.document.textToCome, text) < distance(this.document.roomText, text);
+  }
+
+  /** The edits since the document's version; none where they aren't to be had. */
+  async #editsSince() {
+    const { roomText, version } = this.document;
     const trial = new Document(roomText, version);
-    for (;;) {
-      const reply = await this.#ask({ t: "pull", s: this.#number, have: trial.version, max: MOST });
-      if (reply.r === "no") return false;
-      try {
-        trial.play(reply.es);
-      } catch (fault) {
-        if (fault instanceof RangeError) return false;
-        throw fault;
-      }
-      if (reply.es.length === MOST) continue;
-      const { v, x } = await this.#must({ t: "read" });
-      if (trial.version === v) return trial.roomText === x;
+    const edits = [];
+    for (let isMore = true; isMore; ) {
+      const { es = [] } = await this.#ask({ t: "pull", s: this.#number, have: version + edits.length, max: MOST });
+      edits.push(...es);
+      isMore = es.length === MOST;
     }
-  }
-
-  /** Joins another run of the server. What it doesn't know isn't thrown away. */
-  async #joinAnew() {
-    const known = this.#known;
-    const wasUnderWay = this.document.isWaiting;
-    this.document.takeBack();
-    const { v, x } = await this.#join();
-    const isWhole = !wasUnderWay && (known.version === this.document.version || difference(this.document.roomText, x).removed === 0);
-    const isKnown = isWhole && 0 < known.version && this.document.version <= v;
-    if (x === this.document.roomText || (isKnown && (await this.#operations(known.version)) === known.operations)) {
-      this.#tellChanges(this.document.follow(x, v));
-    } else {
-      this.#other = new Document(x, v);
-      this.#tell("another text", "the room has another text by now");
+    try {
+      trial.play(edits);
+      return edits;
+    } catch (fault) {
+      if (fault instanceof RangeError) return [];
+      throw fault;
     }
-  }
-
-  /** The last operations up to a version, as a text to compare. */
-  async #operations(version) {
-    const max = Math.min(version, MOST);
-    if (max === 0) return "";
-    const { ops } = await this.#must({ t: "ops", after: version - max, max });
-    return JSON.stringify(ops);
   }
 
   /** Sends what is new and pulls what others did, until the session is closed. */
   async #serve() {
     let began = 0;
-    let isQuiet = false;
     while (!this.#isClosed) {
       if (this.document.pending <= MOST || this.#other !== null) await this.#rest(began + TYPING);
       if (this.#isClosed) return;
       began = Date.now();
-      if (this.#other !== null) {
-        await this.#watch();
-      } else {
-        if (isQuiet && !this.isAhead && this.#known.version !== this.document.version) await this.#remember();
-        else isQuiet = !(await this.#round());
-        this.#tell(this.isAhead ? "sending" : "up to date");
-      }
-      if (!this.#isClosed && (!this.isAhead || this.#other !== null)) await this.#sleep(Math.max(0, began + IDLE - Date.now()));
+      const isMore = await this.#step();
+      if (this.#other === null) this.#tell(this.isAhead ? "sending" : "up to date");
+      const isIdle = this.#other === null ? !isMore && !this.isAhead : this.#compared === null;
+      if (!this.#isClosed && isIdle) await this.#sleep(Math.max(0, began + IDLE - Date.now()));
     }
   }
 
@@ -421,45 +408,86 @@ export class Session extends EventTarget {
     while (!this.#isClosed && Date.now() < until) await this.#sleep(until - Date.now());
   }
 
+  /** Does what is next on the line. Whether there is more to pull. */
+  async #step() {
+    try {
+      if (this.#other === null) return await this.#turn();
+      await this.#watch();
+    } catch (fault) {
+      if (!(fault instanceof OutOfStep)) throw fault;
+      if (!this.#isClosed) await this.#joinAnew(!fault.isGone, true);
+    }
+    return false;
+  }
+
   /** Follows another run, as long as the user hasn't chosen; where it comes to read what is known here, it is gone on with. */
   async #watch() {
+    const other = this.#other;
     for (let isMore = true; isMore; ) {
-      const { es } = await this.#must({ t: "pull", s: this.#number, have: this.#other.version, max: MOST });
-      this.#other?.play(es);
-      isMore = es.length === MOST && this.#other !== null;
+      const { es } = await this.#must({ t: "pull", s: this.#number, have: other.version, max: MOST });
+      if (this.#other !== other) return;
+      other.play(es);
+      isMore = es.length === MOST;
     }
-    if (this.#other === null || this.#other.roomText !== this.document.roomText) return;
-    this.#tellChanges(this.document.follow(this.#other.roomText, this.#other.version));
-    this.#goOn();
-  }
-
-  /** Sends a submission, if there is one, and right behind it a pull; and pulls on, as long as there is more. Whether any came. */
-  async #round() {
-    const answers = [];
-    const request = this.#submission();
-    if (request !== null) answers.push(this.#line.ask(request));
-    answers.push(this.#pull());
-    const replies = await Promise.all(answers);
-    if (request !== null) await this.#answered(request, replies[0]);
-    const { version } = this.document;
-    for (let reply = replies.at(-1); ; reply = await this.#pull()) {
-      if (reply.r === "no") {
-        if (reply.n !== 26) throw reply.n === 22 || reply.n === 5 ? this.#isLost() : new Refused(reply.n);
-        await pause(RETRY);
-        continue;
-      }
-      if (reply.from === this.document.version) this.#tellChanges(this.document.play(reply.es));
-      if ((reply.es.length < MOST && (this.#underWay !== null || !this.document.isWaiting)) || this.#isClosed) return this.document.version > version;
+    if (other.roomText === this.document.textToCome) {
+      this.document.came();
+      this.#tellChanges(this.document.follow(other));
+      this.#goOn();
+    } else if (this.#compared !== null) {
+      if (this.#putIn(other)) await this.#turn(); // at once, before another does so too
+    } else {
+      this.#tell("another text", this.why || ANOTHER);
     }
   }
 
-  #pull() {
-    return this.#line.ask({ t: "pull", s: this.#number, have: this.document.version, max: MOST });
+  /** Makes another run's text the one that is shown, where it is still the one that the user saw. Whether it is. */
+  #putIn(other) {
+    const isAsSeen = other.version === this.#compared;
+    this.#compared = null;
+    if (isAsSeen) {
+      const { at, removed, text } = difference(other.roomText, this.text);
+      this.document = other;
+      this.document.replace(at, removed, text);
+      this.#goOn();
+    } else {
+      this.#tell("another text", "the room has changed in the meantime: choose again");
+    }
+    return isAsSeen;
   }
 
-  /** What is to be submitted now: the same again, while its answer wasn't seen. */
+  /**
+   * Sends submissions, and right behind each a pull, and pulls on as long as there is more, but not longer than until what is accepted has
+   * come or others have to see something. All that came is played at the end. Whether there is more.
+   */
+  async #turn() {
+    const until = Date.now() + TYPING;
+    const edits = [];
+    for (;;) {
+      const have = this.document.version + edits.length;
+      const request = this.#submission();
+      const asked = request === null ? [] : [this.#line.ask(request)];
+      const replies = await Promise.all([...asked, this.#line.ask({ t: "pull", s: this.#number, have, max: MOST })]);
+      if (request !== null) await this.#answered(request, replies[0]);
+      const isMore = await this.#gather(edits, replies.at(-1));
+      const hasCome = this.document.isWaiting && this.#underWay === null && this.document.version + edits.length >= this.#last.to;
+      if (isMore && !hasCome && !this.#isClosed && Date.now() < until) continue;
+      this.#tellChanges(this.document.play(edits));
+      return isMore;
+    }
+  }
+
+  /** Adds what a pull brought. Whether there may be more. */
+  async #gather(edits, reply) {
+    if (reply.r === "no" && reply.n !== 26) throw refusal(reply.n);
+    if (reply.r === "no") await pause(RETRY);
+    else edits.push(...reply.es);
+    return reply.r === "no" || reply.es.length === MOST;
+  }
+
+  /** What is to be submitted now: the same again, while its answer wasn't seen. What isn't sent isn't under way. */
   #submission() {
     if (this.#underWay !== null) return this.#underWay;
+    if (!this.#line.isOpen) throw new Lost();
     const next = this.document.next();
     if (next === null) return null;
     const { t, ...rest } = next;
@@ -472,45 +500,28 @@ export class Session extends EventTarget {
       this.#last = { n: request.n, from: reply.from, to: reply.to };
       this.#underWay = null;
       this.document.accept(reply.from, reply.to);
-    } else if (reply.n === 26) {
-      await pause(RETRY);
-    } else if (reply.n === 25) {
-      throw new Refused(25);
-    } else if (reply.r === "no" && ![5, 7, 8, 9].includes(reply.n)) {
-      this.#underWay = null;
-      this.document.takeBack();
-      await this.#ask({ t: "leave", s: this.#number }); // it sends nothing more, and a room has 64
-      throw new Refused(reply.n);
-    } else {
-      throw this.#isLost();
+      return;
     }
+    if (reply.n === 26) return pause(RETRY);
+    const fault = refusal(reply.r === "ok" ? 7 : reply.n);
+    if (fault instanceof Lost) throw fault;
+    this.#underWay = null;
+    this.document.takeBack();
+    if (fault instanceof Refused) await this.#ask({ t: "leave", s: this.#number }); // it sends nothing more, and a room has 64
+    throw fault;
   }
-
-  /** The room and the session don't have one count any more: as after a line that broke, it is found out which run this is. */
-  #isLost() {
-    this.#last = { ...this.#last, from: -1 };
-    return new Lost();
-  }
-
-  /** Keeps what the log has last, in the place of a pull that would bring nothing. */
-  async #remember() {
-    const { version } = this.document;
-    this.#known = { version, operations: await this.#operations(version) };
-  }
-}
-
-/** The characters that operations put in. */
-function textOf(ops) {
-  return ops.map((op) => op.x ?? "").join("");
 }
 
 /**
- * Opens a session with a room of a server, as open("ws://127.0.0.1:7878", "notes"). Throws a TypeError where that is no address.
+ * Opens a session with a room of a server, as open("ws://127.0.0.1:7878", "notes"). Throws a TypeError where that is no address, or where
+ * there is no WebSocket: Node has it from 22 on, Node 20 with --experimental-websocket; else a class like it is the third argument.
  * @param {string} address
  * @param {string} room
+ * @param {new (address: string) => any} [Socket]
  * @returns {Session}
  */
 export function open(address, room, Socket = globalThis.WebSocket) {
   if (!/^wss?:\/\/[^/]/.test(address)) throw new TypeError("an address is ws://HOST:PORT");
-  return new Session(() => SocketLine.open(address, room, Socket));
+  if (Socket === undefined) throw new TypeError("there is no WebSocket: start Node 20 with --experimental-websocket, or name a class");
+  return new Session(() => Connection.open(address, room, Socket));
 }

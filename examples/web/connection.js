@@ -1,0 +1,100 @@
+/**
+ * A connection to a room of an rgatext server, as docs/PROTOCOL.md has it: requests go out, and their replies come in the same order.
+ *
+ * @typedef {{r: string, [key: string]: any}} Reply
+ * An open line to a room. `ask` sends a request and gives its reply, or throws `Lost`.
+ * @typedef {{isOpen: boolean, ask(request: object): Promise<Reply>, close(): void}} Line
+ */
+
+/** Milliseconds until an answer is missed. One to `join` has the whole text, and where it isn't seen a session is left that nobody uses. */
+export const LIMITS = { join: 60_000, other: 8_000 };
+
+/** What the numbers of refusals mean that a session may come to. */
+const REASONS = {
+  4: "the server has no room of this name",
+  6: "64 editors are there, and no more may join",
+  12: "the room is full: it takes no more changes",
+  13: "the room is at its end: it takes no more calls",
+};
+
+/** No answer came. The request may have been carried out. */
+export class Lost extends Error {}
+
+/** The server refused a request; `number` says why. */
+export class Refused extends Error {
+  constructor(number) {
+    super(REASONS[number] ?? `the server refused a request with ${number}`);
+    this.number = number;
+  }
+}
+
+/** A line over a WebSocket. */
+export class Connection {
+  /**
+   * Connects, and opens the room. `Socket` is a class like WebSocket.
+   * @returns {Promise<Line>}
+   */
+  static async open(address, room, Socket) {
+    const connection = new Connection(new Socket(address));
+    const reply = await connection.ask({ t: "open", room });
+    if (reply.r !== "opened") {
+      connection.close();
+      throw new Refused(reply.n);
+    }
+    return connection;
+  }
+
+  constructor(socket) {
+    this.socket = socket;
+    this.isOpen = true;
+    this.waiting = []; // requests, until the socket is open; none from then on
+    this.asked = [];
+    socket.addEventListener("open", () => {
+      for (const request of this.waiting) socket.send(request);
+      this.waiting = null;
+    });
+    socket.addEventListener("close", () => this.close());
+    socket.addEventListener("error", () => this.close());
+    socket.addEventListener("message", ({ data }) => this.answered(data));
+  }
+
+  /** Sends a request at once, and gives its reply. An answer that is missed ends the connection. */
+  async ask(request) {
+    if (!this.isOpen) throw new Lost();
+    const timer = setTimeout(() => this.close(), LIMITS[request.t] ?? LIMITS.other);
+    try {
+      return await new Promise((resolve, reject) => {
+        this.asked.push({ resolve, reject });
+        const text = JSON.stringify(request);
+        if (this.waiting !== null) this.waiting.push(text);
+        else this.socket.send(text);
+      });
+    } finally {
+      clearTimeout(timer);
+    }
+  }
+
+  /** Hands a reply over. What isn't one ends the connection. */
+  answered(text) {
+    const reply = parsed(text);
+    if (reply === null) this.close("what answers is no rgatext server");
+    else this.asked.shift()?.resolve(reply);
+  }
+
+  close(why = "") {
+    if (!this.isOpen) return;
+    this.isOpen = false;
+    this.socket.close();
+    for (const { reject } of this.asked.splice(0)) reject(new Lost(why));
+  }
+}
+
+/** @returns {Reply | null} */
+function parsed(text) {
+  try {
+    const reply = JSON.parse(text);
+    return typeof reply?.r === "string" ? reply : null;
+  } catch {
+    return null;
+  }
+}
