@@ -102,9 +102,9 @@ export class Line {
 }
 
 /** Waits for something that is to come within 30 seconds. */
-export const until = async (is) => {
+export const until = async (is, what = () => "that") => {
   for (let n = 0; !is(); n += 1) {
-    if (n > 3_000) throw new Error("it doesn't come to that");
+    if (n > 3_000) throw new Error(`it doesn't come to ${what()}`);
     await new Promise((resolve) => setTimeout(resolve, 10));
   }
 };

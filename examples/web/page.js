@@ -2,7 +2,7 @@
  * What a page tells of its session, and what it asks: the examples' pages have it in common. They have an element `state`, a line; behind it
  * comes what another text of the room asks, and what the room doesn't have at the end.
  */
-import { Full } from "./rgatext.js";
+import { Ended, Full } from "./rgatext.js";
 
 /** So many changes before a room is full it is told. */
 const SCARCE = 13_107;
@@ -20,16 +20,16 @@ of("state").insertAdjacentHTML(
 );
 
 /** Whether some of the text may be lost where the page is left. */
-export const mayBeLost = (session) => session.isAhead || session.state === "another text";
+export const mayBeLost = (session) => session.isAhead || session.hasOther;
 
 /** Says how the session stands, or what is wrong. Gives whether the text may be changed. */
 export function tell(session, trouble = "") {
-  const { state, why, left, unsent } = session;
+  const { state, why, left, unsent, hasOther } = session;
   const isOver = state === "refused" || state === "closed";
   const scarce = left < SCARCE ? `; the room takes ${left} more changes` : "";
   of("state").textContent = trouble || (why === "" ? state : `${state}: ${why}`) + scarce;
   of("state").className = trouble || why || state === "offline" ? "trouble" : "";
-  of("choice").hidden = state !== "another text";
+  of("choice").hidden = !hasOther;
   of("unsent").hidden = !isOver || unsent.length === 0;
   of("lost").textContent = isOver ? unsent.join("\n") : "";
   return !isOver;
@@ -42,8 +42,8 @@ export function wire(current) {
     try {
       current().putMine();
     } catch (fault) {
-      if (!(fault instanceof Full)) throw fault;
-      tell(current(), `${fault.message}: that doesn't fit`);
+      if (!(fault instanceof Full || fault instanceof Ended)) throw fault;
+      tell(current(), fault instanceof Full ? `${fault.message}: that doesn't fit` : fault.message);
     }
   });
   of("save").addEventListener("click", () => {

@@ -522,6 +522,6 @@ export class Session extends EventTarget {
  */
 export function open(address, room, Socket = globalThis.WebSocket) {
   if (!/^wss?:\/\/[^/]/.test(address)) throw new TypeError("an address is ws://HOST:PORT");
-  if (Socket === undefined) throw new TypeError("there is no WebSocket: start Node 20 with --experimental-websocket, or name a class");
+  if (typeof Socket !== "function") throw new TypeError("there is no WebSocket: start Node 20 with --experimental-websocket, or name a class");
   return new Session(() => Connection.open(address, room, Socket));
 }

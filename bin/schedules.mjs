@@ -1,0 +1,355 @@
+// What bin/try_merging plays with sessions and lines that break at a given request. The one argument is the program.
+import assert from "node:assert/strict";
+import { Connection, LIMITS } from "../examples/web/connection.js";
+import { Lost, open, Refused, Session } from "../examples/web/rgatext.js";
+import { editorOf, Line, MOST, Room, until } from "./room.mjs";
+
+const pause = (milliseconds) => new Promise((resolve) => setTimeout(resolve, milliseconds));
+
+/**
+ * One editor's way to a room. `loses` says of a request whether it is lost, or its answer, and the line with it; or it gives another answer.
+ */
+class Way {
+  constructor(room, delay = 0) {
+    this.room = room;
+    this.delay = delay;
+    this.isUp = true;
+    this.lines = [];
+    this.loses = () => "";
+    this.editor = editorOf(() => this.connect());
+  }
+
+  async connect() {
+    if (!this.isUp) throw new Lost();
+    const line = new Line(this.room, Infinity);
+    const ask = line.ask.bind(line);
+    line.ask = async (request) => {
+      const loses = this.loses(request);
+      if (!line.isOpen || loses === "request") line.close();
+      if (!line.isOpen) throw new Lost();
+      if (loses.r) return loses;
+      if (loses === "answer") line.close();
+      const reply = await ask(request);
+      if (this.delay > 0) await pause(this.delay);
+      return reply;
+    };
+    this.lines.push(line);
+    return line;
+  }
+
+  /** Cuts the line, and gives others, to the room or to the one that is there in its place. */
+  cut(room = this.room) {
+    if (room !== this.room) this.room.close();
+    this.room = room;
+    this.isUp = true;
+    for (const line of this.lines) line.close();
+  }
+
+  /** Cuts the line, and gives no other. */
+  cutOff() {
+    this.cut();
+    this.isUp = false;
+  }
+
+  /** Loses the first request of a kind, or its answer, with the line; whether there is another one then. */
+  async loseOnce(what, kind, isUp = false) {
+    let isLost = false;
+    this.loses = ({ t }) => {
+      if (isLost || t !== kind) return "";
+      isLost = true;
+      this.isUp = isUp;
+      return what;
+    };
+    await until(() => isLost);
+  }
+
+  /** Refuses the first request of a kind. */
+  refuseOnce(kind, n) {
+    return this.loseOnce({ r: "no", n }, kind, true);
+  }
+
+  async comesTo(state, shown = this.editor.shown) {
+    const { editor } = this;
+    const isAsWanted = () => editor.session.state === state && editor.shown === shown && !(state === "up to date" && editor.session.isAhead);
+    await until(isAsWanted, () => `${state}, "${shown}": ${editor.session.state}, "${editor.shown}"`);
+  }
+}
+
+const textOf = async (room) => (await room.ask({ t: "read" })).x;
+
+/** A room with a text of a session, and an editor that has it as its own or others' text. */
+async function begin(text, isOwn = true) {
+  const room = new Room(1);
+  if (!isOwn && text !== "") await typedBy(room, 0, text);
+  const way = new Way(room);
+  await way.comesTo("up to date", isOwn ? "" : text);
+  if (isOwn) way.editor.change(0, 0, text);
+  await way.comesTo("up to date", text);
+  return way;
+}
+
+/** Another session puts a text in. */
+async function typedBy(room, k, x) {
+  const { s, v } = await room.ask({ t: "join", u: 16 });
+  assert.equal((await room.ask({ t: "ins", s, n: 1, v, k, x })).r, "ok");
+  await room.ask({ t: "leave", s });
+}
+
+/** Another run with the log of a room, but for the last operations. */
+async function keptRun(room, without = 0) {
+  const kept = new Room(2);
+  const told = (await room.operations()).flat();
+  await kept.refill([told.slice(0, told.length - without)]);
+  room.close();
+  return kept;
+}
+
+async function end(...ways) {
+  for (const { editor } of ways) await editor.session.close();
+  for (const { room } of ways) room.close();
+}
+
+/** A line that is cut while the user is to choose, and then the right run of three. */
+async function isCutWhileChoosing() {
+  const way = await begin("hello");
+  const kept = await keptRun(way.room);
+  way.cut(new Room());
+  await way.comesTo("another text", "hello");
+  way.cutOff();
+  await way.comesTo("offline", "hello");
+  assert.ok(way.editor.session.hasOther, "the choice is there while the line isn't");
+  way.isUp = true;
+  await way.comesTo("another text", "hello");
+  way.editor.change(5, 0, " unsent");
+  way.cut(kept);
+  await way.comesTo("up to date", "hello unsent");
+  assert.equal(await textOf(kept), "hello unsent");
+  await end(way);
+}
+
+/** What was under way has come to the log that is kept, and the first answer to `join` there, or to `ops`, is lost. */
+async function isKeptWithWhatWasUnderWay(lost) {
+  const way = await begin("hello");
+  const isLost = way.loseOnce("answer", "ins");
+  way.editor.change(5, 0, "X");
+  await isLost;
+  const kept = await keptRun(way.room);
+  const isLostToo = way.loseOnce("answer", lost, true);
+  way.cut(kept);
+  await isLostToo;
+  await way.comesTo("up to date", "helloX");
+  assert.equal(await textOf(kept), "helloX");
+  await end(way);
+}
+
+/** A run is refilled in two parts while an editor looks at it, and what was under way comes with the second one. */
+async function isRefilledInParts() {
+  const way = await begin("hello");
+  const isLost = way.loseOnce("answer", "ins");
+  way.editor.change(5, 0, "?");
+  await isLost;
+  const told = [...(await way.room.operations()).flat()];
+  const [{ x, ...run }] = told;
+  assert.equal(x, "hello?");
+  way.cut(new Room(2));
+  await way.comesTo("another text");
+  await way.room.refill([[{ x: "hello", ...run }]]);
+  await pause(1_500);
+  await way.room.refill([told]);
+  await way.comesTo("up to date", "hello?");
+  assert.equal(await textOf(way.room), "hello?");
+  await end(way);
+}
+
+/** What is typed while the line is gone, or is sent and doesn't come, follows into a run that is kept, where another types. */
+async function isKeptWithoutWhatWasTyped(isSent) {
+  const way = await begin("kept here");
+  const isLost = isSent ? way.loseOnce("request", "ins") : way.cutOff();
+  way.editor.change(9, 0, "!");
+  await isLost;
+  way.room = await keptRun(way.room);
+  await typedBy(way.room, 0, "B ");
+  way.isUp = true;
+  await way.comesTo("up to date", "B kept here!");
+  assert.equal(await textOf(way.room), "B kept here!");
+  await end(way);
+}
+
+/** A run that has another text, or another deletion, under the same numbers, is another one, and its session is left alone. */
+async function isAnsweredAlike() {
+  const way = await begin("hello");
+  const room = new Room(2);
+  await room.ask({ t: "join", u: 16 });
+  await room.ask({ t: "ins", s: 1, n: 1, v: 0, k: 0, x: "world" });
+  way.cut(room);
+  await way.comesTo("another text", "hello");
+  const deletes = await begin("abcdef");
+  const isLost = deletes.loseOnce("request", "del");
+  deletes.editor.change(0, 1, "");
+  await isLost;
+  const other = new Room(2);
+  await other.ask({ t: "join", u: 16 });
+  await other.ask({ t: "ins", s: 1, n: 1, v: 0, k: 0, x: "abcdef" });
+  await other.ask({ t: "pull", s: 1, have: 0, max: MOST });
+  await other.ask({ t: "del", s: 1, n: 2, v: 6, k: 1, c: 4 });
+  deletes.cut(other);
+  await deletes.comesTo("another text", "bcdef");
+  for (const it of [way, deletes]) assert.equal((await it.room.ask({ t: "leave", s: 1 })).r, "left");
+  await end(way, deletes);
+}
+
+/** What is pending keeps its place and what it deletes, in the same run by a session that has sent nothing, and in one that is kept. */
+async function keepsPlaces(isKept) {
+  const way = await begin("one two three four five", isKept);
+  way.cutOff();
+  await way.comesTo("offline");
+  way.editor.change(8, 0, "MINE ");
+  way.editor.change(13, 6, "");
+  if (isKept) way.room = await keptRun(way.room);
+  await typedBy(way.room, 0, "<");
+  await typedBy(way.room, 24, ">");
+  way.isUp = true;
+  await way.comesTo("up to date", "<one two MINE four five>");
+  assert.equal(await textOf(way.room), "<one two MINE four five>");
+  await end(way);
+}
+
+/** A session's number is freed by somebody, or is out of step, on a line that is there: another one goes on. */
+async function isOutOfStep(spoil) {
+  const way = await begin("hello");
+  await typedBy(way.room, 5, "B");
+  await spoil(way);
+  way.editor.change(5, 0, "A");
+  await until(() => way.editor.shown.length === 7);
+  await way.comesTo("up to date");
+  assert.equal(await textOf(way.room), way.editor.shown);
+  assert.equal((await way.room.ask({ t: "leave", s: 1 })).n, 5, "the old session is left");
+  assert.equal(way.lines.length, 1);
+  await end(way);
+}
+
+/** The answer to the `join` of an unused session is lost after its `leave`, and another types meanwhile. */
+async function losesJoin() {
+  const way = await begin("", false);
+  const isLost = way.loseOnce("answer", "join", true);
+  way.cut();
+  way.editor.change(0, 0, "mine");
+  await isLost;
+  await typedBy(way.room, 0, "theirs");
+  await way.comesTo("up to date", "minetheirs");
+  assert.equal((await way.room.ask({ t: "leave", s: 1 })).n, 5);
+  await end(way);
+}
+
+/** A session that is closed leaves at once, also in the middle of a round, and where the line is away once it is there. */
+async function leavesAtOnce() {
+  const busy = await begin("hello");
+  busy.delay = 300;
+  busy.editor.change(5, 0, "!");
+  await until(() => busy.lines[0].asked.includes("ins"));
+  const closed = busy.editor.session.close();
+  assert.equal(busy.lines[0].asked.at(-1), "leave");
+  await closed;
+  const away = await begin("hello");
+  away.cutOff();
+  await away.comesTo("offline");
+  away.isUp = true;
+  await away.editor.session.close();
+  for (const { room } of [busy, away]) assert.equal((await room.ask({ t: "leave", s: 1 })).n, 5);
+  await end(busy, away);
+}
+
+/** A key of an editor on a slow line isn't held up by another's paste, and what came is told a few times a second. */
+async function typesBesideAPaste() {
+  const paster = await begin("");
+  paster.delay = 5;
+  const typist = new Way(paster.room, 25);
+  await typist.comesTo("up to date", "");
+  let [events, hasKey] = [0, false];
+  typist.editor.session.addEventListener("changes", () => (events += 1));
+  paster.editor.session.addEventListener("changes", ({ detail }) => (hasKey ||= detail.some(({ text }) => text.includes("K"))));
+  const began = Date.now();
+  paster.editor.change(0, 0, "0123456789".repeat(600));
+  await pause(200);
+  typist.editor.change(0, 0, "K");
+  const pressed = Date.now();
+  await until(() => hasKey);
+  const held = Date.now() - pressed;
+  await until(() => !paster.editor.session.isAhead && typist.editor.shown.length === 6_001);
+  assert.ok(held < 500 && events <= (Date.now() - began) / 180 + 2, `the key came after ${held} ms, ${events} events`);
+  await end(paster, typist);
+}
+
+/** Two users put the same text into an empty run, one right after the other: it comes once. */
+async function putsInOnce() {
+  const [one, two] = [await begin("hello"), await begin("hello")];
+  const room = new Room(2);
+  for (const way of [one, two]) way.cut(room);
+  for (const way of [one, two]) await way.comesTo("another text");
+  one.editor.session.putMine();
+  await pause(100);
+  two.editor.session.putMine();
+  for (const way of [one, two]) await way.comesTo("up to date", "hello");
+  assert.equal(await textOf(room), "hello");
+  await end(one, two);
+}
+
+/** A socket that is open at once, and answers each message by a text. */
+class Socket extends EventTarget {
+  static answer = "hello";
+
+  constructor() {
+    super();
+    setTimeout(() => this.dispatchEvent(new Event("open")));
+  }
+
+  send() {
+    setTimeout(() => this.dispatchEvent(Object.assign(new Event("message"), { data: Socket.answer })));
+  }
+
+  close() {}
+}
+
+/** Where nobody answers, or no server, or not yet: the session is offline, and goes on. */
+async function isOffline() {
+  for (const fault of [new Lost(), new Refused(26)]) {
+    let isThere = false;
+    const room = new Room();
+    const session = new Session(async () => {
+      if (isThere) return new Line(room, Infinity);
+      throw fault;
+    });
+    await until(() => session.state === "offline");
+    isThere = true;
+    await until(() => session.state === "up to date");
+    await session.close();
+    room.close();
+  }
+  await assert.rejects(Connection.open("ws://nowhere", "notes", Socket), Lost);
+  const session = open("ws://nowhere", "notes", Socket);
+  await until(() => session.state === "offline" && session.why.includes("no rgatext server"));
+  await session.close();
+  assert.throws(() => open("ws://nowhere", "notes", null), /WebSocket/);
+  assert.ok(LIMITS.join > 2 * LIMITS.other, "each join that is missed costs a session");
+}
+
+await Promise.all([
+  isCutWhileChoosing(),
+  isKeptWithWhatWasUnderWay("join"),
+  isKeptWithWhatWasUnderWay("ops"),
+  isRefilledInParts(),
+  isKeptWithoutWhatWasTyped(false),
+  isKeptWithoutWhatWasTyped(true),
+  isAnsweredAlike(),
+  keepsPlaces(false),
+  keepsPlaces(true),
+  isOutOfStep(({ room }) => room.ask({ t: "leave", s: 1 })),
+  isOutOfStep((way) => void way.refuseOnce("pull", 22)),
+  isOutOfStep((way) => void way.refuseOnce("ins", 9)),
+  losesJoin(),
+  leavesAtOnce(),
+  putsInOnce(),
+  isOffline(),
+]);
+await typesBesideAPaste();
+console.log("bin/try_merging: schedules of lines that break, of kept and other runs, of closing and of a paste");
