@@ -9,7 +9,7 @@
  */
 import { Connection, Lost, Refused } from "./connection.js";
 import { add, carried, Document, MOST } from "./document.js";
-import { Log } from "./log.js";
+import { OutOfStep, pause, RETRY, Seat } from "./seat.js";
 import { difference, differences } from "./text.js";
 
 export { carried, difference, Document, Lost, Refused };
@@ -23,10 +23,9 @@ export { carried, difference, Document, Lost, Refused };
 /** The most operations of a room. */
 const OPERATIONS = 131_072;
 
-/** Milliseconds: between two rounds of a typist, between two pulls that bring nothing, until a retry. */
+/** Milliseconds: between two rounds of a typist, between two pulls that bring nothing, until a line is tried again at most. */
 const TYPING = 200;
 const IDLE = 1_000;
-const RETRY = 100;
 const LONGEST = 5_000;
 
 const ANOTHER = "the room has another text by now";
@@ -46,26 +45,10 @@ export class Ended extends Error {
   }
 }
 
-/** The room and the session don't have one count any more, on a line that is there: the run of the server is the same. */
-class OutOfStep extends Error {
-  constructor(number) {
-    super();
-    this.isGone = number === 5;
-  }
-}
-
-/** What a refused request leads to. */
-function refusal(number) {
-  if (number === 25) return new Lost();
-  return [5, 7, 8, 9, 22].includes(number) ? new OutOfStep(number) : new Refused(number);
-}
-
 /** In how many characters two texts differ. */
 function distance(from, to) {
   return differences(from, to).reduce((sum, { removed, text }) => sum + removed + text.length, 0);
 }
-
-const pause = (milliseconds) => new Promise((resolve) => setTimeout(resolve, milliseconds));
 
 /**
  * A session. It tells of itself by events: `changes`, whose `detail` is a list of changes of the shown text, made by others or by the room;
@@ -73,17 +56,12 @@ const pause = (milliseconds) => new Promise((resolve) => setTimeout(resolve, mil
  */
 export class Session extends EventTarget {
   #connect;
-  #line = null;
-  #log = new Log((request) => this.#ask(request));
-  #number = null; // of the session; none before it has joined
-  #last = { n: 0, from: 0, to: 0 }; // the last accepted submission
-  #underWay = null; // the request of a submission whose answer wasn't seen
+  #seat = new Seat();
   #other = null; // the document of another run of the server, until the user chooses
   #compared = null; // its version where the user chose to put in what is shown
   #wake = () => {};
   #isServed = false; // the line is open, and the session is there
   #isClosed = false;
-  #leaving = null; // the request to leave, once the session is closed
   #isRefused = false; // for good: nothing is tried any more
 
   /**
@@ -179,7 +157,7 @@ export class Session extends EventTarget {
   /** Ends the session: leaves the room at once, or where the line isn't there tries to, once; sends nothing more. */
   async close() {
     this.#isClosed = true;
-    if (this.#isServed) this.#leave().catch(() => {});
+    if (this.#isServed) this.#seat.leave();
     this.#wake();
     await this.ended;
   }
@@ -209,17 +187,17 @@ export class Session extends EventTarget {
   async #run() {
     for (let wait = RETRY; !this.#isClosed && !this.#isRefused; wait = Math.min(2 * wait, LONGEST)) {
       try {
-        this.#line = await this.#connect();
+        this.#seat.line = await this.#connect();
         await this.#resume();
         this.#isServed = true;
         wait = RETRY;
         await this.#serve();
-        await this.#leave();
+        await this.#seat.leave();
       } catch (fault) {
         this.#failed(fault);
       }
       this.#isServed = false;
-      this.#line?.close();
+      this.#seat.line?.close();
       if (!this.#isClosed && !this.#isRefused) await this.#sleep(wait);
     }
     if (!this.#isClosed) return;
@@ -237,27 +215,20 @@ export class Session extends EventTarget {
     } else {
       this.#tell("offline", fault.message);
     }
-    if (isFault) this.#line?.close();
+    if (isFault) this.#seat.line?.close();
     if (isFault) throw fault;
-  }
-
-  /** Asks for the end of the session, once. */
-  #leave() {
-    this.#leaving ??= this.#line.ask({ t: "leave", s: this.#number });
-    return this.#leaving;
   }
 
   /** Leaves a session that was closed while the line wasn't there: once, and only where the run of the server is the same. */
   async #leaveLate() {
-    const isLeft = this.#leaving === null ? this.#number === null : await this.#leaving.then(() => true, () => false);
-    if (isLeft) return;
+    if (await this.#seat.isLeft()) return;
     try {
-      this.#line = await this.#connect();
-      if (await this.#isOurs(await this.#findOut())) await this.#ask({ t: "leave", s: this.#number });
+      this.#seat.line = await this.#connect();
+      if (await this.#seat.isOwn(await this.#seat.findOut(this.document), this.#current)) await this.#seat.giveUp();
     } catch {
       // the session stays
     }
-    this.#line?.close();
+    this.#seat.line?.close();
   }
 
   /** Waits, but not longer than until something is to be done. */
@@ -266,45 +237,18 @@ export class Session extends EventTarget {
     this.#wake = () => {};
   }
 
-  /** Asks, again where memory was refused. Gives the reply, a refusal too. */
-  async #ask(request) {
-    for (;;) {
-      const reply = await this.#line.ask(request);
-      if (reply.r !== "no" || (reply.n !== 25 && reply.n !== 26)) return reply;
-      if (reply.n === 25) throw new Lost();
-      await pause(RETRY);
-    }
-  }
-
-  /** Asks, and throws where that is refused. */
-  async #must(request) {
-    const reply = await this.#ask(request);
-    if (reply.r === "no") throw refusal(reply.n);
-    return reply;
-  }
-
   /** The session on a new line: the same one where the run of the server is the same, else a new one. */
   async #resume() {
-    if (this.#number === null) {
-      const room = await this.#join();
+    if (!this.#seat.isTaken) {
+      const room = await this.#seat.join();
       const mine = this.text; // what was typed before the first answer stands at the beginning
       this.document = room;
       if (mine !== "") this.document.replace(0, 0, mine);
       this.#tellChanges([{ at: mine.length, removed: 0, text: room.roomText }]);
       return;
     }
-    const found = await this.#findOut();
-    if (found !== "same") await this.#joinAnew(await this.#isOurs(found));
-  }
-
-  /** Joins, and gives the room's document. Only once all of it is there the session is the new one. */
-  async #join() {
-    const { s, v, x } = await this.#must({ t: "join", u: 16 });
-    const last = await this.#log.last(v);
-    this.#number = s;
-    this.#last = { n: 0, from: 0, to: 0 };
-    this.#underWay = null;
-    return new Document(x, v, last);
+    const found = await this.#seat.findOut(this.document);
+    if (found !== "same") await this.#joinAnew(await this.#seat.isOwn(found, this.#current));
   }
 
   /** The document that the session follows. */
@@ -313,42 +257,15 @@ export class Session extends EventTarget {
   }
 
   /**
-   * What the session's number is on a new line. The same run of the server answers the last accepted submission, asked for once more with
-   * an empty text, as it did. Where one was under way it may have been accepted since, and is then the last: its operations tell.
-   * @returns {Promise<"same" | "unused" | "another">}
-   */
-  async #findOut() {
-    const again = (n) => this.#ask({ t: "ins", s: this.#number, n, v: 0, k: 0, x: "" });
-    const { n, from, to } = this.#last;
-    let reply = n > 0 ? await again(n) : { r: "no", n: 7 };
-    let isSame = reply.r === "ok" && reply.from === from && reply.to === to;
-    if (reply.n === 7) {
-      reply = await again(n + 1);
-      isSame = reply.r === "ok" && this.#underWay !== null && (await this.#log.is(this.document, reply.from, reply.to));
-    }
-    if (reply.n === 13) throw new Refused(13);
-    if (isSame) return (await this.#log.goesOn(this.document)) ? "same" : "another";
-    return n === 0 && (reply.n === 8 || reply.n === 10) ? "unused" : "another";
-  }
-
-  /**
-   * Whether what was found is the session's own, or may be left as such: it is unused and its log the one that is known, so that who else
-   * may have it loses nothing.
-   */
-  async #isOurs(found) {
-    return found === "same" || (found === "unused" && (await this.#log.goesOn(this.#current)));
-  }
-
-  /**
    * Joins, and goes on where the log goes on from what is known, as it does in the same run of the server. Else the text of the room
    * stands beside that which is shown, until the user chooses. `isOwn`: the number is that of a session to leave.
    */
   async #joinAnew(isOwn, isSameRun = isOwn) {
-    const goesOn = (isSameRun && this.#other === null) || (await this.#log.goesOn(this.document));
-    const came = goesOn && this.document.isWaiting && (await this.#log.has(this.document));
-    const edits = isOwn && this.#other === null && !came ? await this.#editsSince() : [];
-    if (isOwn) await this.#ask({ t: "leave", s: this.#number });
-    const room = await this.#join();
+    const goesOn = (isSameRun && this.#other === null) || (await this.#seat.log.goesOn(this.document));
+    const came = goesOn && this.document.isWaiting && (await this.#seat.log.has(this.document));
+    const edits = isOwn && this.#other === null && !came ? await this.#seat.editsSince(this.document) : [];
+    if (isOwn) await this.#seat.giveUp();
+    const room = await this.#seat.join();
     const isThere = room.roomText === this.document.textToCome || (came && this.#isWhereShown(room.roomText));
     if (!isThere && (came || !goesOn)) return this.#setBeside(room);
     const changes = [];
@@ -368,25 +285,6 @@ export class Session extends EventTarget {
   /** Whether what is under way, which the log has, is in the room's text where it is shown. */
   #isWhereShown(text) {
     return distance(this.document.textToCome, text) < distance(this.document.roomText, text);
-  }
-
-  /** The edits since the document's version; none where they aren't to be had. */
-  async #editsSince() {
-    const { roomText, version } = this.document;
-    const trial = new Document(roomText, version);
-    const edits = [];
-    for (let isMore = true; isMore; ) {
-      const { es = [] } = await this.#ask({ t: "pull", s: this.#number, have: version + edits.length, max: MOST });
-      edits.push(...es);
-      isMore = es.length === MOST;
-    }
-    try {
-      trial.play(edits);
-      return edits;
-    } catch (fault) {
-      if (fault instanceof RangeError) return [];
-      throw fault;
-    }
   }
 
   /** Sends what is new and pulls what others did, until the session is closed. */
@@ -424,10 +322,10 @@ export class Session extends EventTarget {
   async #watch() {
     const other = this.#other;
     for (let isMore = true; isMore; ) {
-      const { es } = await this.#must({ t: "pull", s: this.#number, have: other.version, max: MOST });
+      const edits = await this.#seat.editsOf(await this.#seat.pull(other.version));
       if (this.#other !== other) return;
-      other.play(es);
-      isMore = es.length === MOST;
+      if (edits !== null) other.play(edits);
+      isMore = edits === null || edits.length === MOST;
     }
     if (other.roomText === this.document.textToCome) {
       this.document.came();
@@ -463,52 +361,18 @@ export class Session extends EventTarget {
     const until = Date.now() + TYPING;
     const edits = [];
     for (;;) {
-      const have = this.document.version + edits.length;
-      const request = this.#submission();
-      const asked = request === null ? [] : [this.#line.ask(request)];
-      const replies = await Promise.all([...asked, this.#line.ask({ t: "pull", s: this.#number, have, max: MOST })]);
-      if (request !== null) await this.#answered(request, replies[0]);
-      const isMore = await this.#gather(edits, replies.at(-1));
-      const hasCome = this.document.isWaiting && this.#underWay === null && this.document.version + edits.length >= this.#last.to;
+      const request = this.#seat.submission(this.document);
+      const asked = request === null ? [] : [this.#seat.line.ask(request)];
+      const replies = await Promise.all([...asked, this.#seat.pull(this.document.version + edits.length)]);
+      if (request !== null) await this.#seat.answered(this.document, replies[0]);
+      const more = await this.#seat.editsOf(replies.at(-1));
+      if (more !== null) edits.push(...more);
+      const isMore = more === null || more.length === MOST;
+      const hasCome = this.document.isWaiting && this.#seat.hasCome(this.document.version + edits.length);
       if (isMore && !hasCome && !this.#isClosed && Date.now() < until) continue;
       this.#tellChanges(this.document.play(edits));
       return isMore;
     }
-  }
-
-  /** Adds what a pull brought. Whether there may be more. */
-  async #gather(edits, reply) {
-    if (reply.r === "no" && reply.n !== 26) throw refusal(reply.n);
-    if (reply.r === "no") await pause(RETRY);
-    else edits.push(...reply.es);
-    return reply.r === "no" || reply.es.length === MOST;
-  }
-
-  /** What is to be submitted now: the same again, while its answer wasn't seen. What isn't sent isn't under way. */
-  #submission() {
-    if (this.#underWay !== null) return this.#underWay;
-    if (!this.#line.isOpen) throw new Lost();
-    const next = this.document.next();
-    if (next === null) return null;
-    const { t, ...rest } = next;
-    this.#underWay = { t, s: this.#number, n: this.#last.n + 1, v: this.document.version, ...rest };
-    return this.#underWay;
-  }
-
-  async #answered(request, reply) {
-    if (reply.r === "ok" && reply.from >= this.#last.to) {
-      this.#last = { n: request.n, from: reply.from, to: reply.to };
-      this.#underWay = null;
-      this.document.accept(reply.from, reply.to);
-      return;
-    }
-    if (reply.n === 26) return pause(RETRY);
-    const fault = refusal(reply.r === "ok" ? 7 : reply.n);
-    if (fault instanceof Lost) throw fault;
-    this.#underWay = null;
-    this.document.takeBack();
-    if (fault instanceof Refused) await this.#ask({ t: "leave", s: this.#number }); // it sends nothing more, and a room has 64
-    throw fault;
   }
 }
 

@@ -1,0 +1,176 @@
+/**
+ * What a client has in a room under the number of a session: which submission was accepted last, and which is under way. It joins and
+ * leaves, and finds out on a new line whether the number is still its own.
+ */
+import { Lost, Refused } from "./connection.js";
+import { Document, MOST } from "./document.js";
+import { Log } from "./log.js";
+
+/** Milliseconds until a request is sent again for which memory was refused. */
+export const RETRY = 100;
+
+/** The room and the session don't have one count any more, on a line that is there: the run of the server is the same. */
+export class OutOfStep extends Error {
+  constructor(number) {
+    super();
+    this.isGone = number === 5;
+  }
+}
+
+export const pause = (milliseconds) => new Promise((resolve) => setTimeout(resolve, milliseconds));
+
+/** What a refused request leads to. */
+function refusal(number) {
+  if (number === 25) return new Lost();
+  return [5, 7, 8, 9, 22].includes(number) ? new OutOfStep(number) : new Refused(number);
+}
+
+export class Seat {
+  /** @type {import("./connection.js").Line} */
+  line = null;
+  log = new Log((request) => this.ask(request));
+  #number = null; // none before it has joined
+  #last = { n: 0, from: 0, to: 0 }; // the last accepted submission
+  #underWay = null; // the request of a submission whose answer wasn't seen
+  #leaving = null; // the request to leave for good
+
+  get isTaken() {
+    return this.#number !== null;
+  }
+
+  /** Asks, again where memory was refused. Gives the reply, a refusal too. */
+  async ask(request) {
+    for (;;) {
+      const reply = await this.line.ask(request);
+      if (reply.r !== "no" || (reply.n !== 25 && reply.n !== 26)) return reply;
+      if (reply.n === 25) throw new Lost();
+      await pause(RETRY);
+    }
+  }
+
+  /** Asks, and throws where that is refused. */
+  async must(request) {
+    const reply = await this.ask(request);
+    if (reply.r === "no") throw refusal(reply.n);
+    return reply;
+  }
+
+  /** Joins, and gives the room's document. Only once all of it is there the session is the new one. */
+  async join() {
+    const { s, v, x } = await this.must({ t: "join", u: 16 });
+    const last = await this.log.last(v);
+    this.#number = s;
+    this.#last = { n: 0, from: 0, to: 0 };
+    this.#underWay = null;
+    return new Document(x, v, last);
+  }
+
+  /** Gives the number up, for another one. */
+  async giveUp() {
+    await this.ask({ t: "leave", s: this.#number });
+  }
+
+  /** Asks for the end of the session at once, and once. Settles with whether it has come to that. */
+  leave() {
+    this.#leaving ??= this.line.ask({ t: "leave", s: this.#number }).then(
+      () => true,
+      () => false,
+    );
+    return this.#leaving;
+  }
+
+  /** Whether nothing is left in the room. */
+  async isLeft() {
+    return !this.isTaken || (this.#leaving !== null && (await this.#leaving));
+  }
+
+  /**
+   * What the number is on a new line. The same run of the server answers the last accepted submission, asked for once more with an empty
+   * text, as it did. Where one was under way it may have been accepted since, and is then the last: its operations tell. `document` is the
+   * one that follows the session.
+   * @returns {Promise<"same" | "unused" | "another">}
+   */
+  async findOut(document) {
+    const again = (n) => this.ask({ t: "ins", s: this.#number, n, v: 0, k: 0, x: "" });
+    const { n, from, to } = this.#last;
+    let reply = n > 0 ? await again(n) : { r: "no", n: 7 };
+    let isSame = reply.r === "ok" && reply.from === from && reply.to === to;
+    if (reply.n === 7) {
+      reply = await again(n + 1);
+      isSame = reply.r === "ok" && this.#underWay !== null && (await this.log.is(document, reply.from, reply.to));
+    }
+    if (reply.n === 13) throw new Refused(13);
+    if (isSame) return (await this.log.goesOn(document)) ? "same" : "another";
+    return n === 0 && (reply.n === 8 || reply.n === 10) ? "unused" : "another";
+  }
+
+  /**
+   * Whether what was found is one's own, or may be left as such: it is unused and its log the one that is known, so that who else may have
+   * it loses nothing.
+   */
+  async isOwn(found, document) {
+    return found === "same" || (found === "unused" && (await this.log.goesOn(document)));
+  }
+
+  /** Asks for edits from a version on. */
+  pull(have) {
+    return this.line.ask({ t: "pull", s: this.#number, have, max: MOST });
+  }
+
+  /** The edits of a reply to a pull; none where memory was refused, which is waited for. */
+  async editsOf(reply) {
+    if (reply.r === "no" && reply.n !== 26) throw refusal(reply.n);
+    if (reply.r === "no") await pause(RETRY);
+    return reply.es ?? null;
+  }
+
+  /** The edits since a document's version; none where they aren't to be had. */
+  async editsSince({ roomText, version }) {
+    const edits = [];
+    for (let isMore = true; isMore; ) {
+      const { es = [] } = await this.ask({ t: "pull", s: this.#number, have: version + edits.length, max: MOST });
+      edits.push(...es);
+      isMore = es.length === MOST;
+    }
+    try {
+      new Document(roomText, version).play(edits);
+      return edits;
+    } catch (fault) {
+      if (fault instanceof RangeError) return [];
+      throw fault;
+    }
+  }
+
+  /** The request of what a document has to be submitted: the same again, while its answer wasn't seen. What isn't sent isn't under way. */
+  submission(document) {
+    if (this.#underWay !== null) return this.#underWay;
+    if (!this.line.isOpen) throw new Lost();
+    const next = document.next();
+    if (next === null) return null;
+    const { t, ...rest } = next;
+    this.#underWay = { t, s: this.#number, n: this.#last.n + 1, v: document.version, ...rest };
+    return this.#underWay;
+  }
+
+  /** Whether what was accepted last leads to a version, or one before. */
+  hasCome(version) {
+    return this.#underWay === null && version >= this.#last.to;
+  }
+
+  /** Takes the reply to a submission. */
+  async answered(document, reply) {
+    if (reply.r === "ok" && reply.from >= this.#last.to) {
+      this.#last = { n: this.#underWay.n, from: reply.from, to: reply.to };
+      this.#underWay = null;
+      document.accept(reply.from, reply.to);
+      return;
+    }
+    if (reply.n === 26) return pause(RETRY);
+    const fault = refusal(reply.r === "ok" ? 7 : reply.n);
+    if (fault instanceof Lost) throw fault;
+    this.#underWay = null;
+    document.takeBack();
+    if (fault instanceof Refused) await this.giveUp(); // it sends nothing more, and a room has 64
+    throw fault;
+  }
+}
