@@ -175,6 +175,21 @@ async function isKeptWithoutWhatWasTyped(isSent) {
   await end(way);
 }
 
+/** What was sent and doesn't come may not be told from what another types elsewhere: the user chooses. */
+async function isTypedByAnotherToo() {
+  const way = await begin("kept here");
+  const isLost = way.loseOnce("request", "ins");
+  way.editor.change(9, 0, "!");
+  await isLost;
+  way.room = await keptRun(way.room);
+  await typedBy(way.room, 0, "B! ");
+  way.isUp = true;
+  await way.comesTo("another text", "kept here!");
+  way.editor.session.putMine();
+  await way.comesTo("up to date", "kept here!");
+  await end(way);
+}
+
 /** A run that has another text, or another deletion, under the same numbers, is another one, and its session is left alone. */
 async function isAnsweredAlike() {
   const way = await begin("hello");
@@ -211,6 +226,18 @@ async function keepsPlaces(isKept) {
   way.isUp = true;
   await way.comesTo("up to date", "<one two MINE four five>");
   assert.equal(await textOf(way.room), "<one two MINE four five>");
+  await end(way);
+}
+
+/** In the same run what came is played, where the texts alone would tell another place. */
+async function playsWhatCame() {
+  const way = await begin("aaa", false);
+  way.cutOff();
+  await way.comesTo("offline");
+  way.editor.change(1, 0, "X");
+  await typedBy(way.room, 0, "a");
+  way.isUp = true;
+  await way.comesTo("up to date", "aaXaa");
   await end(way);
 }
 
@@ -286,6 +313,10 @@ async function putsInOnce() {
   const room = new Room(2);
   for (const way of [one, two]) way.cut(room);
   for (const way of [one, two]) await way.comesTo("another text");
+  await typedBy(room, 0, "x");
+  one.editor.session.putMine();
+  await until(() => one.editor.session.why.includes("changed"));
+  assert.equal(await textOf(room), "x", "it isn't as the user saw it");
   one.editor.session.putMine();
   await pause(100);
   two.editor.session.putMine();
@@ -340,9 +371,11 @@ await Promise.all([
   isRefilledInParts(),
   isKeptWithoutWhatWasTyped(false),
   isKeptWithoutWhatWasTyped(true),
+  isTypedByAnotherToo(),
   isAnsweredAlike(),
   keepsPlaces(false),
   keepsPlaces(true),
+  playsWhatCame(),
   isOutOfStep(({ room }) => room.ask({ t: "leave", s: 1 })),
   isOutOfStep((way) => void way.refuseOnce("pull", 22)),
   isOutOfStep((way) => void way.refuseOnce("ins", 9)),
