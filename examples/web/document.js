@@ -5,6 +5,7 @@
  * The text is a list of pieces. A piece is the room's, or it was put in here and is new or under way; and it may be gone, which is a
  * deletion that is new or under way. What is shown are the pieces that aren't gone. The room's text are the pieces that are its own.
  */
+import { Piece } from "./piece.js";
 import { beginning, characters, differences, isInside } from "./text.js";
 
 /** The most characters of an insertion, and the most units of a deletion, that one submission has. */
@@ -24,36 +25,6 @@ export const MOST = 64;
  * What is to be sent next: its kind, its place in the room's text at the document's version, and its text or how many units it deletes.
  * @typedef {{t: "ins", k: number, x: string} | {t: "del", k: number, c: number}} Submission
  */
-
-/** A piece: its text; whose it is; what becomes of it; and, where something of it is new, when that was made. */
-class Piece {
-  constructor(text, owner, gone = null, order = 0) {
-    this.text = text;
-    this.owner = owner; // "room", "new" or "sent"
-    this.gone = gone; // null, "new" or "sent"
-    this.order = order;
-  }
-
-  get isShown() {
-    return this.gone === null;
-  }
-
-  get isRooms() {
-    return this.owner === "room";
-  }
-
-  /** Takes what stands behind the place off, and gives it as a piece of its own. */
-  cut(place) {
-    const rest = new Piece(this.text.slice(place), this.owner, this.gone, this.order);
-    this.text = this.text.slice(0, place);
-    return rest;
-  }
-
-  /** Whether both are of one kind, so that they may be one piece. */
-  isLike(other) {
-    return this.owner === other.owner && this.gone === other.gone && this.order === other.order;
-  }
-}
 
 /** A place carried over changes of the text. At equality it stays before what is put in. */
 export function carried(place, changes) {

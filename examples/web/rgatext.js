@@ -239,14 +239,7 @@ export class Session extends EventTarget {
 
   /** The session on a new line: the same one where the run of the server is the same, else a new one. */
   async #resume() {
-    if (!this.#seat.isTaken) {
-      const room = await this.#seat.join();
-      const mine = this.text; // what was typed before the first answer stands at the beginning
-      this.document = room;
-      if (mine !== "") this.document.replace(0, 0, mine);
-      this.#tellChanges([{ at: mine.length, removed: 0, text: room.roomText }]);
-      return;
-    }
+    if (!this.#seat.isTaken) return this.#joinAnew(false, true); // what was typed before stands at the beginning
     const found = await this.#seat.findOut(this.document);
     if (found !== "same") await this.#joinAnew(await this.#seat.isOwn(found, this.#current));
   }

@@ -55,14 +55,13 @@ export class Seat {
     return reply;
   }
 
-  /** Joins, and gives the room's document. Only once all of it is there the session is the new one. */
+  /** Joins, and gives the room's document. */
   async join() {
     const { s, v, x } = await this.must({ t: "join", u: 16 });
-    const last = await this.log.last(v);
     this.#number = s;
     this.#last = { n: 0, from: 0, to: 0 };
     this.#underWay = null;
-    return new Document(x, v, last);
+    return new Document(x, v, await this.log.last(v));
   }
 
   /** Gives the number up, for another one. */

@@ -1,0 +1,29 @@
+/** A piece: its text; whose it is; what becomes of it; and, where something of it is new, when that was made. */
+export class Piece {
+  constructor(text, owner, gone = null, order = 0) {
+    this.text = text;
+    this.owner = owner; // "room", "new" or "sent"
+    this.gone = gone; // null, "new" or "sent"
+    this.order = order;
+  }
+
+  get isShown() {
+    return this.gone === null;
+  }
+
+  get isRooms() {
+    return this.owner === "room";
+  }
+
+  /** Takes what stands behind the place off, and gives it as a piece of its own. */
+  cut(place) {
+    const rest = new Piece(this.text.slice(place), this.owner, this.gone, this.order);
+    this.text = this.text.slice(0, place);
+    return rest;
+  }
+
+  /** Whether both are of one kind, so that they may be one piece. */
+  isLike(other) {
+    return this.owner === other.owner && this.gone === other.gone && this.order === other.order;
+  }
+}
