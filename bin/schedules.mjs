@@ -177,18 +177,20 @@ async function isKeptWithoutWhatWasTyped(isSent) {
   await end(way);
 }
 
-/** What was sent and doesn't come may not be told from what another types elsewhere: the user chooses. */
-async function isTypedByAnotherToo() {
+/** What was sent and doesn't come isn't taken for what another types, or deletes, elsewhere. */
+async function isTypedByAnotherToo(kind) {
   const way = await begin("kept here");
-  const isLost = way.loseOnce("request", "ins");
-  way.editor.change(9, 0, "!");
+  const isLost = way.loseOnce("request", kind);
+  if (kind === "ins") way.editor.change(9, 0, "!");
+  else way.editor.change(8, 1, "");
   await isLost;
   way.room = await keptRun(way.room);
-  await typedBy(way.room, 0, "B! ");
+  await typedBy(way.room, 0, "!");
+  const { s, v } = await way.room.ask({ t: "join" });
+  await way.room.ask({ t: "del", s, n: 1, v, k: 2, c: 1 });
   way.isUp = true;
-  await way.comesTo("another text", "kept here!");
-  way.editor.session.putMine();
-  await way.comesTo("up to date", "kept here!");
+  await way.comesTo("up to date", kind === "ins" ? "!kpt here!" : "!kpt her");
+  assert.equal(await textOf(way.room), way.editor.shown);
   await end(way);
 }
 
@@ -210,7 +212,8 @@ async function isAnsweredAlike() {
   await other.ask({ t: "pull", s: 1, have: 0, max: MOST });
   await other.ask({ t: "del", s: 1, n: 2, v: 6, k: 1, c: 4 });
   deletes.cut(other);
-  await deletes.comesTo("another text", "bcdef");
+  await deletes.comesTo("up to date", "f");
+  assert.equal(await textOf(other), "f");
   for (const it of [way, deletes]) assert.equal((await it.room.ask({ t: "leave", s: 1 })).r, "left");
   await end(way, deletes);
 }
@@ -374,7 +377,8 @@ await Promise.all([
   isRefilledInParts(),
   isKeptWithoutWhatWasTyped(false),
   isKeptWithoutWhatWasTyped(true),
-  isTypedByAnotherToo(),
+  isTypedByAnotherToo("ins"),
+  isTypedByAnotherToo("del"),
   isAnsweredAlike(),
   keepsPlaces(false),
   keepsPlaces(true),

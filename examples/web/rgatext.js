@@ -10,7 +10,7 @@
 import { Connection, Lost, Refused } from "./connection.js";
 import { add, carried, Document, MOST } from "./document.js";
 import { OutOfStep, pause, RETRY, Seat } from "./seat.js";
-import { difference, differences } from "./text.js";
+import { difference, distance } from "./text.js";
 
 export { carried, difference, Document, Lost, Refused };
 
@@ -43,11 +43,6 @@ export class Ended extends Error {
   constructor(why) {
     super(`the session has ended${why === "" ? "" : `: ${why}`}`);
   }
-}
-
-/** In how many characters two texts differ. */
-function distance(from, to) {
-  return differences(from, to).reduce((sum, { removed, text }) => sum + removed + text.length, 0);
 }
 
 /**
@@ -259,12 +254,11 @@ export class Session extends EventTarget {
     const edits = isOwn && this.#other === null && !came ? await this.#seat.editsSince(this.document) : [];
     if (isOwn) await this.#seat.giveUp();
     const room = await this.#seat.join();
-    const isThere = room.roomText === this.document.textToCome || (came && this.#isWhereShown(room.roomText));
-    if (!isThere && (came || !goesOn)) return this.#setBeside(room);
-    const changes = [];
-    if (isThere) this.document.came();
+    const hasIt = this.#hasUnderWay(room.roomText, came);
+    if (hasIt === null || !(hasIt || goesOn)) return this.#setBeside(room);
+    if (hasIt) this.document.came();
     else this.document.takeBack();
-    if (!isThere) changes.push(...this.document.play(edits));
+    const changes = hasIt ? [] : this.document.play(edits);
     this.#tellChanges([...changes, ...this.document.follow(room)]);
     this.#goOn();
   }
@@ -275,9 +269,16 @@ export class Session extends EventTarget {
     this.#tell("another text", ANOTHER);
   }
 
-  /** Whether what is under way, which the log has, is in the room's text where it is shown. */
-  #isWhereShown(text) {
-    return distance(this.document.textToCome, text) < distance(this.document.roomText, text);
+  /**
+   * Whether a text has what is under way, where it is shown; null where that can't be told. `came`: the log has the like, which others may
+   * have put in or deleted elsewhere.
+   */
+  #hasUnderWay(text, came) {
+    const { roomText, textToCome } = this.document;
+    if (text === textToCome) return true;
+    if (!came) return false;
+    const [withIt, without] = [distance(textToCome, text), distance(roomText, text)];
+    return withIt === without ? null : withIt < without;
   }
 
   /** Sends what is new and pulls what others did, until the session is closed. */

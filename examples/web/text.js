@@ -49,10 +49,7 @@ export function difference(from, to, behind = 0) {
  * @returns {Change[]}
  */
 export function differences(from, to) {
-  const whole = difference(from, to);
-  const old = [...from.slice(whole.at, whole.at + whole.removed)];
-  const put = [...whole.text];
-  const way = shortestWay(old, put);
+  const { whole, old, put, way } = compared(from, to);
   if (way === null) return [whole];
   const changes = [];
   let [x, y] = [old.length, put.length];
@@ -66,6 +63,19 @@ export function differences(from, to) {
     [x, y] = [toX, toY];
   }
   return changes;
+}
+
+/** In how many characters two texts differ, put in or removed; without end where they are too many. */
+export function distance(from, to) {
+  return compared(from, to).way?.length ?? Infinity;
+}
+
+/** Two texts: the one change between them, what it removes and puts in, and the shortest way between these. */
+function compared(from, to) {
+  const whole = difference(from, to);
+  const old = [...from.slice(whole.at, whole.at + whole.removed)];
+  const put = [...whole.text];
+  return { whole, old, put, way: shortestWay(old, put) };
 }
 
 /** Adds a change that stands before the last one, or joins it to that. */
