@@ -5,13 +5,15 @@
 import { Refused } from "./connection.js";
 import { MOST } from "./document.js";
 
+/** @typedef {import("./document.js").Document} Document */
+
 /** So many operations behind what is known are looked through for what is under way. */
 const FAR = 16 * MOST;
 
 export class Log {
   #ask;
 
-  /** `ask` gives the reply to a request. */
+  /** @param {(request: object) => Promise<import("./connection.js").Reply>} ask */
   constructor(ask) {
     this.#ask = ask;
   }
@@ -24,25 +26,39 @@ export class Log {
     return (reply.ops ?? []).flatMap(({ x }) => (x === undefined ? [""] : [...x]));
   }
 
-  /** The signs of the last operations up to a version. */
+  /**
+   * The signs of the last operations up to a version.
+   * @param {number} version
+   */
   last(version) {
     const max = Math.min(version, MOST);
     return this.#signs(version - max, max);
   }
 
-  /** Whether the log goes on from what a document knows of it. */
+  /**
+   * Whether the log goes on from what a document knows of it.
+   * @param {Document} document
+   */
   async goesOn({ version, last }) {
     if (version === 0) return true;
     return last.length > 0 && isAt(0, last, await this.#signs(version - last.length, last.length));
   }
 
-  /** Whether the operations from a version to another are what a document has under way. */
+  /**
+   * Whether the operations from a version to another are what a document has under way.
+   * @param {Document} document
+   * @param {number} from
+   * @param {number} to
+   */
   async is({ underWay }, from, to) {
     const signs = to - from === underWay.length ? await this.#signs(from, underWay.length) : [];
     return signs.length > 0 && isAt(0, underWay, signs);
   }
 
-  /** Whether the log has somewhere behind what a document knows, in one piece, what that has under way. */
+  /**
+   * Whether the log has somewhere behind what a document knows, in one piece, what that has under way.
+   * @param {Document} document
+   */
   async has({ version, underWay }) {
     const signs = [];
     for (let isMore = true; isMore && signs.length < FAR; ) {

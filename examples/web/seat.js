@@ -87,6 +87,7 @@ export class Seat {
    * What the number is on a new line. The same run of the server answers the last accepted submission, asked for once more with an empty
    * text, as it did. Where one was under way it may have been accepted since, and is then the last: its operations tell. `document` is the
    * one that follows the session.
+   * @param {Document} document
    * @returns {Promise<"same" | "unused" | "another">}
    */
   async findOut(document) {
@@ -106,6 +107,8 @@ export class Seat {
   /**
    * Whether what was found is one's own, or may be left as such: it is unused and its log the one that is known, so that who else may have
    * it loses nothing.
+   * @param {"same" | "unused" | "another"} found
+   * @param {Document} document
    */
   async isOwn(found, document) {
     return found === "same" || (found === "unused" && (await this.log.goesOn(document)));
@@ -140,7 +143,11 @@ export class Seat {
     }
   }
 
-  /** The request of what a document has to be submitted: the same again, while its answer wasn't seen. What isn't sent isn't under way. */
+  /**
+   * The request of what a document has to be submitted: the same again, while its answer wasn't seen. What isn't sent isn't under way.
+   * @param {Document} document
+   * @returns {object | null}
+   */
   submission(document) {
     if (this.#underWay !== null) return this.#underWay;
     if (!this.line.isOpen) throw new Lost();
@@ -156,7 +163,11 @@ export class Seat {
     return this.#underWay === null && version >= this.#last.to;
   }
 
-  /** Takes the reply to a submission. */
+  /**
+   * Takes the reply to a submission.
+   * @param {Document} document
+   * @param {import("./connection.js").Reply} reply
+   */
   async answered(document, reply) {
     if (reply.r === "ok" && reply.from >= this.#last.to) {
       this.#last = { n: this.#underWay.n, from: reply.from, to: reply.to };
