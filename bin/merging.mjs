@@ -3,8 +3,8 @@ import assert from "node:assert/strict";
 import { readFileSync } from "node:fs";
 import { carried, Document } from "../examples/web/document.js";
 import { isInside } from "../examples/web/text.js";
-import { Undo } from "../examples/web/undo.js";
 import { dice, MOST, played, Room } from "./room.mjs";
+import { mustFitWhole, undoAtRandom, undoOnesOwn, undoQuickly } from "./undoing.mjs";
 
 /** Plays a case of the vectors with a document, each answer and edit being the program's. */
 async function playCase({ name, text, steps }) {
@@ -106,38 +106,12 @@ async function mergeAtRandom(seed, steps) {
   return x.length;
 }
 
-/** One's own steps are undone and done again, and what others put in stays. */
-function undoOnesOwn() {
-  let text = "";
-  const read = () => text;
-  const replace = (at, removed, put) => {
-    const change = { at, removed, text: put };
-    text = played(text, [change]);
-    return change;
-  };
-  const undo = new Undo();
-  let time = 0;
-  const own = (at, removed, put) => undo.note({ at, removed, text: put }, text.slice(at, at + removed), (time += 5_000)) ?? replace(at, removed, put);
-  const other = (at, removed, put) => undo.follow([replace(at, removed, put)]);
-  own(0, 0, "hello");
-  other(2, 0, "XX");
-  undo.undo(read, replace);
-  assert.equal(text, "XX");
-  undo.redo(read, replace);
-  assert.equal(text, "heXXllo");
-  own(1, 5, "Q");
-  other(0, 0, "--");
-  assert.equal(text, "--hQo");
-  undo.undo(read, replace);
-  assert.equal(text, "--heXXllo");
-  other(0, 2, "");
-  undo.undo(read, replace);
-  assert.equal(text, "XX");
-}
-
 const { cases } = JSON.parse(readFileSync(new URL("../examples/vectors/merging.json", import.meta.url), "utf8"));
 for (const it of cases) await playCase(it);
 const merged = [];
 for (let seed = 1; seed <= 3; seed += 1) merged.push(await mergeAtRandom(seed, 1_000));
 undoOnesOwn();
+undoQuickly();
+mustFitWhole();
+for (let seed = 1; seed <= 300; seed += 1) undoAtRandom(dice(seed), seed % 2 === 0);
 console.log(`bin/try_merging: ${cases.length} vectors, texts of ${merged.join(", ")} units merged`);

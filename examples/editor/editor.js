@@ -1,7 +1,7 @@
 // An editor of one rgatext room on a text area. web/rgatext.js keeps its text in step with the room's.
 import { mayBeLost, of, tell, wire } from "../web/page.js";
 import { carried, difference, Ended, Full, open } from "../web/rgatext.js";
-import { Undo } from "../web/undo.js";
+import { mustFit, Undo } from "../web/undo.js";
 
 const area = of("text");
 
@@ -10,17 +10,25 @@ const signs = (text) => text.replaceAll("\r", "\u240d");
 
 /** Where so many units from a place on are after changes: the stretches that others' text stands between. */
 function stretches(at, units, changes) {
-  let places = Array.from({ length: units }, (_, n) => at + n);
-  for (const change of changes) {
-    const past = change.at + change.removed;
-    places = places.filter((it) => it < change.at || it >= past).map((it) => (it < change.at ? it : it - change.removed + change.text.length));
-  }
   const found = [];
-  for (const it of places) {
-    if (found.at(-1)?.[1] === it) found.at(-1)[1] += 1;
-    else found.push([it, it + 1]);
+  for (let end = at + 1; end <= at + units; end += 1) {
+    const to = carried(end, changes);
+    if (to === carried(end - 1, changes)) continue; // others deleted it
+    if (found.at(-1)?.[1] === to - 1) found.at(-1)[1] = to;
+    else found.push([to - 1, to]);
   }
   return found;
+}
+
+/** A change of a text that others have changed since, as changes of the text of now: from the last place to the first. */
+function changesOf({ at, removed, text }, came) {
+  if (came.length === 0) return [{ at, removed, text }];
+  const place = carried(at, came);
+  const changes = stretches(at, removed, came).map(([from, to]) => ({ at: from, removed: to - from, text: "" }));
+  const first = changes.find((it) => it.at === place);
+  if (first !== undefined) first.text = text;
+  else if (text !== "") changes.push({ at: place, removed: 0, text });
+  return changes.sort((one, other) => other.at - one.at);
 }
 
 /** The text area over a session. */
@@ -70,27 +78,21 @@ class Editor {
     const { at, removed, text } = difference(this.shown, area.value.toWellFormed(), area.value.length - area.selectionEnd);
     const came = this.waiting.splice(0);
     this.undo.follow(came);
-    const start = carried(at, came);
-    const [first = [start, start], ...others] = stretches(at, removed, came);
-    const replace = (from, to, put) => {
-      const taken = this.session.text.slice(from, to);
-      this.undo.note(this.session.replace(from, to - from, put), taken);
-    };
+    const place = carried(at, came) + text.length;
     this.change(() => {
-      // all of it or nothing
-      const cost = (sum, [from, to]) => sum + this.session.cost(from, to - from, "");
-      const whole = [first, ...others].reduce(cost, this.session.cost(start, 0, text));
-      if (whole > this.session.left) throw new Full(this.session.left);
-      for (const [from, to] of others.reverse()) replace(from, to, "");
-      if (first[0] === start) {
-        replace(...first, text);
-      } else {
-        replace(...first, "");
-        replace(start, start, text);
-      }
-      if (came.length > 0) this.show(start + text.length, start + text.length, "none");
+      this.make(changesOf({ at, removed, text }, came));
+      if (came.length > 0) this.show(place, place, "none");
       else this.shown = signs(this.session.text);
     });
+  }
+
+  /** Makes changes from the last place to the first: all of them or none. */
+  make(changes) {
+    mustFit(this.session, changes);
+    for (const { at, removed, text } of changes) {
+      const taken = this.session.text.slice(at, at + removed);
+      this.undo.note(this.session.replace(at, removed, text), taken);
+    }
   }
 
   /** Makes a change, or says why it can't be made and shows the text without it. */
@@ -110,18 +112,15 @@ class Editor {
   /** Undoes or does again the user's own last step. */
   turn(isRedo) {
     if (this.isComposing || area.readOnly) return;
-    if (this.undo.cost(isRedo) > this.session.left) {
-      this.tell(`the room takes ${this.session.left} more changes: that didn't fit`);
-      return;
-    }
     let place = area.selectionStart;
     const replace = (at, removed, text) => {
-      const made = this.session.replace(at, removed, text);
-      place = at + made.text.length;
-      return made;
+      this.session.replace(at, removed, text);
+      place = at + text.length;
     };
-    this.change(() => (isRedo ? this.undo.redo(() => this.session.text, replace) : this.undo.undo(() => this.session.text, replace)));
-    this.show(place, place, "none");
+    this.change(() => {
+      this.undo.turn(isRedo, this.session, replace);
+      this.show(place, place, "none");
+    });
   }
 
   /** Says how the session stands. */

@@ -1,120 +1,201 @@
 /**
  * The undoing of one's own changes, while others change the text too: what others put in stays, wherever it stands. Each change of the
  * text, one's own or others', is told in turn.
+ *
+ * The text is a list of pieces. What was taken out and may come back stands hidden among them, so it comes back where it stood.
  */
-
-/** Milliseconds within which typing goes on as one step. */
-const PAUSE = 1_000;
+import { carried } from "./document.js";
+import { Full } from "./rgatext.js";
 
 /**
- * A step: the stretches of text that it put in, in their order, and the texts that it took out, each with its place, and which stretches
- * of other steps were in it, which belong to these again when it is put back.
+ * What is asked of a session.
+ * @typedef {import("./document.js").Change} Change
+ * @typedef {Pick<import("./rgatext.js").Session, "text" | "left" | "cost">} Shown
  */
+
+/** Milliseconds within which typing or deleting goes on as one step. */
+const PAUSE = 1_000;
+
+/** A step of the user: whether it put something in, where it ended, and when. */
 class Step {
-  constructor(stretches, taken, when) {
-    this.stretches = stretches;
-    this.taken = taken;
-    this.when = when;
+  constructor(isTyping) {
+    this.isTyping = isTyping;
+    this.end = 0;
+    this.when = 0;
   }
 
-  /** The parts of its stretches within so many units from a place on, counted from there. */
-  within(at, removed) {
-    const parts = this.stretches.map(([from, to]) => [Math.max(from, at) - at, Math.min(to, at + removed) - at]);
-    return parts.filter(([from, to]) => from < to);
-  }
-
-  /** A stretch is its own again. */
-  own(from, to) {
-    this.stretches.push([from, to]);
-    this.stretches.sort(([a], [b]) => a - b);
-  }
-
-  /** Carries its places over a change that isn't its own. */
-  carry({ at, removed, text }) {
-    const past = at + removed;
-    const behind = (place) => (place >= past ? place - removed + text.length : at + text.length);
-    const before = (place) => (place > past ? place - removed + text.length : Math.min(place, at));
-    this.stretches = this.stretches.flatMap(([from, to]) =>
-      (removed > 0 || text !== "") && from < at && past < to
-        ? [[from, at], [at + text.length, to - removed + text.length]]
-        : [[from < at ? from : behind(from), to > at ? before(to) : to]],
-    );
-    this.stretches = this.stretches.filter(([from, to]) => from < to);
-    for (const it of this.taken) it.at = it.at > at ? before(it.at) : it.at;
+  /** Whether a change goes on with the step: it types on, or deletes on, forwards or backwards. */
+  isGoneOnBy({ at, removed, text }, when) {
+    if (when - this.when >= PAUSE) return false;
+    if (this.isTyping) return removed === 0 && at === this.end;
+    return text === "" && (at === this.end || at + removed === this.end);
   }
 }
 
+/** A piece of the text, or of what may come back: that is hidden, and has its text. */
+class Piece {
+  constructor(length, putBy = null, takenBy = null, text = null) {
+    this.length = length;
+    this.putBy = putBy; // the step that put it in, where that was the user
+    this.takenBy = takenBy; // the step that took it out, undone or not
+    this.text = text;
+  }
+
+  get isHidden() {
+    return this.text !== null;
+  }
+
+  /** Takes what stands behind the place off a piece that is shown, and gives it as a piece of its own. */
+  cut(place) {
+    const rest = new Piece(this.length - place, this.putBy, this.takenBy);
+    this.length = place;
+    return rest;
+  }
+
+  /** Whether both are of one kind, so that they may be one piece. */
+  isLike(other) {
+    return this.isHidden === other.isHidden && this.putBy === other.putBy && this.takenBy === other.takenBy;
+  }
+
+  /** Takes in a piece of its kind that stands behind it. */
+  join(next) {
+    this.length += next.length;
+    if (this.isHidden) this.text += next.text;
+  }
+}
+
+/**
+ * Throws `Full` where changes of one text, of which none touches another, are more than the room takes: none of them is to be made then.
+ * @param {Shown} session
+ * @param {Change[]} changes
+ */
+export function mustFit(session, changes) {
+  const cost = changes.reduce((sum, { at, removed, text }) => sum + session.cost(at, removed, text), 0);
+  if (cost > session.left) throw new Full(session.left);
+}
+
 export class Undo {
+  #pieces = [new Piece(Infinity)]; // the text of before, however long it is
+  /** @type {Step[]} */
   #done = [];
+  /** @type {Step[]} */
   #undone = [];
+  #mayGoOn = false; // whether the last step may be gone on with
 
-  /** A change that the user made, and the text that it took out. */
-  note({ at, removed, text }, taken, when = Date.now()) {
-    const last = this.#done.at(-1);
-    const goesOn = last !== undefined && when - last.when < PAUSE && removed === 0 && last.stretches.at(-1)?.[1] === at;
-    const parts = this.#partsWithin(at, removed);
-    this.#carry({ at, removed, text });
-    this.#undone = [];
-    if (goesOn) {
-      last.stretches.at(-1)[1] = at + text.length;
-      last.when = when;
-    } else {
-      this.#done.push(new Step(text === "" ? [] : [[at, at + text.length]], removed === 0 ? [] : [{ at, text: taken, parts }], when));
+  /**
+   * A change that the user made, and the text that it took out.
+   * @param {Change} change
+   * @param {string} taken
+   */
+  note(change, taken, when = Date.now()) {
+    const { at, removed, text } = change;
+    if (removed === 0 && text === "") return;
+    this.#forgetUndone();
+    if (!this.#mayGoOn || !this.#done.at(-1).isGoneOnBy(change, when)) this.#done.push(new Step(text !== ""));
+    const step = this.#done.at(-1);
+    let rest = taken;
+    for (const piece of this.#within(at, removed).filter((it) => !it.isHidden)) {
+      piece.takenBy = step;
+      piece.text = rest.slice(0, piece.length);
+      rest = rest.slice(piece.length);
     }
+    if (text !== "") this.#insert(at, [new Piece(text.length, step)]);
+    step.end = at + text.length;
+    step.when = when;
+    this.#mayGoOn = true;
   }
 
-  /** Changes that others made. */
+  /**
+   * Changes that others made, or the room.
+   * @param {Change[]} changes
+   */
   follow(changes) {
-    for (const change of changes) this.#carry(change);
+    for (const { at, removed, text, to } of changes) {
+      const out = new Set(this.#within(at, removed).filter((it) => to !== undefined || !it.isHidden));
+      this.#pieces = this.#pieces.filter((piece) => !out.has(piece));
+      if (to !== undefined) this.#insert(to, [...out]);
+      else if (text !== "") this.#insert(at, [new Piece(text.length)]);
+    }
+    if (this.#mayGoOn) this.#done.at(-1).end = carried(this.#done.at(-1).end, changes);
   }
 
-  /** How many units the next undoing puts in and takes out at most, or the next doing again. */
-  cost(isRedo) {
-    const step = (isRedo ? this.#undone : this.#done).at(-1);
-    if (step === undefined) return 0;
-    return step.stretches.reduce((sum, [from, to]) => sum + to - from, 0) + step.taken.reduce((sum, { text }) => sum + text.length, 0);
-  }
-
-  /** Undoes the user's last step by `replace`, a call as that of a session, on a text that `read` gives. */
-  undo(read, replace) {
-    this.#turn(this.#done, this.#undone, read, replace);
-  }
-
-  /** Does again what was undone last. */
-  redo(read, replace) {
-    this.#turn(this.#undone, this.#done, read, replace);
-  }
-
-  #turn(from, to, read, replace) {
-    const step = from.pop();
+  /**
+   * Undoes the user's last step, or does again what was undone last, by `replace`, a call as that of the session. Throws `Full` where the
+   * room doesn't take all of it; then nothing is done.
+   * @param {boolean} isRedo
+   * @param {Shown} session
+   * @param {(at: number, removed: number, text: string) => unknown} replace
+   */
+  turn(isRedo, session, replace) {
+    const [from, to] = isRedo ? [this.#undone, this.#done] : [this.#done, this.#undone];
+    const step = from.at(-1);
     if (step === undefined) return;
-    const back = new Step([], [], 0);
-    const change = (at, removed, text) => {
-      const taken = read().slice(at, at + removed);
-      const parts = this.#partsWithin(at, removed);
-      const made = replace(at, removed, text);
-      this.#carry(made);
-      for (const it of [step, back]) it.carry(made);
-      if (removed > 0) back.taken.push({ at, text: taken, parts });
-      if (made.text !== "") back.stretches.push([at, at + made.text.length]);
-    };
-    while (step.stretches.length > 0) {
-      const [start, end] = step.stretches.pop();
-      change(start, end - start, "");
+    const turned = this.#turned(step, isRedo);
+    mustFit(session, turned.map(({ change }) => change));
+    const before = session.text;
+    for (const { piece, change: { at, removed, text } } of turned) {
+      replace(at, removed, text);
+      piece.text = piece.isHidden ? null : before.slice(at, at + removed);
     }
-    while (step.taken.length > 0) {
-      const { at, text, parts } = step.taken.shift();
-      change(at, 0, text);
-      for (const [owner, from, to] of parts) owner.own(at + from, at + to);
-    }
-    to.push(back);
+    this.#join();
+    to.push(from.pop());
+    this.#mayGoOn = false;
+    if (turned.length === 0) this.turn(isRedo, session, replace); // others have left nothing of it
   }
 
-  #partsWithin(at, removed) {
-    return [...this.#done, ...this.#undone].flatMap((step) => step.within(at, removed).map(([from, to]) => [step, from, to]));
+  /** The pieces that a step turns, each with its change of the text, from the last one to the first: so each place is one of the text of now. */
+  #turned(step, isRedo) {
+    const turned = [];
+    let at = 0;
+    for (const piece of this.#pieces) {
+      const owner = piece.isHidden === isRedo ? piece.putBy : piece.takenBy;
+      const change = piece.isHidden ? { at, removed: 0, text: piece.text } : { at, removed: piece.length, text: "" };
+      if (owner === step) turned.unshift({ piece, change });
+      if (!piece.isHidden) at += piece.length;
+    }
+    return turned;
   }
 
-  #carry(change) {
-    for (const step of [...this.#done, ...this.#undone]) step.carry(change);
+  /** What was undone isn't done again any more. */
+  #forgetUndone() {
+    const gone = new Set(this.#undone.splice(0));
+    this.#pieces = this.#pieces.filter((piece) => !(piece.isHidden && gone.has(piece.putBy)));
+    for (const piece of this.#pieces) if (gone.has(piece.takenBy)) piece.takenBy = null;
+  }
+
+  /** The pieces that are so many units of the text from a place on, and what is hidden among them. */
+  #within(at, removed) {
+    const start = this.#behind(at);
+    return this.#pieces.slice(start, this.#behind(removed, start));
+  }
+
+  /** Puts pieces in at a place, behind what is hidden there. */
+  #insert(at, pieces) {
+    let index = this.#behind(at);
+    while (this.#pieces[index].isHidden) index += 1;
+    this.#pieces.splice(index, 0, ...pieces);
+    this.#join();
+  }
+
+  /** The number of the piece right behind so many units of the text from a piece on; a piece that this is inside of is cut there. */
+  #behind(units, start = 0) {
+    let index = start;
+    for (let rest = units; rest > 0; index += 1) {
+      const piece = this.#pieces[index];
+      if (piece.isHidden) continue;
+      if (piece.length > rest) this.#pieces.splice(index + 1, 0, piece.cut(rest));
+      rest -= piece.length;
+    }
+    return index;
+  }
+
+  /** Joins neighbours of one kind. */
+  #join() {
+    const joined = [];
+    for (const piece of this.#pieces) {
+      if (joined.at(-1)?.isLike(piece)) joined.at(-1).join(piece);
+      else joined.push(piece);
+    }
+    this.#pieces = joined;
   }
 }
