@@ -1,9 +1,10 @@
 // What bin/try_merging plays with a document. The one argument is the program.
 import assert from "node:assert/strict";
 import { readFileSync } from "node:fs";
-import { carried, Document } from "../examples/web/document.js";
+import { carried, played } from "../examples/web/changes.js";
+import { Document, MOST } from "../examples/web/document.js";
 import { isInside } from "../examples/web/text.js";
-import { dice, MOST, played, Room } from "./room.mjs";
+import { dice, Room } from "./room.mjs";
 import { mustFitWhole, undoAtRandom, undoOnesOwn, undoQuickly } from "./undoing.mjs";
 
 /** Plays a case of the vectors with a document, each answer and edit being the program's. */

@@ -2,9 +2,8 @@
 import assert from "node:assert/strict";
 import { spawn } from "node:child_process";
 import { createInterface } from "node:readline";
-import { Lost, Session } from "../examples/web/rgatext.js";
-
-export const MOST = 64;
+import { MOST } from "../examples/web/document.js";
+import { Lost, played, Session } from "../examples/web/rgatext.js";
 
 /** Numbers that look random, the same in each run. */
 export function dice(seed) {
@@ -65,9 +64,6 @@ export class Room {
     this.child.stdin.end();
   }
 }
-
-/** A text after changes of it. */
-export const played = (text, changes) => changes.reduce((t, { at, removed, text: put }) => t.slice(0, at) + put + t.slice(at + removed), text);
 
 /** A line to a room that is lost after so many answers, of which the last doesn't come. Of the first `ins` one may be refused. */
 export class Line {

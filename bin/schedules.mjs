@@ -1,8 +1,9 @@
 // What bin/try_merging plays with sessions and lines that break at a given request. The one argument is the program.
 import assert from "node:assert/strict";
 import { Connection, LIMITS } from "../examples/web/connection.js";
+import { MOST } from "../examples/web/document.js";
 import { Lost, open, Refused, Session } from "../examples/web/rgatext.js";
-import { editorOf, Line, MOST, Room, until } from "./room.mjs";
+import { editorOf, Line, Room, until } from "./room.mjs";
 
 const pause = (milliseconds) => new Promise((resolve) => setTimeout(resolve, milliseconds));
 

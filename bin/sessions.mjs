@@ -1,7 +1,8 @@
 // What bin/try_merging plays with sessions. The one argument is the program.
 import assert from "node:assert/strict";
+import { MOST } from "../examples/web/document.js";
 import { Ended } from "../examples/web/rgatext.js";
-import { dice, editorOf, Line, MOST, Room, until } from "./room.mjs";
+import { dice, editorOf, Line, Room, until } from "./room.mjs";
 
 /** Two sessions over lines that break again and again go on with their numbers, and lose and double nothing. */
 async function goOnOverBrokenLines() {

@@ -5,16 +5,14 @@
  * The text is a list of pieces. A piece is the room's, or it was put in here and is new or under way; and it may be gone, which is a
  * deletion that is new or under way. What is shown are the pieces that aren't gone. The room's text are the pieces that are its own.
  */
+import { add } from "./changes.js";
 import { Piece } from "./piece.js";
 import { beginning, characters, differences, isInside } from "./text.js";
 
-/** The most characters of an insertion, and the most units of a deletion, that one submission has. */
+/** The most characters of an insertion, units of a deletion, edits of a pull and operations of an `ops`. */
 export const MOST = 64;
 
-/**
- * A change of the shown text: at a place, so many units are removed, and a text is put in.
- * @typedef {{at: number, removed: number, text: string}} Change
- */
+/** @typedef {import("./changes.js").Change} Change */
 
 /**
  * An edit as docs/PROTOCOL.md has it, of a session that counts UTF-16 units.
@@ -25,25 +23,6 @@ export const MOST = 64;
  * What is to be sent next: its kind, its place in the room's text at the document's version, and its text or how many units it deletes.
  * @typedef {{t: "ins", k: number, x: string} | {t: "del", k: number, c: number}} Submission
  */
-
-/** A place carried over changes of the text. At equality it stays before what is put in. */
-export function carried(place, changes) {
-  for (const { at, removed, text } of changes) {
-    if (place > at) {
-      const left = Math.max(at, place - removed);
-      place = left > at ? left + text.length : at;
-    }
-  }
-  return place;
-}
-
-/** Adds a change, or lengthens the last one where it goes on there. */
-export function add(changes, change) {
-  const last = changes.at(-1);
-  if (last !== undefined && last.removed === 0 && change.removed === 0 && change.at === last.at + last.text.length) last.text += change.text;
-  else if (last !== undefined && last.text === "" && change.text === "" && change.at === last.at) last.removed += change.removed;
-  else changes.push(change);
-}
 
 export class Document {
   /** @type {Piece[]} */
@@ -329,7 +308,7 @@ export class Document {
     const moved = this.#pieces.splice(index, end - index);
     const text = moved.map((piece) => (piece.isShown ? piece.text : "")).join("");
     const there = this.#atRooms(k);
-    if (text !== "") changes.push({ at, removed: text.length, text: "" }, { at: this.#shownPlace(there), removed: 0, text });
+    if (text !== "") changes.push({ at, removed: text.length, text, to: this.#shownPlace(there) });
     this.#pieces.splice(there, 0, ...moved);
     return there;
   }

@@ -7,16 +7,17 @@
  *     session.addEventListener("changes", ({ detail }) => { ... });  // what to play on an editor's own text
  *     session.replace(0, 0, "Hello");
  */
+import { add, carried, played } from "./changes.js";
 import { Connection, Lost, Refused } from "./connection.js";
-import { add, carried, Document, MOST } from "./document.js";
+import { Document, MOST } from "./document.js";
 import { OutOfStep, pause, RETRY, Seat } from "./seat.js";
 import { difference, distance } from "./text.js";
 
-export { carried, difference, Document, Lost, Refused };
+export { carried, difference, Document, Lost, played, Refused };
 
 /**
+ * @typedef {import("./changes.js").Change} Change
  * @typedef {import("./connection.js").Line} Line
- * @typedef {import("./document.js").Change} Change
  * @typedef {"joining" | "up to date" | "sending" | "offline" | "refused" | "another text" | "closed"} State
  */
 

@@ -1,6 +1,6 @@
 /**
  * Texts of UTF-16 units: where they may be cut, how many characters they have, and which changes lead from one to another.
- * @typedef {import("./document.js").Change} Change
+ * @typedef {import("./changes.js").Change} Change
  */
 
 /** The most steps of a way that is looked for between two texts: one unit put in or removed is one. */

@@ -4,12 +4,12 @@
  *
  * The text is a list of pieces. What was taken out and may come back stands hidden among them, so it comes back where it stood.
  */
-import { carried } from "./document.js";
+import { carried } from "./changes.js";
 import { Full } from "./rgatext.js";
 
 /**
  * What is asked of a session.
- * @typedef {import("./document.js").Change} Change
+ * @typedef {import("./changes.js").Change} Change
  * @typedef {Pick<import("./rgatext.js").Session, "text" | "left" | "cost">} Shown
  */
 

@@ -1,0 +1,46 @@
+/**
+ * Changes of a text. All places count UTF-16 units, as JavaScript does.
+ *
+ * A change removes so many units at a place, and puts a text in there. Where it is a move, that is the text that it removes, and it is
+ * put in at the place `to` of what is left.
+ * @typedef {{at: number, removed: number, text: string, to?: number}} Change
+ */
+
+/**
+ * The text that changes lead to.
+ * @param {string} text
+ * @param {Change[]} changes
+ */
+export function played(text, changes) {
+  for (const { at, removed, text: put, to = at } of changes) {
+    const left = text.slice(0, at) + text.slice(at + removed);
+    text = left.slice(0, to) + put + left.slice(to);
+  }
+  return text;
+}
+
+/**
+ * A place carried over changes of the text. At equality it stays before what is put in. With a text that moves it goes where it is
+ * within it or right behind it, as a caret that has just typed it.
+ * @param {number} place
+ * @param {Change[]} changes
+ */
+export function carried(place, changes) {
+  for (const { at, removed, text, to = at } of changes) {
+    if (to !== at && at < place && place <= at + removed) {
+      place += to - at;
+    } else {
+      if (place > at) place = Math.max(at, place - removed);
+      if (place > to) place += text.length;
+    }
+  }
+  return place;
+}
+
+/** Adds a change, or lengthens the last one where it goes on there. */
+export function add(changes, change) {
+  const last = changes.at(-1);
+  if (last !== undefined && last.removed === 0 && change.removed === 0 && change.at === last.at + last.text.length) last.text += change.text;
+  else if (last !== undefined && last.text === "" && change.text === "" && change.at === last.at) last.removed += change.removed;
+  else changes.push(change);
+}
