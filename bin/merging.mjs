@@ -11,7 +11,7 @@ import { mustFitWhole, undoAtRandom, undoOnesOwn, undoQuickly } from "./undoing.
 async function playCase({ name, text, steps }) {
   const room = new Room();
   await room.ask({ t: "join", u: 16 });
-  let [others, seen, number, submission] = [0, 0, 0, null];
+  let [others, seen, number, submission, again] = [0, 0, 0, null, null];
   const submitAsOther = async (request) => {
     seen += (await room.edits(1, seen)).length;
     assert.equal((await room.ask({ ...request, s: 1, n: (others += 1) })).r, "ok", name);
@@ -28,9 +28,19 @@ async function playCase({ name, text, steps }) {
       const reply = await room.ask({ ...submission, s: 2, n: number + 1 });
       if (step.answer) {
         assert.deepEqual(reply, { r: "ok", ...step.answer }, name);
-        document.accept(reply.from, reply.to);
+        assert.ok(document.accept(reply.from, reply.to), name);
         [number, submission] = [number + 1, null];
+        again = await room.ask({ t: "ins", s: 2, n: number, v: 0, k: 0, x: "" });
       }
+    }
+    if (step.again) {
+      assert.deepEqual(again, { r: "ok", ...step.again }, name);
+      assert.ok(!document.accept(again.from, again.to), name);
+    }
+    if (step.late) {
+      const { from, es } = await room.ask({ t: "pull", s: 2, have: step.late.from, max: MOST });
+      assert.deepEqual({ from, edits: es }, step.late, name);
+      assert.deepEqual(document.play(es, from), [], name);
     }
     if (step.changes) {
       const edits = await room.edits(2, document.version);

@@ -202,10 +202,15 @@ export class Document {
     return { submission: { t: "del", k, c }, from: null, to: null };
   }
 
-  /** What is under way was accepted: it leads from a version to another, and the edits between them are its own. */
+  /**
+   * What is under way was accepted: it leads from a version to another, and the edits between them are its own. Gives whether it was so:
+   * an answer that leads from before what was pulled is that of an earlier submission, which comes once more.
+   */
   accept(from, to) {
+    if (this.#sent === null || from < this.version) return false;
     this.#sent.from = from;
     this.#sent.to = to;
+    return true;
   }
 
   /** What is under way wasn't accepted: it is new again. */
@@ -226,12 +231,14 @@ export class Document {
 
   /**
    * Plays edits that lead from the document's version on, and gives the changes of the shown text, each of the text that the ones before
-   * lead to. While something is under way it has to be accepted before.
+   * lead to. While something is under way it has to be accepted before. Edits from another version come late or once more, and change
+   * nothing.
    * @param {Edit[]} edits
    * @returns {Change[]}
    */
-  play(edits) {
+  play(edits, from = this.version) {
     const changes = [];
+    if (from !== this.version) return changes;
     for (const edit of edits) {
       const isOwn = this.#sent !== null && this.#sent.from !== null && this.#sent.from <= this.version && this.version < this.#sent.to;
       if (edit[0] === "i") {
