@@ -64,8 +64,10 @@ async function isRefused() {
   const late = editorOf(async () => line);
   await until(() => late.shown === "once");
   late.change(4, 0, " too many");
+  late.change(0, 2, "");
   await late.session.ended;
-  assert.deepEqual([late.session.state, late.session.unsent, line.asked.at(-1)], ["refused", [" too many"], "leave"]);
+  const unsent = [{ kind: "deleted", text: "on" }, { kind: "put in", text: " too many" }];
+  assert.deepEqual([late.session.state, late.session.unsent, line.asked.at(-1)], ["refused", unsent, "leave"]);
   await patient.session.close();
   for (const { session } of [late, patient]) assert.throws(() => session.insert(0, "x"), Ended);
   room.close();

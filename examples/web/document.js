@@ -24,6 +24,8 @@ export const MOST = 64;
  * @typedef {{t: "ins", k: number, x: string} | {t: "del", k: number, c: number}} Submission
  */
 
+/** @typedef {{kind: "put in" | "deleted", text: string}} Unsent */
+
 export class Document {
   /** @type {Piece[]} */
   #pieces;
@@ -60,9 +62,16 @@ export class Document {
     return signs.flat().map((sign) => (this.#sent.submission.t === "ins" ? sign : ""));
   }
 
-  /** The texts that were put in here and that the room isn't known to have. */
+  /**
+   * What was changed here and the room isn't known to have: the texts that were put in, and such of the room's that were deleted.
+   * @returns {Unsent[]}
+   */
   get unsent() {
-    return this.#pieces.filter((piece) => !piece.isRooms && piece.isShown).map((piece) => piece.text);
+    const unsent = [];
+    for (const { text, isShown, isRooms } of this.#pieces) {
+      if (isShown !== isRooms) unsent.push({ kind: isShown ? "put in" : "deleted", text });
+    }
+    return unsent;
   }
 
   /** How many changes of the room's text are new or under way: characters to put in, and such to delete. */

@@ -83,7 +83,7 @@ export class Session extends EventTarget {
     return this.document.text;
   }
 
-  /** The texts that were put in here and that the room isn't known to have. */
+  /** What was changed here and the room isn't known to have: a list of texts that were put in or deleted, each with its `kind`. */
   get unsent() {
     return this.document.unsent;
   }
