@@ -16,7 +16,7 @@ of("state").insertAdjacentHTML(
     <button id="mine">Put mine in</button>
     <button id="save">Save what is shown</button>
   </p>
-  <div id="unsent" hidden>Not in the room: <pre id="lost"></pre></div>`,
+  <div id="unsent" hidden>The room has what is shown, but for this: <pre id="lost"></pre></div>`,
 );
 
 /** Whether some of the text may be lost where the page is left. */
@@ -29,9 +29,10 @@ export function tell(session, trouble = "") {
   const scarce = left < SCARCE ? `; the room takes ${left} more changes` : "";
   of("state").textContent = trouble || (why === "" ? state : `${state}: ${why}`) + scarce;
   of("state").className = trouble || why || state === "offline" ? "trouble" : "";
-  of("choice").hidden = !hasOther;
-  of("unsent").hidden = !isOver || unsent.length === 0;
-  of("lost").textContent = isOver ? unsent.join("\n") : "";
+  of("choice").hidden = !hasOther && state !== "refused";
+  of("theirs").hidden = of("mine").hidden = !hasOther;
+  of("unsent").hidden = !isOver || hasOther || unsent.length === 0;
+  of("lost").textContent = isOver ? unsent.map(({ kind, text }) => `${kind}: ${text}`).join("\n") : "";
   return !isOver;
 }
 
