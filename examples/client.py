@@ -126,9 +126,20 @@ class Session:
         self.tries = tries  # how often a request is sent whose answer is lost
         self.pause = pause  # seconds before a request is sent again that found no memory
         self.under_way = None  # the submission whose answer wasn't seen
-        self.known = 0, []  # a version that was pulled, and what the log had last there
         self.before = []  # the text before the session joined anew
+        self.undecided = None  # that, with what was known of its log and was under way, until the session goes on
         self.join()
+
+    def _ask(self, request):
+        """The reply, a refusal too, asked for again where memory was refused or a line's calls are used up."""
+        for _ in range(self.tries):
+            reply = self.ask(request)
+            if reply.get("n") == 13 and reply["r"] == "no":
+                raise Refused(13)
+            if reply["r"] != "no" or reply["n"] not in (25, 26):
+                return reply
+            time.sleep(self.pause)
+        raise Lost
 
     def _answer(self, request):
         """The reply, where it isn't refused, to a request that may be sent again: nothing is carried out twice."""
@@ -136,14 +147,12 @@ class Session:
             try:
                 if request["t"] != "join" and self.lines != getattr(self.ask, "lines", 0):
                     self._find_out()
-                reply = self.ask(request)
+                reply = self._ask(request)
             except Lost:
                 continue
-            if reply["r"] != "no":
-                return reply
-            if reply["n"] not in (25, 26):
+            if reply["r"] == "no":
                 self._refuse(reply["n"])
-            time.sleep(self.pause)
+            return reply
         raise Lost
 
     @staticmethod
@@ -156,38 +165,46 @@ class Session:
         self.session, self.version, self.text = reply["s"], reply["v"], list(reply["x"])
         self.lines = getattr(self.ask, "lines", 0)
         self.number, self.came, self.reached = 0, 0, 0
+        self.known = 0, []  # a version that was pulled, and what the log had last there
 
     def join_anew(self):
         """Joins another run of the server: whether its log goes on from what was pulled here, so that what is unsent may be submitted by
-        the text of now. Where it doesn't, the text of before stays in `before`, and the user chooses, as docs/CLIENTS.md tells."""
-        self.before, was_under_way = self.text, self.under_way is not None
-        (version, last), self.under_way = self.known, None
+        the text of now. Where it doesn't, the text of before stays in `before`, and the user chooses, as docs/CLIENTS.md tells; until
+        something is submitted, a further call speaks of the same text."""
+        self.undecided = self.undecided or (self.text, self.known, self.under_way)
+        self.before, known, under_way = self.undecided
+        self.under_way = None
         self.join()
-        goes_on = not was_under_way and 0 < version <= self.version and self._last_operations(version, self._answer) == last
-        return goes_on or self.text == self.before
+        is_known = not under_way and 0 < known[0] <= self.version and self._begins_as(known, self._answer)
+        if is_known:
+            self.known = known
+        if is_known or self.text == self.before:
+            self.undecided = None
+        return self.undecided is None
 
     @staticmethod
     def _last_operations(version, ask):
-        """What the log has last up to a version, which isn't 0."""
+        """What the log has last up to a version, which isn't 0; nothing where it hasn't come to that."""
         count = min(MOST, version)
-        return ask({"t": "ops", "after": version - count, "max": count})["ops"]
+        return ask({"t": "ops", "after": version - count, "max": count}).get("ops")
+
+    def _begins_as(self, known, ask):
+        """Whether the log begins as was known."""
+        version, last = known
+        return version == 0 or self._last_operations(version, ask) == last
 
     def _find_out(self):
-        """On another line: whether the server is in the same run, where the last accepted submission has the answer that it had, or
-        one was under way and has been accepted since. Else a new session is wanted, as docs/CLIENTS.md tells."""
+        """On another line: whether the server is in the same run, where the last accepted submission has the answer that it had and the
+        log begins as it did, or one was under way and has been accepted since. Else a new session is wanted, as docs/CLIENTS.md tells."""
         lines = getattr(self.ask, "lines", 0)
-        again = lambda n: self.ask({"t": "ins", "s": self.session, "n": n, "v": 0, "k": 0, "x": ""})
+        again = lambda n: self._ask({"t": "ins", "s": self.session, "n": n, "v": 0, "k": 0, "x": ""})
         reply = again(self.number)
-        if reply.get("n") == 26:
-            raise Lost
-        if reply.get("n") == 13:
-            raise Refused(13)
-        same = (reply["r"], reply.get("from"), reply.get("to")) == ("ok", self.came, self.reached)
-        if not same and reply.get("n") == 7:
+        same = (reply["r"], reply.get("from"), reply.get("to")) == ("ok", self.came, self.reached) and self._begins_as(self.known, self._ask)
+        if reply.get("n") == 7:
             next_one = again(self.number + 1)
             same = self._is_mine(next_one)
             if self.number == 0 and next_one.get("n") in (8, 10) and self._reads_the_same():
-                self.ask({"t": "leave", "s": self.session})  # unused: in another run it may be another client's, so no two share it
+                self._ask({"t": "leave", "s": self.session})  # unused: in another run it may be another client's, so no two share it
         if not same:
             raise JoinAnew(5)
         self.lines = lines
@@ -195,12 +212,9 @@ class Session:
     def _is_mine(self, reply):
         """Whether this is the answer to what is under way, in a log that begins as is known here: its operations are those that were
         asked for. A deletion tells no place, so of those only the count is compared."""
-        if reply["r"] != "ok" or not self.under_way:
+        if reply["r"] != "ok" or not self.under_way or self.known[0] > reply["from"] or not self._begins_as(self.known, self._ask):
             return False
-        version, last = self.known
-        if version > reply["from"] or version and self._last_operations(version, self.ask) != last:
-            return False
-        ops = self.ask({"t": "ops", "after": reply["from"], "max": min(MOST, reply["to"] - reply["from"])})["ops"]
+        ops = self._ask({"t": "ops", "after": reply["from"], "max": min(MOST, reply["to"] - reply["from"])})["ops"]
         text, count = self.under_way.get("x", ""), self.under_way.get("c", len(self.under_way.get("x", "")))
         return reply["to"] - reply["from"] == count and "".join(it.get("x", "") for it in ops) == text
 
@@ -208,12 +222,12 @@ class Session:
         """Whether pulls by the session, which has submitted nothing, lead to the text that is read."""
         text, version = list(self.text), self.version
         while True:
-            reply = self.ask({"t": "pull", "s": self.session, "have": version, "max": MOST})
+            reply = self._ask({"t": "pull", "s": self.session, "have": version, "max": MOST})
             if reply["r"] == "no":
                 return False
             play(text, reply["es"])
             version += len(reply["es"])
-            if len(reply["es"]) < MOST and (read := self.ask({"t": "read"}))["v"] == version:
+            if len(reply["es"]) < MOST and (read := self._ask({"t": "read"}))["v"] == version:
                 return text == list(read["x"])
 
     def leave(self):
@@ -250,7 +264,8 @@ class Session:
         reply = self._answer(self.under_way)
         if reply["from"] < self.reached:
             self._refuse(7)
-        self.number, self.came, self.reached, self.under_way = self.number + 1, reply["from"], reply["to"], None
+        self.number, self.came, self.reached = self.number + 1, reply["from"], reply["to"]
+        self.under_way = self.undecided = None
 
     def insert(self, place, text):
         """Puts a text in at a place. Its parts all name one version and place, so the last one is sent first."""
