@@ -13,21 +13,24 @@ the libraries `websockets` and, for the broker, `redis`.
 import json
 import sys
 import time
+import urllib.parse
 
 from client import Lost, Refused, Socket
 
 MOST = 64  # operations of an `ops` or a `put`, a run counting as many as it has characters
+SITES = 32
+OPERATIONS = 131_072  # of a room
 SOON, LATE = 0.02, 1.0  # seconds between two polls
 NOT_YET = 18  # too many wait for what hasn't come
 OWN_SITE, OTHER = 16, 17  # an operation of the room's own site that its log doesn't have; another one has its number there
 FULL = 12
 NEVER = (19, 20, 21)  # a forged operation, or one of another life of the room
+TAKEN = "has the site of another server's operations, or lost its own: start it anew with another --site, then the bridge"
 MEANING = {
     4: "has no room of this name",
     13: "has recorded all the calls that its room takes: start it anew, with its text in a new room",
-    **dict.fromkeys(
-        (OWN_SITE, OTHER), "has the site of another server's operations, or lost its own: start it anew with another --site, then the bridge"
-    ),
+    OWN_SITE: TAKEN,
+    OTHER: TAKEN,
 }
 
 
@@ -50,7 +53,7 @@ class Room:
 
     def __init__(self, address, name):
         Room.all.append(self)
-        self.address = address
+        self.address, self.name = address, name
         self.socket = Socket(address, name)
         self.seen = 0
         self.is_full = False
@@ -59,15 +62,33 @@ class Room:
         """Ends the bridge, and says why."""
         for it in Room.all:
             it.socket.close()
-        sys.exit(f"{self.address} {MEANING.get(number, f'refused a request with {number}')}")
+        sys.exit(f"{self.address} {MEANING.get(number, f'refused a request with {number}')} ({self.name})")
 
     def ask(self, request):
-        reply = self.socket(request)
+        try:
+            reply = self.socket(request)
+        except Lost:
+            raise Lost(f"{self.address} is away") from None
+        except Refused as why:  # of the room that is opened
+            self.stop(why.number)
         if reply["r"] == "no" and reply["n"] in (25, 26):
-            raise Lost
+            raise Lost(f"{self.address} has no memory for a request, or no call left for the connection")
         if reply["r"] == "no":
             self.stop(reply["n"])
         return reply
+
+    def own_site(self):
+        """The room's site, where it can be told: an operation of that which the log doesn't have is refused by 16. One that deletes what
+        isn't there is refused for each other site, so nothing is changed."""
+        counts = [0] * SITES
+        while operations := self.news():
+            self.seen += len(operations)
+            for it in operations:
+                counts[it["s"]] += 1
+        self.seen = 0
+        next_ones = [{"c": [[site, min(count + 1, OPERATIONS)]], "k": "d", "s": site, "t": [OPERATIONS, site]} for site, count in enumerate(counts)]
+        outcomes = self.ask({"t": "put", "ops": next_ones})["os"]
+        return outcomes.index(["no", OWN_SITE]) if ["no", OWN_SITE] in outcomes else None
 
     def news(self):
         """The next operations of the log, each by itself."""
@@ -114,7 +135,10 @@ class Stream:
             import redis
         except ImportError:
             sys.exit("the library redis isn't there: apt-get install python3-redis")
-        self.broker = redis.Redis.from_url(url)
+        try:
+            self.broker = redis.Redis.from_url(url)
+        except ValueError as why:
+            sys.exit(f"{url} is no address of a broker, as redis://HOST:PORT is: {why}")
         self.key = f"rgatext:{name}"
         self.run = self.run_id()
         self.last = b"0-0"
@@ -134,7 +158,7 @@ class Stream:
         # a broker that was started anew may have lost what it had; in one run a stream that was deleted is shorter, unless
         # others have put as much there again
         if not entries and (self.run_id() != self.run or self.broker.xlen(self.key) < len(self.there)):
-            raise Lost
+            raise Lost("the broker was started anew, or lost its stream")
         return operations
 
     def put(self, operations):
@@ -159,30 +183,44 @@ def keep_in_step(room, stream):
 
 
 def keep_two_in_step(first, second):
+    if (site := first.own_site()) is not None and site == second.own_site():
+        second.stop(OWN_SITE)
     pause = SOON
     while True:
         pause = SOON if carry(first, second) | carry(second, first) else min(2 * pause, LATE)
         time.sleep(pause)
 
 
+def check_address(address):
+    """Ends the bridge where this is no address of a server."""
+    try:
+        parts = urllib.parse.urlsplit(address)
+        if parts.scheme in ("ws", "wss") and parts.hostname and parts.port != 0:
+            return
+    except ValueError:
+        pass
+    sys.exit(f"{address} is no address of a server, as ws://HOST:PORT is")
+
+
 def main():
     words = sys.argv[1:]
     if words[:1] == ["--direct"] and len(words) == 4:
-        run = lambda: keep_two_in_step(Room(words[1], words[3]), Room(words[2], words[3]))
+        servers = words[1:3]
+        run = lambda: keep_two_in_step(*(Room(it, words[3]) for it in servers))
     elif len(words) in (2, 3) and not words[0].startswith("-"):
-        url = words[2] if len(words) == 3 else "redis://127.0.0.1:6379"
+        servers, url = words[:1], words[2] if len(words) == 3 else "redis://127.0.0.1:6379"
         run = lambda: keep_in_step(Room(words[0], words[1]), Stream(url, words[1]))
     else:
         sys.exit(__doc__)
+    for it in servers:
+        check_address(it)
     while True:  # from the beginning, whenever a server or the broker was away
         try:
             run()
-        except Refused as why:  # of the room that is opened
-            sys.exit(f"a server {MEANING.get(why.number, f'refused a request with {why.number}')}")
         except ImportError as why:
             sys.exit(f"the library {why.name} isn't there: apt-get install python3-{why.name}")
-        except Lost:
-            print("the server was away, or the broker was started anew or lost its stream", file=sys.stderr)
+        except Lost as why:
+            print(why, file=sys.stderr)
         except OSError as why:
             print(f"away: {why}", file=sys.stderr)
         except Exception as why:  # redis.ConnectionError is no OSError
