@@ -64,9 +64,9 @@ export class Document {
 
   /**
    * What was changed here and the room isn't known to have: the texts that were put in, and such of the room's that were deleted.
-   * @returns {Unsent[]}
    */
   get unsent() {
+    /** @type {Unsent[]} */
     const unsent = [];
     for (const { text, isShown, isRooms } of this.#pieces) {
       if (isShown !== isRooms) unsent.push({ kind: isShown ? "put in" : "deleted", text });

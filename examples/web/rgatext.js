@@ -19,6 +19,10 @@ export { carried, difference, Document, Lost, played, Refused };
  * @typedef {import("./changes.js").Change} Change
  * @typedef {import("./connection.js").Line} Line
  * @typedef {"joining" | "up to date" | "sending" | "offline" | "refused" | "another text" | "closed"} State
+ * @typedef {{
+ *   addEventListener(name: "changes", listener: (event: CustomEvent<Change[]>) => void): void,
+ *   addEventListener(name: "state", listener: () => void): void,
+ * }} Tells
  */
 
 /** The most operations of a room. */
@@ -50,7 +54,7 @@ export class Ended extends Error {
  * A session. It tells of itself by events: `changes`, whose `detail` is a list of changes of the shown text, made by others or by the room;
  * and `state`, when `state` or `why` has become another.
  */
-export class Session extends EventTarget {
+export class Session extends /** @type {{new (): Tells & EventTarget}} */ (EventTarget) {
   #connect;
   #seat = new Seat();
   #other = null; // the document of another run of the server, until the user chooses
