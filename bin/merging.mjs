@@ -7,54 +7,77 @@ import { isInside } from "../examples/web/text.js";
 import { dice, Room } from "./room.mjs";
 import { mustFitWhole, undoAtRandom, undoOnesOwn, undoQuickly } from "./undoing.mjs";
 
-/** Plays a case of the vectors with a document, each answer and edit being the program's. */
-async function playCase({ name, text, steps }) {
-  const room = new Room();
-  await room.ask({ t: "join", u: 16 });
-  let [others, seen, number, submission, again] = [0, 0, 0, null, null];
-  const submitAsOther = async (request) => {
-    seen += (await room.edits(1, seen)).length;
-    assert.equal((await room.ask({ ...request, s: 1, n: (others += 1) })).r, "ok", name);
-  };
-  if (text !== "") await submitAsOther({ t: "ins", v: 0, k: 0, x: text });
-  const joined = await room.ask({ t: "join", u: 16 });
-  const document = new Document(joined.x, joined.v);
-  for (const step of steps) {
-    if (step.local) document.replace(step.local.at, step.local.removed, step.local.text);
-    if (step.other) await submitAsOther(step.other);
-    if (step.send) {
-      submission ??= { ...document.next(), v: document.version };
-      assert.deepEqual(submission, step.send, name);
-      const reply = await room.ask({ ...submission, s: 2, n: number + 1 });
-      if (step.answer) {
-        assert.deepEqual(reply, { r: "ok", ...step.answer }, name);
-        assert.ok(document.accept(reply.from, reply.to), name);
-        [number, submission] = [number + 1, null];
-        again = await room.ask({ t: "ins", s: 2, n: number, v: 0, k: 0, x: "" });
-      }
-    }
-    if (step.again) {
-      assert.deepEqual(again, { r: "ok", ...step.again }, name);
-      assert.ok(!document.accept(again.from, again.to), name);
-    }
-    if (step.late) {
-      const { from, es } = await room.ask({ t: "pull", s: 2, have: step.late.from, max: MOST });
-      assert.deepEqual({ from, edits: es }, step.late, name);
-      assert.deepEqual(document.play(es, from), [], name);
-    }
-    if (step.changes) {
-      const edits = await room.edits(2, document.version);
-      if (step.edits) assert.deepEqual(edits, step.edits, name);
-      const shown = document.text;
-      const changes = document.play(edits);
-      assert.deepEqual(changes, step.changes, name);
-      assert.equal(played(shown, changes), document.text, name);
-      for (const [before, after] of step.carets ?? []) assert.equal(carried(before, changes), after, `${name}: a caret at ${before}`);
-      assert.equal(document.roomText, (await room.ask({ t: "read" })).x, name);
-    }
-    if (step.shown !== undefined) assert.equal(document.text, step.shown, name);
+/** A case of the vectors, played with a document: each answer and edit is the program's. */
+class Case {
+  room = new Room();
+  others = 0; // submissions
+  seen = 0; // edits that the other session was told
+  number = 0;
+  submission = null;
+  again = null; // the last answer, once more
+
+  constructor({ name, text, steps }) {
+    Object.assign(this, { name, text, steps });
   }
-  room.close();
+
+  equal(one, other, what = this.name) {
+    assert.deepEqual(one, other, what);
+  }
+
+  async play() {
+    await this.room.ask({ t: "join", u: 16 });
+    if (this.text !== "") await this.submitAsOther({ t: "ins", v: 0, k: 0, x: this.text });
+    const { x, v } = await this.room.ask({ t: "join", u: 16 });
+    this.document = new Document(x, v);
+    for (const step of this.steps) {
+      if (step.local) this.document.replace(step.local.at, step.local.removed, step.local.text);
+      if (step.other) await this.submitAsOther(step.other);
+      if (step.send) await this.submit(step);
+      if (step.again) this.answerAgain(step.again);
+      if (step.late) await this.pullLate(step.late);
+      if (step.changes) await this.pull(step);
+      if (step.shown !== undefined) this.equal(this.document.text, step.shown);
+    }
+    this.room.close();
+  }
+
+  async submitAsOther(request) {
+    this.seen += (await this.room.edits(1, this.seen)).length;
+    this.equal((await this.room.ask({ ...request, s: 1, n: (this.others += 1) })).r, "ok");
+  }
+
+  async submit({ send, answer }) {
+    this.submission ??= { ...this.document.next(), v: this.document.version };
+    this.equal(this.submission, send);
+    const reply = await this.room.ask({ ...this.submission, s: 2, n: this.number + 1 });
+    if (!answer) return;
+    this.equal(reply, { r: "ok", ...answer });
+    this.equal(this.document.accept(reply.from, reply.to), true);
+    [this.number, this.submission] = [this.number + 1, null];
+    this.again = await this.room.ask({ t: "ins", s: 2, n: this.number, v: 0, k: 0, x: "" });
+  }
+
+  answerAgain(wanted) {
+    this.equal(this.again, { r: "ok", ...wanted });
+    this.equal(this.document.accept(this.again.from, this.again.to), false);
+  }
+
+  async pullLate(wanted) {
+    const { from, es } = await this.room.ask({ t: "pull", s: 2, have: wanted.from, max: MOST });
+    this.equal({ from, edits: es }, wanted);
+    this.equal(this.document.play(es, from), []);
+  }
+
+  async pull(step) {
+    const edits = await this.room.edits(2, this.document.version);
+    if (step.edits) this.equal(edits, step.edits);
+    const shown = this.document.text;
+    const changes = this.document.play(edits);
+    this.equal(changes, step.changes);
+    this.equal(played(shown, changes), this.document.text);
+    for (const [before, after] of step.carets ?? []) this.equal(carried(before, changes), after, `${this.name}: a caret at ${before}`);
+    this.equal(this.document.roomText, (await this.room.ask({ t: "read" })).x);
+  }
 }
 
 /** A change at random of a text: a place outside of pairs, how much is removed, and what is put in. */
@@ -66,51 +89,74 @@ function someChange(roll, text) {
   return [at, end - at, roll(4) === 0 ? "" : words[roll(words.length)]];
 }
 
+/** A document of a session, and what its editor shows by the changes. */
+class Peer {
+  document = new Document();
+  shown = "";
+  number = 0;
+  submission = null;
+
+  constructor(room, session, roll) {
+    Object.assign(this, { room, session, roll });
+  }
+
+  show(changes) {
+    this.shown = played(this.shown, changes);
+    assert.equal(this.shown, this.document.text);
+  }
+
+  change() {
+    this.show([this.document.replace(...someChange(this.roll, this.shown))]);
+  }
+
+  send() {
+    const next = this.document.next();
+    if (next !== null) this.submission = { ...next, v: this.document.version };
+  }
+
+  async answer() {
+    if (this.submission === null) return;
+    const { r, from, to } = await this.room.ask({ ...this.submission, s: this.session, n: (this.number += 1) });
+    assert.equal(r, "ok");
+    assert.ok(this.document.accept(from, to));
+    this.submission = null;
+  }
+
+  async pull() {
+    if (this.submission !== null) return 0;
+    const { es } = await this.room.ask({ t: "pull", s: this.session, have: this.document.version, max: 1 + this.roll(MOST) });
+    this.show(this.document.play(es));
+    return es.length;
+  }
+
+  async pullAll() {
+    while ((await this.pull()) > 0);
+  }
+}
+
 /** Four documents that change at random, send and pull early and late: at the end all have the room's text. */
 async function mergeAtRandom(seed, steps) {
   const roll = dice(seed);
   const room = new Room();
   const peers = [];
-  for (let s = 1; s <= 4; s += 1) {
+  for (let session = 1; session <= 4; session += 1) {
     await room.ask({ t: "join", u: 16 });
-    peers.push({ s, n: 0, document: new Document(), shown: "", submission: null });
+    peers.push(new Peer(room, session, roll));
   }
-  const change = (peer) => {
-    peer.shown = played(peer.shown, [peer.document.replace(...someChange(roll, peer.shown))]);
-    assert.equal(peer.shown, peer.document.text);
-  };
-  const send = (peer) => {
-    const next = peer.document.next();
-    if (next !== null) peer.submission = { ...next, v: peer.document.version };
-  };
-  const answer = async (peer) => {
-    if (peer.submission === null) return;
-    const { r, from, to } = await room.ask({ ...peer.submission, s: peer.s, n: (peer.n += 1) });
-    assert.equal(r, "ok");
-    peer.document.accept(from, to);
-    peer.submission = null;
-  };
-  const pull = async (peer) => {
-    if (peer.submission !== null) return 0;
-    const { es } = await room.ask({ t: "pull", s: peer.s, have: peer.document.version, max: 1 + roll(MOST) });
-    peer.shown = played(peer.shown, peer.document.play(es));
-    assert.equal(peer.shown, peer.document.text);
-    return es.length;
-  };
   for (let step = 0; step < steps; step += 1) {
-    const does = [change, change, send, answer, pull][roll(5)];
-    await does(peers[roll(peers.length)]);
+    const does = ["change", "change", "send", "answer", "pull"][roll(5)];
+    await peers[roll(peers.length)][does]();
   }
   for (let isAhead = true; isAhead; ) {
     isAhead = false;
     for (const peer of peers) {
-      await answer(peer);
-      while ((await pull(peer)) > 0);
+      await peer.answer();
+      await peer.pullAll();
       isAhead ||= peer.document.pending > 0;
-      send(peer);
+      peer.send();
     }
   }
-  for (const peer of peers) while ((await pull(peer)) > 0);
+  for (const peer of peers) await peer.pullAll();
   const { x } = await room.ask({ t: "read" });
   for (const { shown, document } of peers) assert.deepEqual([shown, document.roomText], [x, x]);
   room.close();
@@ -118,11 +164,11 @@ async function mergeAtRandom(seed, steps) {
 }
 
 const { cases } = JSON.parse(readFileSync(new URL("../examples/vectors/merging.json", import.meta.url), "utf8"));
-for (const it of cases) await playCase(it);
+for (const it of cases) await new Case(it).play();
 const merged = [];
 for (let seed = 1; seed <= 3; seed += 1) merged.push(await mergeAtRandom(seed, 1_000));
 undoOnesOwn();
 undoQuickly();
 mustFitWhole();
 for (let seed = 1; seed <= 300; seed += 1) undoAtRandom(dice(seed), seed % 2 === 0);
-console.log(`bin/try_merging: ${cases.length} vectors, texts of ${merged.join(", ")} units merged`);
+console.log(`bin/try_merging: ${cases.length} vectors, texts of ${merged.join(", ")} units merged, steps undone`);

@@ -73,47 +73,59 @@ async function isRefused() {
   room.close();
 }
 
-/** A run that is refilled by a bridge after the editors have joined it, or before: nothing is lost and nothing comes twice. */
+/** A run that is refilled by a bridge after the editors have joined it: they go on. */
 async function goOnInARefilledRun() {
   let room = new Room(1);
   const connect = async () => new Line(room, Infinity);
-  const [typist, watcher] = [editorOf(connect), editorOf(connect)];
-  typist.change(0, 0, "hello");
-  await until(() => [typist, watcher].every(({ session, shown }) => shown === "hello" && !session.isAhead));
-  let told = await room.operations();
+  const editors = [editorOf(connect), editorOf(connect)];
+  const allShow = (text) => until(() => editors.every(({ session, shown }) => shown === text && !session.isAhead));
+  editors[0].change(0, 0, "hello");
+  await allShow("hello");
+  const told = await room.operations();
   room.close();
   room = new Room(2);
-  await until(() => [typist, watcher].every(({ session }) => session.state === "another text"));
+  await until(() => editors.every(({ session }) => session.state === "another text"));
   await room.refill(told);
-  await until(() => [typist, watcher].every(({ session }) => session.state === "up to date"));
-  typist.change(5, 0, "!");
-  await until(() => [typist, watcher].every(({ session, shown }) => shown === "hello!" && !session.isAhead));
-  for (const { session } of [typist, watcher]) await session.close();
-  // the answer to a submission is seen, its edits aren't, and the next run has them
+  await until(() => editors.every(({ session }) => session.state === "up to date"));
+  editors[0].change(5, 0, "!");
+  await allShow("hello!");
+  for (const { session } of editors) await session.close();
+  room.close();
+}
+
+/** A line on which the answer to the first submission is the last that comes, and whether it has come. */
+function endedByAnAnswer(room) {
   const line = new Line(room, Infinity);
-  const third = editorOf(async () => (line.room === room ? line : new Line(room, Infinity)));
-  await until(() => third.shown === "hello!");
   const ask = line.ask.bind(line);
-  let submitted = Promise.resolve();
-  let isAccepted = false;
-  const noted = (answer) => answer.then(({ r }) => (isAccepted = r === "ok"));
+  let [isAccepted, submitted] = [false, Promise.resolve()];
   line.ask = (request) => {
     const answer = submitted.then(() => {
-      if (isAccepted) line.close(); // the answer to the submission is the last that comes
+      if (isAccepted) line.close();
       return ask(request);
     });
-    if (request.t === "ins") submitted = noted(answer);
+    if (request.t === "ins") submitted = answer.then(({ r }) => (isAccepted = r === "ok"));
     return answer;
   };
-  third.change(6, 0, "?");
-  await until(() => isAccepted);
-  told = await room.operations();
+  return { line, isAccepted: () => isAccepted };
+}
+
+/** The answer to a submission is seen, its edits aren't, and the next run has them: nothing is lost and nothing comes twice. */
+async function goOnWhereTheLastWasAccepted() {
+  let room = new Room(2);
+  await room.ask({ t: "join" });
+  await room.ask({ t: "ins", s: 1, n: 1, v: 0, k: 0, x: "hello!" });
+  const { line, isAccepted } = endedByAnAnswer(room);
+  const editor = editorOf(async () => (line.room === room ? line : new Line(room, Infinity)));
+  await until(() => editor.shown === "hello!");
+  editor.change(6, 0, "?");
+  await until(isAccepted);
+  const told = await room.operations();
   room.close();
   room = new Room(3);
   await room.refill(told);
-  await until(() => third.session.state === "up to date");
-  assert.deepEqual([third.shown, (await room.ask({ t: "read" })).x], ["hello!?", "hello!?"]);
-  await third.session.close();
+  await until(() => editor.session.state === "up to date");
+  assert.deepEqual([editor.shown, (await room.ask({ t: "read" })).x], ["hello!?", "hello!?"]);
+  await editor.session.close();
   room.close();
 }
 
@@ -166,6 +178,7 @@ async function makesFewCalls() {
 const lines = await goOnOverBrokenLines();
 await goOnInAnotherRun();
 await goOnInARefilledRun();
+await goOnWhereTheLastWasAccepted();
 await haveSessionsOfTheirOwn();
 await isRefused();
 await makesFewCalls();

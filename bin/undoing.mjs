@@ -1,4 +1,4 @@
-// What bin/merging.mjs tries of the undoing of one's own steps.
+// What bin/try_merging plays of the undoing of one's own steps.
 import assert from "node:assert/strict";
 import { Full } from "../examples/web/rgatext.js";
 import { Undo } from "../examples/web/undo.js";
