@@ -63,10 +63,11 @@ async function isRefused() {
   const line = new Line(room, Infinity, 12);
   const late = editorOf(async () => line);
   await until(() => late.shown === "once");
-  late.change(4, 0, " too many");
+  const tooMany = " too many".repeat(8);
+  late.change(4, 0, tooMany);
   late.change(0, 2, "");
   await late.session.ended;
-  const unsent = [{ kind: "deleted", text: "on" }, { kind: "put in", text: " too many" }];
+  const unsent = [{ kind: "deleted", text: "on" }, { kind: "put in", text: tooMany }];
   assert.deepEqual([late.session.state, late.session.unsent, line.asked.at(-1)], ["refused", unsent, "leave"]);
   await patient.session.close();
   for (const { session } of [late, patient]) assert.throws(() => session.insert(0, "x"), Ended);

@@ -229,6 +229,7 @@ export class Document {
       if (piece.owner === "sent") piece.owner = "new";
       if (piece.gone === "sent") piece.gone = "new";
     }
+    for (let index = this.#pieces.length - 1; index > 0; index -= 1) this.#joinAt(index);
   }
 
   /** What is under way is the room's, where it is shown. */
