@@ -2,159 +2,19 @@
 
 import functools
 import http.server
-import pathlib
 import random
-import socket
-import subprocess
 import sys
 import tempfile
 import threading
 import time
 
 from client import Session, Socket
-from serving import free_port
-from selenium import webdriver
-from selenium.webdriver.common.by import By
 from selenium.webdriver.common.keys import Keys
+from windows import AREA, Cable, Handler, Mirror, Server, Window
 
 top = sys.argv[1]
-CODEMIRROR = "usr/share/javascript/codemirror"  # where Debian has it, below the root
-AREA = "document.getElementById('text')"
-
-
-class Pages(http.server.SimpleHTTPRequestHandler):
-    """The folder examples, where codemirror/lib is Debian's."""
-
-    def translate_path(self, path):
-        head, _, rest = path.partition("/codemirror/lib/")
-        return str(pathlib.Path("/", CODEMIRROR, rest)) if rest and not head else super().translate_path(path)
-
-    def log_message(self, *_):
-        pass
-
-
-class Server:
-    """`rgatext serve`, which may be killed and started anew at the same port, and keeps its rooms in a folder if there is one."""
-
-    def __init__(self, *rooms, folder=None):
-        self.rooms, self.port, self.folder = rooms, free_port(), folder
-        self.start()
-
-    def start(self, site=0):
-        how = ["--keep", self.folder, "--every", "1"] if self.folder else ["--site", str(site)]
-        words = ["serve", "--port", str(self.port), *how, *self.rooms]
-        self.child = subprocess.Popen([top + "/bin/rgatext", *words], stdout=subprocess.PIPE)
-        assert self.child.stdout.readline() == f"listening {self.port}\n".encode()
-
-    def kill(self):
-        self.child.kill()
-        self.child.wait()
-
-
-class Cable:
-    """A line to a port that may be cut: what the server answered last then never arrives."""
-
-    def __init__(self, port):
-        self.target, self.pairs, self.holds = port, [], False
-        self.listener = socket.create_server(("127.0.0.1", 0))
-        self.port = self.listener.getsockname()[1]
-        threading.Thread(target=self.accept, daemon=True).start()
-
-    def accept(self):
-        while True:
-            near, _ = self.listener.accept()
-            try:
-                far = socket.create_connection(("127.0.0.1", self.target))
-            except OSError:
-                near.close()
-                continue
-            self.pairs.append((near, far))
-            threading.Thread(target=self.carry, args=(near, far, False), daemon=True).start()
-            threading.Thread(target=self.carry, args=(far, near, True), daemon=True).start()
-
-    def carry(self, source, sink, is_answer):
-        try:
-            while data := source.recv(65536):
-                if not (is_answer and self.holds):
-                    sink.sendall(data)
-        except OSError:
-            pass
-        for it in (source, sink):
-            it.close()
-
-    def cut(self):
-        """Holds what is answered, waits until something was sent, and cuts."""
-        self.holds = True
-        time.sleep(0.4)
-        for pair in self.pairs:
-            for it in pair:
-                try:
-                    it.shutdown(socket.SHUT_RDWR)
-                except OSError:
-                    pass
-        self.pairs.clear()
-        self.holds = False
-
-
-class Window:
-    """A window with the page of examples/editor."""
-
-    def __init__(self, port, room="notes"):
-        options = webdriver.ChromeOptions()
-        for word in ("--headless", "--no-sandbox", "--disable-gpu", "--window-size=800,720"):
-            options.add_argument(word)
-        self.driver = webdriver.Chrome(options=options)
-        self.open(port, room)
-
-    def open(self, port, room):
-        self.driver.get(f"http://127.0.0.1:{pages.server_address[1]}/editor/")
-        for name, text in (("host", f"ws://127.0.0.1:{port}"), ("room", room)):
-            field = self.driver.find_element(By.ID, name)
-            field.clear()
-            field.send_keys(text)
-        self.driver.find_element(By.TAG_NAME, "button").click()
-
-    def run(self, script, *arguments):
-        return self.driver.execute_script(script, *arguments)
-
-    @property
-    def area(self):
-        return self.driver.find_element(By.ID, "text")
-
-    @property
-    def text(self):
-        return self.run(f"return {AREA}.value")
-
-    @property
-    def state(self):
-        return self.run("return document.getElementById('state').textContent")
-
-    def type(self, *keys):
-        self.area.send_keys(*keys)
-
-    def select(self, start, end, direction="none"):
-        self.run(f"{AREA}.focus(); {AREA}.setSelectionRange(...arguments)", start, end, direction)
-
-    @property
-    def selection(self):
-        return self.run(f"return [{AREA}.selectionStart, {AREA}.selectionEnd, {AREA}.selectionDirection]")
-
-    def put(self, text, start, end):
-        """Puts a text in as a paste does."""
-        self.run(f"{AREA}.setRangeText(arguments[0], arguments[1], arguments[2], 'end'); {AREA}.dispatchEvent(new Event('input'))", text, start, end)
-
-    def compose(self, *texts):
-        for text in texts:
-            self.driver.execute_cdp_cmd("Input.imeSetComposition", {"text": text, "selectionStart": len(text), "selectionEnd": len(text)})
-
-    def commit(self, text):
-        self.driver.execute_cdp_cmd("Input.insertText", {"text": text})
-
-    def click(self, name):
-        self.driver.find_element(By.ID, name).click()
-
-    def quit(self):
-        self.driver.quit()
+PROGRAM = top + "/bin/rgatext"
+OPERATIONS = 131_072  # of a room
 
 
 def until(is_so, what, seconds=20):
@@ -209,18 +69,45 @@ def tries_typing():
     clear("random typing")
 
 
-def tries_pastes():
-    digits = "0123456789" * 2_000
+def key_after(window, line, wanted):
+    """How many seconds after it is typed a key of the window is in the room, which then has so many of it."""
     began = time.monotonic()
-    windows[0].put(digits, 0, 0)
-    windows[1].type("w")
-    same("20,000 characters pasted while another types", seconds=40)
-    text = windows[0].text
-    assert len(text) == 20_001 and digits in text, "the paste is torn"
-    windows[0].select(0, len(text))
-    windows[0].type(Keys.BACKSPACE)
-    same("20,000 characters deleted", "", seconds=40)
+    window.type("w")
+    until(lambda: line({"t": "read"})["x"].count("w") == wanted, "a key beside a paste", 60)
     return time.monotonic() - began
+
+
+def in_seconds(most, began, is_so, what):
+    """Waits until it is so, which may take so many seconds."""
+    until(is_so, what, 4 * most)
+    took = time.monotonic() - began
+    assert took <= most, f"{what}: that took {took:.1f} s, and {most} are allowed"
+    return took
+
+
+def tries_pastes():
+    """100,000 characters are in the room within ten seconds, and another's keys come half a second later than else at most."""
+    both = [Window(PAGES, server.port, "pasted") for _ in range(2)]
+    until(lambda: all(it.state == "up to date" for it in both), "both have joined")
+    line = Socket(f"ws://127.0.0.1:{server.port}", "pasted")
+    read = lambda: line({"t": "read"})["x"]
+    alone = max(key_after(both[1], line, n) for n in (1, 2, 3))
+    digits = ("0123456789" * 7 + "012345678\n") * 1_250
+    began = time.monotonic()
+    both[0].put(digits, 0, 0)
+    beside = []
+    while len(read()) < len(digits) and len(beside) < 5:
+        beside.append(key_after(both[1], line, 4 + len(beside)))
+    took = in_seconds(10, began, lambda: digits in read(), "a paste of 100,000 characters in one piece")
+    assert beside and max(beside) <= alone + 0.5, f"a key took {max(beside, default=0):.2f} s beside a paste, and {alone:.2f} s without"
+    until(lambda: both[0].text == both[1].text == read(), "both show the paste")
+    began = time.monotonic()
+    both[0].put("", 0, 30_000)
+    in_seconds(4, began, lambda: len(read()) < 75_000, "a deletion of 30,000 characters, for more a room has no place")
+    print(f"a paste of 100,000 characters took {took:.1f} s, a key beside it {max(beside):.2f} s, and one without {alone:.2f} s")
+    line.close()
+    for it in both:
+        it.quit()
 
 
 def tries_selection():
@@ -263,22 +150,32 @@ def tries_composition():
 
 
 def tries_undo():
+    undo, redo = Keys.CONTROL + "z", Keys.CONTROL + Keys.SHIFT + "z"
     windows[0].type("mine ")
     same("mine", "mine ")
     windows[1].select(2, 2)
     windows[1].type("THEIRS")
     same("theirs within", "miTHEIRSne ")
-    windows[0].type(Keys.CONTROL + "z")
+    windows[0].type(undo)
     same("undone", "THEIRS")
-    windows[0].type(Keys.CONTROL + Keys.SHIFT + "z")
+    windows[0].type(redo)
     same("done again", "miTHEIRSne ")
+    for place in (11, 2):
+        windows[0].select(place, place)
+        windows[0].type(Keys.BACKSPACE * 2)
+    same("two deletions", "THEIRSn")
+    for wanted in ("miTHEIRSn", "miTHEIRSne "):
+        windows[0].type(undo)
+        same("a deletion undone", wanted)
+    for wanted in ("miTHEIRSn", "THEIRSn"):
+        windows[0].type(redo)
+        same("a deletion done again", wanted)
     clear("undo")
 
 
 def tries_cut_lines():
     for n in range(5):
-        windows[0].type(str(n))
-        cable.cut()
+        cable.cut(functools.partial(windows[0].type, str(n)))
     same("cut lines", "01234")
     probe = Session(Socket(f"ws://127.0.0.1:{server.port}", "notes"))
     assert probe.session == 3, f"cut lines cost sessions: the next one is {probe.session}"
@@ -324,8 +221,8 @@ def tries_refilled_run():
 
 def tries_kept_run():
     with tempfile.TemporaryDirectory() as folder:
-        kept = Server("notes", folder=folder)
-        both = [Window(kept.port) for _ in range(2)]
+        kept = Server(PROGRAM, "notes", folder=folder)
+        both = [Window(PAGES, kept.port) for _ in range(2)]
         both[0].type("kept here")
         until(lambda: both[1].text == "kept here", "before the server is killed")
         time.sleep(2.5)
@@ -344,7 +241,7 @@ def tries_kept_run():
 def tries_65_windows():
     line = Socket(f"ws://127.0.0.1:{server.port}", "notes")
     sessions = [line({"t": "join"})["s"] for _ in range(62)]
-    third = Window(server.port)
+    third = Window(PAGES, server.port)
     until(lambda: "64" in third.state, "the 65th is told that the room is taken")
     line({"t": "leave", "s": sessions[0]})
     until(lambda: third.state == "up to date", "one has left", 30)
@@ -354,73 +251,125 @@ def tries_65_windows():
     line.close()
 
 
+def tries_leaving():
+    """Who leaves text that isn't in the room is asked before."""
+    windows[0].type("sent")
+    same("a text that is sent", "sent")
+    until(lambda: windows[0].state == "up to date", "all is sent")
+    assert not windows[0].asks_before_leaving, "it asks though all is sent"
+    cable.hold()
+    windows[0].type(" unsent")
+    assert windows[0].asks_before_leaving, "it doesn't ask"
+    windows[0].press_open()
+    windows[0].driver.switch_to.alert.dismiss()
+    assert windows[0].text == "sent unsent", windows[0].text
+    windows[0].press_open()
+    windows[0].driver.switch_to.alert.accept()
+    assert windows[0].text == "", windows[0].text
+    cable.end()
+    until(lambda: all(it.state == "up to date" for it in windows), "it is opened anew")
+    same("opened anew")
+    clear("leaving")
+
+
+def fill(room, left):
+    """Puts lines in until the room takes so many more changes."""
+    line = Socket(f"ws://127.0.0.1:{server.port}", room)
+    joined = line({"t": "join"})
+    version, number = joined["v"], 0
+    while (missing := OPERATIONS - left - version) > 0:
+        text = ("x" * 63 + "\n")[-missing:]
+        version = line({"t": "ins", "s": joined["s"], "n": (number := number + 1), "v": joined["v"], "k": 0, "x": text})["to"]
+    line({"t": "leave", "s": joined["s"]})
+    line.close()
+
+
 def tries_full_room():
-    line = Session(Socket(f"ws://127.0.0.1:{server.port}", "full"))
-    for _ in range(2_047):
-        line.insert(0, "x" * 64)
-    line.pull()
-    window = Window(server.port, "full")
+    fill("full", 6_400)
+    window = Window(PAGES, server.port, "full")
     windows.append(window)
-    until(lambda: "takes 64 more" in window.state, "a scarce room is told")
-    window.put("y" * 65, 0, 0)
+    until(lambda: "takes 6400 more" in window.state, "a scarce room is told")
+    window.put("y" * 6_401, 0, 0)
     until(lambda: "didn't fit" in window.state, "a paste that doesn't fit")
     assert "y" not in window.text, "it is shown as if it were in the room"
-    window.type("z")
-    line.pull()
-    until(lambda: line.pull() or "z" in line.text, "a character that fits")
+    window.put("z" * 6_000, 0, 0)
+    fill("full", 3_000)
+    until(lambda: "refused: the room is full" in window.state, "a room that gets full amid a paste", 60)
+    line = Socket(f"ws://127.0.0.1:{server.port}", "full")
+    sent = line({"t": "read"})["x"].count("z")
+    line.close()
+    lost = window.run("return document.getElementById('lost').textContent")
+    assert 0 < sent < 6_000 and lost == "put in: " + "z" * (6_000 - sent), (sent, len(lost))
+    assert window.text.count("z") == 6_000 and window.run(f"return {AREA}.readOnly"), "what was pasted isn't kept"
+    assert window.is_hidden("mine") and window.saved() == window.text, "what is shown can't be saved"
     windows.pop().quit()
-    line.leave()
-    line.ask.close()
 
 
 def tries_bad_addresses():
-    window = Window(server.port, "nowhere")
+    window = Window(PAGES, server.port, "nowhere")
     until(lambda: "no room of this name" in window.state, "a missing room")
     window.run("document.getElementById('host').value = 'nonsense'")
-    window.driver.find_element(By.TAG_NAME, "button").click()
+    window.press_open()
     until(lambda: "is no address" in window.state, "a bad address")
     window.quit()
 
 
 def tries_codemirror():
-    both = []
-    for _ in range(2):
-        window = Window(server.port)
-        window.driver.get(f"http://127.0.0.1:{pages.server_address[1]}/codemirror/?server=ws://127.0.0.1:{server.port}&room=mirror")
-        both.append(window)
-    value = "return document.querySelector('.CodeMirror').CodeMirror.getValue()"
-    keys = lambda it, *words: it.driver.switch_to.active_element.send_keys(*words)
-    for it in both:
-        it.run("document.querySelector('.CodeMirror').CodeMirror.focus()")
-    keys(both[0], "mine")
-    until(lambda: both[1].run(value) == "mine", "CodeMirror shows others' text")
-    both[1].run("document.querySelector('.CodeMirror').CodeMirror.setCursor(0, 2)")
-    keys(both[1], "X")
-    until(lambda: both[0].run(value) == "miXne", "and the other way")
-    keys(both[0], Keys.CONTROL + "z")
-    until(lambda: all(it.run(value) == "X" for it in both), "an undo leaves others' text")
-    both[0].run("document.querySelector('.CodeMirror').CodeMirror.replaceRange('\\ud83d', {line: 0, ch: 1})")
-    until(lambda: all(it.run(value) == "X\ufffd" for it in both), "half a pair is none")
+    both = [Mirror(PAGES, server.port, "mirror") for _ in range(2)]
+    show = lambda text, what: until(lambda: all(it.text == text and it.state == "up to date" for it in both), what, 30)
+    show("", "both have joined")
+    both[0].type("mine")
+    show("mine", "CodeMirror shows others' text")
+    both[1].select(2, 2)
+    both[1].type("X")
+    show("miXne", "and the other way")
+    both[0].type(Keys.CONTROL + "z")
+    show("X", "an undo leaves others' text")
+    both[0].type(Keys.CONTROL + Keys.SHIFT + "z")
+    show("miXne", "done again")
+    for place in (5, 2):
+        both[0].select(place, place)
+        both[0].type(Keys.BACKSPACE)
+    show("mXn", "two deletions")
+    for wanted in ("miXn", "miXne"):
+        both[0].type(Keys.CONTROL + "z")
+        show(wanted, "a deletion undone")
+    both[0].run(f"{Mirror.EDITOR}.replaceRange('\\ud83d', {{line: 0, ch: 5}})")
+    show("miXne\ufffd", "half a pair is none")
     server.kill()
     server.start()
     until(lambda: all("another text" in it.state for it in both), "an empty room", 30)
     both[0].click("mine")
     until(lambda: both[0].state == "up to date", "mine is put in")
     both[1].click("theirs")
-    until(lambda: all(it.run(value) == "X\ufffd" and it.state == "up to date" for it in both), "another run")
+    show("miXne\ufffd", "another run")
     for it in both:
         it.quit()
 
 
+def tries_codemirror_in_a_full_room():
+    fill("scarce", 40)
+    window = Mirror(PAGES, server.port, "scarce")
+    until(lambda: "takes 40 more" in window.state, "a room with forty left")
+    window.put("", 0, 30)
+    until(lambda: window.state.startswith("up to date") and "takes 10 more" in window.state, "a deletion of thirty")
+    text = window.text
+    for _ in range(2):
+        window.type(Keys.CONTROL + "z")
+        assert window.text == text and "takes 10 more" in window.state, "an undo that doesn't fit is begun"
+    window.quit()
+
+
 windows = []
-pages = http.server.ThreadingHTTPServer(("127.0.0.1", 0), functools.partial(Pages, directory=top + "/examples"))
+pages = http.server.ThreadingHTTPServer(("127.0.0.1", 0), functools.partial(Handler, directory=top + "/examples"))
 threading.Thread(target=pages.serve_forever, daemon=True).start()
-server = Server("notes", "full", "mirror")
+PAGES = f"http://127.0.0.1:{pages.server_address[1]}"
+server = Server(PROGRAM, "notes", "pasted", "full", "mirror", "scarce")
 cable = Cable(server.port)
 try:
-    windows = [Window(cable.port), Window(server.port)]
+    windows = [Window(PAGES, cable.port), Window(PAGES, server.port)]
     until(lambda: all(it.state == "up to date" for it in windows), "both have joined")
-    writing = (tries_typing, tries_pastes, tries_selection, tries_scroll, tries_composition, tries_undo)
+    writing = (tries_typing, tries_selection, tries_scroll, tries_composition, tries_undo, tries_leaving)
     for attempt in (tries_cut_lines, *writing, tries_another_run, tries_refilled_run):
         attempt()
         print(attempt.__name__.removeprefix("tries_").replace("_", " "))
@@ -432,7 +381,8 @@ try:
         windows[0].run("scrollTo(0, 0)")
         windows[0].driver.save_screenshot(sys.argv[2])
         clear("a picture")
-    for attempt in (tries_kept_run, tries_65_windows, tries_full_room, tries_bad_addresses, tries_codemirror):
+    rooms = (tries_kept_run, tries_65_windows, tries_full_room, tries_bad_addresses)
+    for attempt in (*rooms, tries_codemirror, tries_codemirror_in_a_full_room, tries_pastes):
         attempt()
         print(attempt.__name__.removeprefix("tries_").replace("_", " "))
     print("bin/try_editor_page: all as it should be")
