@@ -1,5 +1,5 @@
 // A room in CodeMirror 5: index.html?server=ws://127.0.0.1:7878&room=notes
-import { tell, wire } from "../web/page.js";
+import { listen, tell } from "../web/page.js";
 import { carried, Ended, Full, open } from "../web/rgatext.js";
 import { Undo } from "../web/undo.js";
 
@@ -109,4 +109,4 @@ const asked = new URLSearchParams(location.search);
 const session = open(asked.get("server") ?? "ws://127.0.0.1:7878", asked.get("room") ?? "notes");
 const editor = globalThis.CodeMirror(document.getElementById("editor"), { lineWrapping: true, lineSeparator: "\n", undoDepth: 0 });
 new Binding(editor, session);
-wire(() => session);
+listen(() => session);

@@ -1,9 +1,9 @@
 // An editor of one rgatext room on a text area. web/rgatext.js keeps its text in step with the room's.
-import { mayBeLost, of, tell, wire } from "../web/page.js";
+import { element, listen, mayBeLost, tell } from "../web/page.js";
 import { carried, difference, Ended, Full, open } from "../web/rgatext.js";
 import { mustFit, Undo } from "../web/undo.js";
 
-const area = of("text");
+const area = element("text");
 
 // What the text area has of a text. It would make CR to LF, and CR LF to one LF, so CR has a sign.
 const signs = (text) => text.replaceAll("\r", "\u240d");
@@ -66,7 +66,7 @@ class Editor {
 
   /** How high the text before the caret is, in pixels. */
   linesAbove() {
-    const measure = of("measure");
+    const measure = element("measure");
     measure.style.width = `${area.clientWidth}px`;
     measure.textContent = `${area.value.slice(0, area.selectionStart)}.`;
     return measure.offsetHeight;
@@ -132,16 +132,16 @@ class Editor {
 let editor = null;
 const question = "Some of the text isn't in the room. Leave it?";
 
-of("where").addEventListener("submit", (event) => {
+element("where").addEventListener("submit", (event) => {
   event.preventDefault();
   if (editor && mayBeLost(editor.session) && !confirm(question)) return;
   const last = editor;
   try {
-    editor = new Editor(of("host").value, of("room").value);
+    editor = new Editor(element("host").value, element("room").value);
     last?.session.close();
   } catch (fault) {
     if (!(fault instanceof TypeError)) throw fault;
-    of("state").textContent = `that is no address: ${fault.message}`;
+    element("state").textContent = `that is no address: ${fault.message}`;
     return;
   }
   area.disabled = false;
@@ -163,4 +163,4 @@ area.addEventListener("keydown", (event) => {
   event.preventDefault();
   editor.turn(event.shiftKey);
 });
-wire(() => editor?.session);
+listen(() => editor?.session);

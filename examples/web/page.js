@@ -7,9 +7,9 @@ import { Ended, Full } from "./rgatext.js";
 /** So many changes before a room is full it is told. */
 const SCARCE = 13_107;
 
-export const of = (id) => document.getElementById(id);
+export const element = (id) => document.getElementById(id);
 
-of("state").insertAdjacentHTML(
+element("state").insertAdjacentHTML(
   "afterend",
   `<p id="choice" hidden>
     <button id="theirs">Take the room's text</button>
@@ -27,19 +27,19 @@ export function tell(session, trouble = "") {
   const { state, why, left, unsent, hasOther } = session;
   const isOver = state === "refused" || state === "closed";
   const scarce = left < SCARCE ? `; the room takes ${left} more changes` : "";
-  of("state").textContent = trouble || (why === "" ? state : `${state}: ${why}`) + scarce;
-  of("state").className = trouble || why || state === "offline" ? "trouble" : "";
-  of("choice").hidden = !hasOther && state !== "refused";
-  of("theirs").hidden = of("mine").hidden = !hasOther;
-  of("unsent").hidden = !isOver || hasOther || unsent.length === 0;
-  of("lost").textContent = isOver ? unsent.map(({ kind, text }) => `${kind}: ${text}`).join("\n") : "";
+  element("state").textContent = trouble || (why === "" ? state : `${state}: ${why}`) + scarce;
+  element("state").className = trouble || why || state === "offline" ? "trouble" : "";
+  element("choice").hidden = !hasOther && state !== "refused";
+  element("theirs").hidden = element("mine").hidden = !hasOther;
+  element("unsent").hidden = !isOver || hasOther || unsent.length === 0;
+  element("lost").textContent = isOver ? unsent.map(({ kind, text }) => `${kind}: ${text}`).join("\n") : "";
   return !isOver;
 }
 
 /** Makes the choice's buttons work, and asks before text is left. `current` gives the session, if there is one. */
-export function wire(current) {
-  of("theirs").addEventListener("click", () => current().takeTheirs());
-  of("mine").addEventListener("click", () => {
+export function listen(current) {
+  element("theirs").addEventListener("click", () => current().takeTheirs());
+  element("mine").addEventListener("click", () => {
     try {
       current().putMine();
     } catch (fault) {
@@ -47,7 +47,7 @@ export function wire(current) {
       tell(current(), fault instanceof Full ? `${fault.message}: that doesn't fit` : fault.message);
     }
   });
-  of("save").addEventListener("click", () => {
+  element("save").addEventListener("click", () => {
     const link = document.createElement("a");
     link.href = URL.createObjectURL(new Blob([current().text]));
     link.download = "text.txt";
