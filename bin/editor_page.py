@@ -103,7 +103,7 @@ def tries_pastes():
     until(lambda: both[0].text == both[1].text == read(), "both show the paste")
     began = time.monotonic()
     both[0].put("", 0, 30_000)
-    in_seconds(4, began, lambda: len(read()) < 75_000, "a deletion of 30,000 characters, for more a room has no place")
+    in_seconds(4, began, lambda: len(read()) < 70_010, "a deletion of 30,000 characters, for more a room has no place")
     print(f"a paste of 100,000 characters took {took:.1f} s, a key beside it {max(beside):.2f} s, and one without {alone:.2f} s")
     line.close()
     for it in both:

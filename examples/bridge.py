@@ -86,7 +86,8 @@ class Room:
             for it in operations:
                 counts[it["s"]] += 1
         self.seen = 0
-        next_ones = [{"c": [[site, min(count + 1, OPERATIONS)]], "k": "d", "s": site, "t": [OPERATIONS, site]} for site, count in enumerate(counts)]
+        following = lambda site, count: {"c": [[site, min(count + 1, OPERATIONS)]], "k": "d", "s": site, "t": [OPERATIONS, site]}
+        next_ones = [following(site, count) for site, count in enumerate(counts)]
         outcomes = self.ask({"t": "put", "ops": next_ones})["os"]
         return outcomes.index(["no", OWN_SITE]) if ["no", OWN_SITE] in outcomes else None
 

@@ -199,7 +199,8 @@ class Session:
         lines = getattr(self.ask, "lines", 0)
         again = lambda n: self._ask({"t": "ins", "s": self.session, "n": n, "v": 0, "k": 0, "x": ""})
         reply = again(self.number)
-        same = (reply["r"], reply.get("from"), reply.get("to")) == ("ok", self.came, self.reached) and self._begins_as(self.known, self._ask)
+        same = (reply["r"], reply.get("from"), reply.get("to")) == ("ok", self.came, self.reached)
+        same = same and self._begins_as(self.known, self._ask)
         if reply.get("n") == 7:
             next_one = again(self.number + 1)
             same = self._is_mine(next_one)

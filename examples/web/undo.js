@@ -143,7 +143,7 @@ export class Undo {
     if (turned.length === 0) this.turn(isRedo, session, replace); // others have left nothing of it
   }
 
-  /** The pieces that a step turns, each with its change of the text, from the last one to the first: so each place is one of the text of now. */
+  /** The pieces that a step turns, each with its change, from the last one to the first: so each place is one of the text of now. */
   #turned(step, isRedo) {
     const turned = [];
     let at = 0;
