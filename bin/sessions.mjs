@@ -1,5 +1,6 @@
 // What bin/try_merging plays with sessions. The one argument is the program.
 import assert from "node:assert/strict";
+import { carried } from "../examples/web/changes.js";
 import { MOST } from "../examples/web/document.js";
 import { Ended } from "../examples/web/rgatext.js";
 import { dice, editorOf, Line, Room, until } from "./room.mjs";
@@ -130,6 +131,37 @@ async function goOnWhereTheLastWasAccepted() {
   room.close();
 }
 
+/** What is under way comes elsewhere than it is shown, before another's change: all are told in turn, and the caret behind it goes along. */
+async function movesWhatWasTyped(next, shown) {
+  const room = new Room();
+  await room.ask({ t: "join" });
+  await room.ask({ t: "ins", s: 1, n: 1, v: 0, k: 0, x: "ab" });
+  const line = new Line(room, Infinity);
+  const editor = editorOf(async () => line);
+  await until(() => editor.session.state === "up to date");
+  const ask = line.ask.bind(line);
+  line.ask = (request) => {
+    const answer = ask(request);
+    if (request.t === "ins") room.ask({ ...next, s: 1, n: 4, v: 4 }); // before the pull
+    return answer;
+  };
+  const told = [];
+  editor.session.addEventListener("changes", ({ detail }) => told.push(...detail));
+  room.ask({ t: "pull", s: 1, have: 0, max: MOST });
+  room.ask({ t: "del", s: 1, n: 2, v: 2, k: 1, c: 1 });
+  room.ask({ t: "pull", s: 1, have: 2, max: MOST });
+  room.ask({ t: "ins", s: 1, n: 3, v: 3, k: 1, x: "o" });
+  room.ask({ t: "pull", s: 1, have: 3, max: MOST });
+  editor.change(2, 0, "X"); // behind the neighbour that is deleted by now
+  await until(() => editor.session.text === shown && !editor.session.isAhead);
+  assert.deepEqual([editor.shown, (await room.ask({ t: "read" })).x], [shown, shown]);
+  assert.deepEqual(told[2], { at: 1, removed: 1, text: "X", to: 2 });
+  assert.equal(told.length, 4);
+  assert.equal(carried(3, told), shown.length);
+  await editor.session.close();
+  room.close();
+}
+
 /** Two editors that never typed, in a new run that the second one joins first: no two have one session. */
 async function haveSessionsOfTheirOwn() {
   let room = new Room();
@@ -180,7 +212,9 @@ const lines = await goOnOverBrokenLines();
 await goOnInAnotherRun();
 await goOnInARefilledRun();
 await goOnWhereTheLastWasAccepted();
+await movesWhatWasTyped({ t: "ins", k: 2, x: ">" }, "ao>X");
+await movesWhatWasTyped({ t: "del", k: 1, c: 1 }, "aX");
 await haveSessionsOfTheirOwn();
 await isRefused();
 await makesFewCalls();
-console.log(`bin/try_merging: ${lines} lines broken, other runs, refusals, few calls`);
+console.log(`bin/try_merging: ${lines} lines broken, other runs, a move, refusals, few calls`);

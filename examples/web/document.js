@@ -325,7 +325,8 @@ export class Document {
     const moved = this.#pieces.splice(index, end - index);
     const text = moved.map((piece) => (piece.isShown ? piece.text : "")).join("");
     const there = this.#atRooms(k);
-    if (text !== "") changes.push({ at, removed: text.length, text, to: this.#shownPlace(there) });
+    const to = this.#shownPlace(there);
+    if (text !== "" && to !== at) changes.push({ at, removed: text.length, text, to });
     this.#pieces.splice(there, 0, ...moved);
     return there;
   }

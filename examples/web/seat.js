@@ -169,10 +169,9 @@ export class Seat {
    * @param {import("./connection.js").Reply} reply
    */
   async answered(document, reply) {
-    if (reply.r === "ok" && reply.from >= this.#last.to) {
+    if (reply.r === "ok" && document.accept(reply.from, reply.to)) {
       this.#last = { n: this.#underWay.n, from: reply.from, to: reply.to };
       this.#underWay = null;
-      document.accept(reply.from, reply.to);
       return;
     }
     if (reply.n === 26) return pause(RETRY);
