@@ -31,13 +31,14 @@ export class Room {
     });
   }
 
-  /** All edits from a version on. */
-  async edits(session, have) {
+  /** All edits from a version on, or so many. */
+  async edits(session, have, most = Infinity) {
     const edits = [];
     for (;;) {
-      const { es } = await this.ask({ t: "pull", s: session, have: have + edits.length, max: MOST });
+      const max = Math.min(MOST, most - edits.length);
+      const { es } = await this.ask({ t: "pull", s: session, have: have + edits.length, max });
       edits.push(...es);
-      if (es.length < MOST) return edits;
+      if (es.length < MOST || edits.length === most) return edits;
     }
   }
 

@@ -387,6 +387,7 @@ await Promise.all([
   isOutOfStep(({ room }) => room.ask({ t: "leave", s: 1 })),
   isOutOfStep((way) => void way.refuseOnce("pull", 22)),
   isOutOfStep((way) => void way.refuseOnce("ins", 9)),
+  isOutOfStep((way) => void way.loseOnce({ r: "ok", from: 0, to: 5 }, "ins", true)),
   losesJoin("join"),
   losesJoin("leave"),
   leavesAtOnce(),

@@ -7,6 +7,7 @@ import { Ended, Full } from "./rgatext.js";
 /** So many changes before a room is full it is told. */
 const SCARCE = 13_107;
 
+/** @returns {any} */
 export const element = (id) => document.getElementById(id);
 
 element("state").insertAdjacentHTML(

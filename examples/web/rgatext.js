@@ -59,6 +59,7 @@ export class Session extends /** @type {{new (): Tells & EventTarget}} */ (Event
   #seat = new Seat();
   #other = null; // the document of another run of the server, until the user chooses
   #compared = null; // its version where the user chose to put in what is shown
+  /** @type {(value?: any) => void} */
   #wake = () => {};
   #isServed = false; // the line is open, and the session is there
   #isClosed = false;
