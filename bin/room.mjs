@@ -4,6 +4,7 @@ import { spawn } from "node:child_process";
 import { createInterface } from "node:readline";
 import { MOST } from "../examples/web/document.js";
 import { Lost, played, Session } from "../examples/web/rgatext.js";
+import { pause } from "../examples/web/seat.js";
 
 /** Numbers that look random, the same in each run. */
 export function dice(seed) {
@@ -102,7 +103,7 @@ export class Line {
 export const until = async (is, what = () => "that") => {
   for (let n = 0; !is(); n += 1) {
     if (n > 3_000) throw new Error(`it doesn't come to ${what()}`);
-    await new Promise((resolve) => setTimeout(resolve, 10));
+    await pause(10);
   }
 };
 

@@ -3,12 +3,11 @@ import assert from "node:assert/strict";
 import { Connection, LIMITS } from "../examples/web/connection.js";
 import { MOST } from "../examples/web/document.js";
 import { Lost, open, Refused, Session } from "../examples/web/rgatext.js";
+import { pause } from "../examples/web/seat.js";
 import { editorOf, Line, Room, until } from "./room.mjs";
 
-const pause = (milliseconds) => new Promise((resolve) => setTimeout(resolve, milliseconds));
-
 /**
- * One editor's way to a room. `loses` says of a request whether it is lost, or its answer, and the line with it; or it gives another answer.
+ * One editor's way to a room. `loses` says of a request whether it is lost or its answer, and the line with it; or it gives another answer.
  */
 class Way {
   constructor(room, delay = 0) {
@@ -71,8 +70,9 @@ class Way {
 
   async comesTo(state, shown = this.editor.shown) {
     const { editor } = this;
-    const isAsWanted = () => editor.session.state === state && editor.shown === shown && !(state === "up to date" && editor.session.isAhead);
-    await until(isAsWanted, () => `${state}, "${shown}": ${editor.session.state}, "${editor.shown}"`);
+    const { session } = editor;
+    const isAsWanted = () => session.state === state && editor.shown === shown && !(state === "up to date" && session.isAhead);
+    await until(isAsWanted, () => `${state}, "${shown}": ${session.state}, "${editor.shown}"`);
   }
 }
 
@@ -310,7 +310,8 @@ async function typesBesideAPaste() {
   const held = Date.now() - pressed;
   await until(() => !paster.editor.session.isAhead && typist.editor.shown.length === 6_001);
   const seconds = (Date.now() - began) / 1_000;
-  assert.ok(held < 500 && seconds < 9 && events <= 5.5 * seconds + 2, `the key came after ${held} ms, all after ${seconds} s, ${events} events`);
+  const took = `the key came after ${held} ms, all after ${seconds} s, ${events} events`;
+  assert.ok(held < 500 && seconds < 9 && events <= 5.5 * seconds + 2, took);
   await end(paster, typist);
 }
 

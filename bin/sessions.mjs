@@ -3,6 +3,7 @@ import assert from "node:assert/strict";
 import { carried } from "../examples/web/changes.js";
 import { MOST } from "../examples/web/document.js";
 import { Ended } from "../examples/web/rgatext.js";
+import { pause } from "../examples/web/seat.js";
 import { dice, editorOf, Line, Room, until } from "./room.mjs";
 
 /** Two sessions over lines that break again and again go on with their numbers, and lose and double nothing. */
@@ -16,7 +17,7 @@ async function goOnOverBrokenLines() {
   const letters = ["a", "b"];
   for (let n = 0; n < 40; n += 1) {
     for (const [who, editor] of editors.entries()) editor.change(roll(editor.shown.length + 1), 0, letters[who]);
-    await new Promise((resolve) => setTimeout(resolve, roll(60)));
+    await pause(roll(60));
   }
   await until(() => editors.every(({ session, shown }) => !session.isAhead && shown === editors[0].shown && shown.length === 80));
   assert.equal(editors[0].shown.replaceAll("b", "").length, 40);
@@ -131,7 +132,7 @@ async function goOnWhereTheLastWasAccepted() {
   room.close();
 }
 
-/** What is under way comes elsewhere than it is shown, before another's change: all are told in turn, and the caret behind it goes along. */
+/** What is under way comes elsewhere than it is shown, before another's change: all are told in turn, and the caret behind it goes too. */
 async function movesWhatWasTyped(next, shown) {
   const room = new Room();
   await room.ask({ t: "join" });
@@ -198,12 +199,13 @@ async function makesFewCalls() {
   const began = Date.now();
   while (Date.now() - began < 3_000) {
     typist.change(typist.shown.length, 0, "x");
-    await new Promise((resolve) => setTimeout(resolve, 40));
+    await pause(40);
   }
   const seconds = (Date.now() - began) / 1_000;
   const [typed, watched] = lines.map(({ calls }) => calls);
   await until(() => watcher.shown === typist.shown && !typist.session.isAhead);
-  assert.ok(typed <= 10 * seconds + 2 && watched <= seconds + 1 + Math.ceil(typed / 2 / MOST), `${typed} and ${watched} calls in ${seconds} s`);
+  const isFew = typed <= 10 * seconds + 2 && watched <= seconds + 1 + Math.ceil(typed / 2 / MOST);
+  assert.ok(isFew, `${typed} and ${watched} calls in ${seconds} s`);
   for (const { session } of [typist, watcher]) await session.close();
   room.close();
 }

@@ -153,7 +153,7 @@ class Window:
 
     def put(self, text, start, end):
         """Puts a text in as a paste does."""
-        self.run(f"{AREA}.setRangeText(arguments[0], arguments[1], arguments[2], 'end'); {AREA}.dispatchEvent(new Event('input'))", text, start, end)
+        self.run(f"{AREA}.setRangeText(...arguments, 'end'); {AREA}.dispatchEvent(new Event('input'))", text, start, end)
 
     def compose(self, *texts):
         for text in texts:

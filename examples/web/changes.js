@@ -39,8 +39,8 @@ export function carried(place, changes) {
 
 /** Adds a change, or lengthens the last one where it goes on there. */
 export function add(changes, change) {
-  const last = changes.at(-1);
-  if (last !== undefined && last.removed === 0 && change.removed === 0 && change.at === last.at + last.text.length) last.text += change.text;
-  else if (last !== undefined && last.text === "" && change.text === "" && change.at === last.at) last.removed += change.removed;
+  const last = changes.at(-1) ?? { at: -1, removed: 0, text: "" };
+  if (last.removed === 0 && change.removed === 0 && change.at === last.at + last.text.length) last.text += change.text;
+  else if (last.text === "" && change.text === "" && change.at === last.at) last.removed += change.removed;
   else changes.push(change);
 }

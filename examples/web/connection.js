@@ -2,7 +2,8 @@
  * A connection to a room of an rgatext server, as docs/PROTOCOL.md has it: requests go out, and their replies come in the same order.
  *
  * @typedef {import("./document.js").Edit} Edit
- * @typedef {{r: string, n?: number, s?: number, v?: number, x?: string, from?: number, to?: number, es?: Edit[], ops?: {x?: string}[]}} Reply
+ * @typedef {{x?: string}} Operation
+ * @typedef {{r: string, n?: number, s?: number, v?: number, x?: string, from?: number, to?: number, es?: Edit[], ops?: Operation[]}} Reply
  * An open line to a room. `ask` sends a request and gives its reply, or throws `Lost`.
  * @typedef {{isOpen: boolean, ask(request: object): Promise<Reply>, close(): void}} Line
  */

@@ -1,6 +1,6 @@
 /**
- * What a page tells of its session, and what it asks: the examples' pages have it in common. They have an element `state`, a line; behind it
- * comes what another text of the room asks, and what the room doesn't have at the end.
+ * What a page tells of its session, and what it asks: the examples' pages have it in common. They have an element `state`, a line; behind
+ * it comes what another text of the room asks, and what the room doesn't have at the end.
  */
 import { Ended, Full } from "./rgatext.js";
 

@@ -386,6 +386,7 @@ export class Session extends /** @type {{new (): Tells & EventTarget}} */ (Event
  */
 export function open(address, room, Socket = globalThis.WebSocket) {
   if (!/^wss?:\/\/[^/]/.test(address)) throw new TypeError("an address is ws://HOST:PORT");
-  if (typeof Socket !== "function") throw new TypeError("there is no WebSocket: start Node 20 with --experimental-websocket, or name a class");
+  const isThere = typeof Socket === "function";
+  if (!isThere) throw new TypeError("there is no WebSocket: start Node 20 with --experimental-websocket, or name a class");
   return new Session(() => Connection.open(address, room, Socket));
 }
