@@ -4,111 +4,8 @@ import { Connection, LIMITS } from "../examples/web/connection.js";
 import { MOST } from "../examples/web/document.js";
 import { Lost, open, Refused, Session } from "../examples/web/rgatext.js";
 import { pause } from "../examples/web/seat.js";
-import { editorOf, Line, Room, until } from "./room.mjs";
-
-/**
- * One editor's way to a room. `loses` says of a request whether it is lost or its answer, and the line with it; or it gives another answer.
- */
-class Way {
-  constructor(room, delay = 0) {
-    this.room = room;
-    this.delay = delay;
-    this.isUp = true;
-    this.lines = [];
-    this.loses = () => "";
-    this.editor = editorOf(() => this.connect());
-  }
-
-  async connect() {
-    if (!this.isUp) throw new Lost();
-    const line = new Line(this.room, Infinity);
-    const ask = line.ask.bind(line);
-    line.ask = async (request) => {
-      const loses = this.loses(request);
-      if (!line.isOpen || loses === "request") line.close();
-      if (!line.isOpen) throw new Lost();
-      if (loses.r) return loses;
-      if (loses === "answer") line.close();
-      const reply = await ask(request);
-      if (this.delay > 0) await pause(this.delay);
-      return reply;
-    };
-    this.lines.push(line);
-    return line;
-  }
-
-  /** Cuts the line, and gives others, to the room or to the one that is there in its place. */
-  cut(room = this.room) {
-    if (room !== this.room) this.room.close();
-    this.room = room;
-    this.isUp = true;
-    for (const line of this.lines) line.close();
-  }
-
-  /** Cuts the line, and gives no other. */
-  cutOff() {
-    this.cut();
-    this.isUp = false;
-  }
-
-  /** Loses the first request of a kind, or its answer, with the line; whether there is another one then. */
-  async loseOnce(what, kind, isUp = false) {
-    let isLost = false;
-    this.loses = ({ t }) => {
-      if (isLost || t !== kind) return "";
-      isLost = true;
-      this.isUp = isUp;
-      return what;
-    };
-    await until(() => isLost);
-  }
-
-  /** Refuses the first request of a kind. */
-  refuseOnce(kind, n) {
-    return this.loseOnce({ r: "no", n }, kind, true);
-  }
-
-  async comesTo(state, shown = this.editor.shown) {
-    const { editor } = this;
-    const { session } = editor;
-    const isAsWanted = () => session.state === state && editor.shown === shown && !(state === "up to date" && session.isAhead);
-    await until(isAsWanted, () => `${state}, "${shown}": ${session.state}, "${editor.shown}"`);
-  }
-}
-
-const textOf = async (room) => (await room.ask({ t: "read" })).x;
-
-/** A room with a text of a session, and an editor that has it as its own or others' text. */
-async function begin(text, isOwn = true) {
-  const room = new Room(1);
-  if (!isOwn && text !== "") await typedBy(room, 0, text);
-  const way = new Way(room);
-  await way.comesTo("up to date", isOwn ? "" : text);
-  if (isOwn) way.editor.change(0, 0, text);
-  await way.comesTo("up to date", text);
-  return way;
-}
-
-/** Another session puts a text in. */
-async function typedBy(room, k, x) {
-  const { s, v } = await room.ask({ t: "join", u: 16 });
-  assert.equal((await room.ask({ t: "ins", s, n: 1, v, k, x })).r, "ok");
-  await room.ask({ t: "leave", s });
-}
-
-/** Another run with the log of a room, but for the last operations. */
-async function keptRun(room, without = 0) {
-  const kept = new Room(2);
-  const told = (await room.operations()).flat();
-  await kept.refill([told.slice(0, told.length - without)]);
-  room.close();
-  return kept;
-}
-
-async function end(...ways) {
-  for (const { editor } of ways) await editor.session.close();
-  for (const { room } of ways) room.close();
-}
+import { Line, Room, until } from "./room.mjs";
+import { begin, deletedBy, end, keptRun, textOf, typedBy, Way } from "./way.mjs";
 
 /** A line that is cut while the user is to choose, and then the right run of three. */
 async function isCutWhileChoosing() {
@@ -333,6 +230,65 @@ async function putsInOnce() {
   await end(one, two);
 }
 
+/** A submission came, and its repeat is refused for want of memory, but not the pull right behind it. */
+async function isRefusedAtTheRepeat() {
+  const way = await begin("hello ");
+  let asked = 0;
+  way.loses = ({ t, x }) => {
+    if (t !== "ins" || x !== "world") return "";
+    asked += 1;
+    return ["", "answer", { r: "no", n: 26 }][asked] ?? "";
+  };
+  way.editor.change(6, 0, "world");
+  await way.comesTo("up to date", "hello world");
+  assert.equal(await textOf(way.room), "hello world");
+  await end(way);
+}
+
+/** The first submission of a session comes late: when the new line has looked into the log, and others have typed. */
+async function comesLate(kind) {
+  const way = await begin("");
+  let late = null;
+  way.loses = (request) => {
+    if (request.t === "ins" && request.x === "mine" && late === null) {
+      late = request;
+      way.isUp = false;
+      return "request";
+    }
+    if (request.t === kind && late !== null && way.isUp) {
+      way.room.ask(late);
+      way.loses = () => "";
+    }
+    return "";
+  };
+  way.editor.change(0, 0, "mine");
+  await until(() => late !== null);
+  await typedBy(way.room, 0, "theirs");
+  way.isUp = true;
+  await way.comesTo("up to date", "minetheirs");
+  assert.equal(await textOf(way.room), "minetheirs");
+  await end(way);
+}
+
+/** An `ok` was seen, and the pull behind it lost; others deleted most of what came, and the run is a kept one. */
+async function isAcceptedAndDeleted() {
+  const way = await begin("text ");
+  way.editor.change(5, 0, "abcd");
+  way.loses = async ({ t }) => {
+    if (t !== "pull" || !way.editor.session.document.isWaiting) return "";
+    await until(() => way.editor.session.document.accepted !== null);
+    way.isUp = false;
+    return "request";
+  };
+  await until(() => !way.isUp);
+  way.loses = () => "";
+  await deletedBy(way.room, 5, 3);
+  way.cut(await keptRun(way.room));
+  await way.comesTo("up to date", "text d");
+  assert.equal(await textOf(way.room), "text d");
+  await end(way);
+}
+
 /** A socket that is open at once, and answers each message by a text. */
 class Socket extends EventTarget {
   static answer = "hello";
@@ -389,6 +345,10 @@ await Promise.all([
   isOutOfStep((way) => void way.refuseOnce("pull", 22)),
   isOutOfStep((way) => void way.refuseOnce("ins", 9)),
   isOutOfStep((way) => void way.loseOnce({ r: "ok", from: 0, to: 5 }, "ins", true)),
+  isRefusedAtTheRepeat(),
+  comesLate("leave"),
+  comesLate("pull"),
+  isAcceptedAndDeleted(),
   losesJoin("join"),
   losesJoin("leave"),
   leavesAtOnce(),

@@ -165,7 +165,8 @@ class Session:
         self.session, self.version, self.text = reply["s"], reply["v"], list(reply["x"])
         self.lines = getattr(self.ask, "lines", 0)
         self.number, self.came, self.reached = 0, 0, 0
-        self.known = 0, []  # a version that was pulled, and what the log had last there
+        self.known = 0, []  # a version of this session, and what the log had last there
+        self._remember(self.version)
 
     def join_anew(self):
         """Joins another run of the server: whether its log goes on from what was pulled here, so that what is unsent may be submitted by
@@ -176,8 +177,6 @@ class Session:
         self.under_way = None
         self.join()
         is_known = not under_way and 0 < known[0] <= self.version and self._begins_as(known, self._answer)
-        if is_known:
-            self.known = known
         if is_known or self.text == self.before:
             self.undecided = None
         return self.undecided is None
@@ -187,6 +186,11 @@ class Session:
         """What the log has last up to a version, which isn't 0; nothing where it hasn't come to that."""
         count = min(MOST, version)
         return ask({"t": "ops", "after": version - count, "max": count}).get("ops")
+
+    def _remember(self, version):
+        """What the log has last up to a version, by which it is known again."""
+        if version > 0:
+            self.known = version, self._last_operations(version, self._answer)
 
     def _begins_as(self, known, ask):
         """Whether the log begins as was known."""
@@ -255,7 +259,7 @@ class Session:
             if len(edits) < MOST:
                 break
         if played:
-            self.known = self.version, self._last_operations(self.version, self._answer)
+            self._remember(self.version)
         return played
 
     def _submit(self, kind, place, **what):
@@ -266,6 +270,7 @@ class Session:
         if reply["from"] < self.reached:
             self._refuse(7)
         self.number, self.came, self.reached = self.number + 1, reply["from"], reply["to"]
+        self._remember(self.reached)
         self.under_way = self.undecided = None
 
     def insert(self, place, text):

@@ -102,6 +102,11 @@ export class Document {
     return this.#sent !== null;
   }
 
+  /** From and to which version what is under way leads, once it is accepted. */
+  get accepted() {
+    return this.#sent === null || this.#sent.from === null ? null : [this.#sent.from, this.#sent.to];
+  }
+
   /**
    * What the user does: removes so many units at a place of the shown text, and puts a text in there. Neither end is inside of a pair.
    * A unit of a pair that stands alone in the text, which no room takes, becomes U+FFFD. Gives the change that was made.

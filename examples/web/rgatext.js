@@ -225,7 +225,7 @@ export class Session extends /** @type {{new (): Tells & EventTarget}} */ (Event
     if (await this.#seat.isLeft()) return;
     try {
       this.#seat.line = await this.#connect();
-      if (await this.#seat.isOwn(await this.#seat.findOut(this.document), this.#current)) await this.#seat.giveUp();
+      if (await this.#seat.isOwn(await this.#seat.findOut(this.#current), this.#current)) await this.#seat.giveUp();
     } catch {
       // the session stays
     }
@@ -256,11 +256,12 @@ export class Session extends /** @type {{new (): Tells & EventTarget}} */ (Event
    */
   async #joinAnew(isOwn, isSameRun = isOwn) {
     const goesOn = (isSameRun && this.#other === null) || (await this.#seat.log.goesOn(this.document));
-    const came = goesOn && this.document.isWaiting && (await this.#seat.log.has(this.document));
-    const edits = isOwn && this.#other === null && !came ? await this.#seat.editsSince(this.document) : [];
+    const edits = isOwn && this.#other === null ? await this.#seat.editsSince(this.document) : [];
     if (isOwn) await this.#seat.giveUp();
     const room = await this.#seat.join();
-    const hasIt = this.#hasUnderWay(room.roomText, came);
+    const wasAccepted = goesOn && this.document.accepted !== null && (await this.#seat.log.is(this.document, ...this.document.accepted));
+    const came = goesOn && !wasAccepted && this.document.isWaiting && (await this.#seat.log.has(this.document));
+    const hasIt = wasAccepted || this.#hasUnderWay(room.roomText, came);
     if (hasIt === null || !(hasIt || goesOn)) return this.#setBeside(room);
     if (hasIt) this.document.came();
     else this.document.takeBack();
@@ -362,10 +363,11 @@ export class Session extends /** @type {{new (): Tells & EventTarget}} */ (Event
     const edits = [];
     for (;;) {
       const request = this.#seat.submission(this.document);
-      const asked = request === null ? [] : [this.#seat.line.ask(request)];
-      const replies = await Promise.all([...asked, this.#seat.pull(this.document.version + edits.length)]);
-      if (request !== null) await this.#seat.answered(this.document, replies[0]);
-      const more = await this.#seat.editsOf(replies.at(-1));
+      const asked = request === null ? null : this.#seat.line.ask(request);
+      const pulled = this.#seat.pull(this.document.version + edits.length);
+      pulled.catch(() => {}); // an answer counts also where the pull behind it is lost
+      if (asked !== null) await this.#seat.answered(this.document, await asked);
+      const more = this.#seat.isUnanswered ? null : await this.#seat.editsOf(await pulled); // which edits are its own isn't known
       if (more !== null) edits.push(...more);
       const isMore = more === null || more.length === MOST;
       const hasCome = this.document.isWaiting && this.#seat.hasCome(this.document.version + edits.length);

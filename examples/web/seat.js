@@ -38,6 +38,10 @@ export class Seat {
     return this.#number !== null;
   }
 
+  get isUnanswered() {
+    return this.#underWay !== null;
+  }
+
   /** Asks, again where memory was refused. Gives the reply, a refusal too. */
   async ask(request) {
     for (;;) {
