@@ -5,7 +5,7 @@ import { MOST } from "../examples/web/document.js";
 import { Lost, open, Refused, Session } from "../examples/web/rgatext.js";
 import { pause } from "../examples/web/seat.js";
 import { Line, Room, until } from "./room.mjs";
-import { begin, deletedBy, end, keptRun, textOf, typedBy, Way } from "./way.mjs";
+import { begin, deletedBy, end, endsAs, keptRun, textOf, typedBy, Way } from "./way.mjs";
 
 /** A line that is cut while the user is to choose, and then the right run of three. */
 async function isCutWhileChoosing() {
@@ -56,9 +56,7 @@ async function isRefilledInParts() {
   await pause(1_500);
   assert.deepEqual([way.editor.session.state, way.editor.shown], ["another text", "hello?"]);
   await way.room.refill([told]);
-  await way.comesTo("up to date", "hello?");
-  assert.equal(await textOf(way.room), "hello?");
-  await end(way);
+  await endsAs(way, "hello?");
 }
 
 /** What is typed while the line is gone, or is sent and doesn't come, follows into a run that is kept, where another types. */
@@ -70,9 +68,7 @@ async function isKeptWithoutWhatWasTyped(isSent) {
   way.room = await keptRun(way.room);
   await typedBy(way.room, 0, "B ");
   way.isUp = true;
-  await way.comesTo("up to date", "B kept here!");
-  assert.equal(await textOf(way.room), "B kept here!");
-  await end(way);
+  await endsAs(way, "B kept here!");
 }
 
 /** What was sent and doesn't come isn't taken for what another types, or deletes, elsewhere. */
@@ -127,9 +123,7 @@ async function keepsPlaces(isKept) {
   await typedBy(way.room, 0, "<");
   await typedBy(way.room, 24, ">");
   way.isUp = true;
-  await way.comesTo("up to date", "<one two MINE four five>");
-  assert.equal(await textOf(way.room), "<one two MINE four five>");
-  await end(way);
+  await endsAs(way, "<one two MINE four five>");
 }
 
 /** In the same run what came is played, where the texts alone would tell another place. */
@@ -240,9 +234,7 @@ async function isRefusedAtTheRepeat() {
     return ["", "answer", { r: "no", n: 26 }][asked] ?? "";
   };
   way.editor.change(6, 0, "world");
-  await way.comesTo("up to date", "hello world");
-  assert.equal(await textOf(way.room), "hello world");
-  await end(way);
+  await endsAs(way, "hello world");
 }
 
 /** The first submission of a session comes late: when the new line has looked into the log, and others have typed. */
@@ -265,9 +257,7 @@ async function comesLate(kind) {
   await until(() => late !== null);
   await typedBy(way.room, 0, "theirs");
   way.isUp = true;
-  await way.comesTo("up to date", "minetheirs");
-  assert.equal(await textOf(way.room), "minetheirs");
-  await end(way);
+  await endsAs(way, "minetheirs");
 }
 
 /** An `ok` was seen, and the pull behind it lost; others deleted most of what came, and the run is a kept one. */
@@ -284,9 +274,7 @@ async function isAcceptedAndDeleted() {
   way.loses = () => "";
   await deletedBy(way.room, 5, 3);
   way.cut(await keptRun(way.room));
-  await way.comesTo("up to date", "text d");
-  assert.equal(await textOf(way.room), "text d");
-  await end(way);
+  await endsAs(way, "text d");
 }
 
 /** A socket that is open at once, and answers each message by a text. */

@@ -5,7 +5,8 @@ import { pause } from "../examples/web/seat.js";
 import { editorOf, Line, Room, until } from "./room.mjs";
 
 /**
- * One editor's way to a room. `loses` says of a request whether it is lost or its answer, and the line with it; or it gives another answer, at once or later.
+ * One editor's way to a room. `loses` says of a request whether it is lost or its answer, and the line with it; or it gives another
+ * answer, at once or later.
  */
 export class Way {
   constructor(room, delay = 0) {
@@ -88,19 +89,18 @@ export async function begin(text, isOwn = true) {
   return way;
 }
 
-/** Another session puts a text in. */
-export async function typedBy(room, k, x) {
+/** Another session submits something, and leaves. */
+async function submittedBy(room, submission) {
   const { s, v } = await room.ask({ t: "join", u: 16 });
-  assert.equal((await room.ask({ t: "ins", s, n: 1, v, k, x })).r, "ok");
+  assert.equal((await room.ask({ s, n: 1, v, ...submission })).r, "ok");
   await room.ask({ t: "leave", s });
 }
 
+/** Another session puts a text in. */
+export const typedBy = (room, k, x) => submittedBy(room, { t: "ins", k, x });
+
 /** Another session deletes so many units. */
-export async function deletedBy(room, k, c) {
-  const { s, v } = await room.ask({ t: "join", u: 16 });
-  assert.equal((await room.ask({ t: "del", s, n: 1, v, k, c })).r, "ok");
-  await room.ask({ t: "leave", s });
-}
+export const deletedBy = (room, k, c) => submittedBy(room, { t: "del", k, c });
 
 /** Another run with the log of a room, but for the last operations. */
 export async function keptRun(room, without = 0) {
@@ -114,4 +114,11 @@ export async function keptRun(room, without = 0) {
 export async function end(...ways) {
   for (const { editor } of ways) await editor.session.close();
   for (const { room } of ways) room.close();
+}
+
+/** The editor shows a text that the room has, and its session ends. */
+export async function endsAs(way, text) {
+  await way.comesTo("up to date", text);
+  assert.equal(await textOf(way.room), text);
+  await end(way);
 }
