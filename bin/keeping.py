@@ -16,6 +16,7 @@ import time
 
 from conversations import TOP
 from plain_world import object_of, operation_of, packed
+from refusing import library
 from serving import CLOSE, WebSocket, free_port
 
 PROGRAM, BUILT = str(TOP / "bin" / "rgatext"), str(TOP / "crates" / "rgatext" / "out" / "rgatext")
@@ -26,9 +27,6 @@ LEAVE, NO_SESSION = '{"t":"leave","s":99}', '{"n":5,"r":"no"}'
 subprocess.run([PROGRAM, "--help"], check=True, stdout=subprocess.DEVNULL)
 room = tempfile.TemporaryDirectory()
 top = pathlib.Path(room.name)
-SHIM = top / "refusing.so"
-compiler = [os.environ.get("CC", "cc"), "-O2", "-shared", "-fPIC", "-o", SHIM, TOP / "bin" / "refusing.c", "-ldl"]
-subprocess.run(compiler, check=True)
 failed = False
 
 
@@ -93,7 +91,7 @@ class Server:
 
 def environment(failing):
     """Where the calls that are named so fail (bin/refusing.c)."""
-    return {**os.environ, "LD_PRELOAD": str(SHIM), **failing} if failing else None
+    return {**os.environ, "LD_PRELOAD": library(), **failing} if failing else None
 
 
 def warned(told):
