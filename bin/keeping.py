@@ -9,41 +9,24 @@ import re
 import resource
 import signal
 import subprocess
-import sys
 import tempfile
 import threading
 import time
 
+import expecting
 from conversations import TOP
+from expecting import JOIN, PROGRAM, expect, opened
 from plain_world import object_of, operation_of, packed
 from refusing import library
-from serving import CLOSE, WebSocket, free_port
+from serving import free_port
 
-PROGRAM, BUILT = str(TOP / "bin" / "rgatext"), str(TOP / "crates" / "rgatext" / "out" / "rgatext")
+BUILT = str(TOP / "crates" / "rgatext" / "out" / "rgatext")
 EVERY = 1
 LAST = "the last of {} connections is accepted: nobody listens any more"
-JOIN, RENEW = '{"t":"join"}', TOP / "examples" / "renew.py"
+RENEW = TOP / "examples" / "renew.py"
 LEAVE, NO_SESSION = '{"t":"leave","s":99}', '{"n":5,"r":"no"}'
-subprocess.run([PROGRAM, "--help"], check=True, stdout=subprocess.DEVNULL)
 room = tempfile.TemporaryDirectory()
 top = pathlib.Path(room.name)
-failed = False
-
-
-def expect(title, got, wanted):
-    global failed
-    if got != wanted:
-        failed = True
-        print(f"{title}: {got!r:.2000}, and not {wanted!r:.2000}")
-
-
-class Peer(WebSocket):
-    """A client that closes as it should."""
-
-    def close(self):
-        self.send(b"\x03\xe8", CLOSE)
-        self.receive()
-        self.line.close()
 
 
 class Server:
@@ -67,17 +50,10 @@ class Server:
         self.site = told and int(told[1])
 
     def peer(self, room="notes"):
-        peer = Peer(self.port)
-        peer.shake()
-        expect("open", peer.ask(json.dumps({"t": "open", "room": room})), '{"r":"opened"}')
-        return peer
+        return opened(self.port, room)
 
     def text(self, room="notes"):
-        """What a room reads."""
-        peer = self.peer(room)
-        answer = json.loads(peer.ask('{"t":"read"}'))
-        peer.close()
-        return answer["x"]
+        return expecting.text(self.port, room)
 
     def kill(self):
         self.run.kill()
@@ -147,7 +123,7 @@ class Editor(threading.Thread):
             pass
 
     def type(self, peer):
-        joined = json.loads(peer.ask('{"t":"join"}'))
+        joined = json.loads(peer.ask(JOIN))
         s, n, version = joined["s"], 1, joined["v"]
         while True:
             asked = {"t": "ins", "s": s, "n": n, "v": version, "k": 0, "x": "typed "[: self.random.randint(1, 6)]}
@@ -217,6 +193,5 @@ def refused(title, folder, *words, told, rooms=("notes",), named=None, **failing
 
 def end(name):
     """Says whether all was as told, and ends."""
-    print(f"bin/{name}: " + ("not all is as told" if failed else "all is as told"))
     room.cleanup()
-    sys.exit(failed)
+    expecting.end(name)

@@ -1,4 +1,4 @@
-"""What the scripts that start a server share."""
+"""How the scripts that start a server speak with it, and what the system tells of it."""
 
 import base64
 import os

@@ -1,0 +1,61 @@
+"""How the scripts that try a server judge it: what they expect, clients that look whether they are answered, and the verdict."""
+import json
+import subprocess
+import sys
+
+from conversations import TOP
+from serving import CLOSE, WebSocket
+
+PROGRAM = str(TOP / "bin" / "rgatext")
+subprocess.run([PROGRAM, "--help"], check=True, stdout=subprocess.DEVNULL)  # (it is built first, where it isn't)
+JOIN, READ = '{"t":"join"}', '{"t":"read"}'
+failed = False
+
+
+def expect(title, got, wanted):
+    global failed
+    if got != wanted:
+        failed = True
+        print(f"{title}: {got!r:.2000}, and not {wanted!r:.2000}")
+
+
+class Peer(WebSocket):
+    """A client that looks whether its handshake and its close are answered."""
+
+    def __init__(self, port, shake=True):
+        super().__init__(port)
+        if shake:
+            self.shake()
+
+    def shake(self, pieces=1):
+        expect("handshake", super().shake(pieces), b"HTTP/1.1 101 Switching Protocols")
+
+    def open(self, room="notes"):
+        expect("open", self.ask(json.dumps({"t": "open", "room": room})), '{"r":"opened"}')
+
+    def close(self):
+        self.send(b"\x03\xe8", CLOSE)
+        frame = self.receive()
+        expect("close", frame and frame[0], CLOSE)
+        self.line.close()
+
+
+def opened(port, room="notes"):
+    """A client of a room of the server at this port."""
+    peer = Peer(port)
+    peer.open(room)
+    return peer
+
+
+def text(port, room="notes"):
+    """What a room of the server at this port reads."""
+    peer = opened(port, room)
+    answer = json.loads(peer.ask(READ))
+    peer.close()
+    return answer["x"]
+
+
+def end(name):
+    """Says whether all was as told, and ends."""
+    print(f"bin/{name}: " + ("not all is as told" if failed else "all is as told"))
+    sys.exit(failed)
