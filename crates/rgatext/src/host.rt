@@ -15,9 +15,9 @@ use std::fs::{File, Files};
 use std::io::Print;
 use std::net::{Net, TcpListener, TcpStream};
 use std::sync::{Mutex, Wait};
-use std::thread;
 use std::thread::Threads;
 use std::time::{Clock, Duration};
+use std::{fmt, thread};
 use ws_server::{Gate, Hall, HallPass, names_fit, serve_socket};
 
 // How many calls a connection may make in each room.
@@ -85,7 +85,7 @@ fn accept<R: Log>(rt: &R, listener: &TcpListener) -> Result<TcpStream, Stop>
             Ok(stream)
         }
         Err(why) => {
-            warn!(rt; "no further connection is accepted: {why}");
+            warn_closed(rt, &why);
             Err(Stop::Socket)
         }
     }
@@ -95,8 +95,13 @@ fn accept<R: Log>(rt: &R, listener: &TcpListener) -> Result<TcpStream, Stop>
 fn closed<R: Log>(rt: &R, stop: Stop) -> Stop
     ensures { result ≡ stop }
 {
-    warn!(rt; "no further connection is accepted: {stop}");
+    warn_closed(rt, &stop);
     stop
+}
+
+// Warns that nobody listens any more, and why.
+fn warn_closed<R: Log, W: fmt::Display>(rt: &R, why: &W) {
+    warn!(rt; "no further connection is accepted: {why}");
 }
 
 // A listener at the port, once it was told of.
