@@ -31,7 +31,7 @@ class Peer(WebSocket):
         expect("handshake", super().shake(pieces), b"HTTP/1.1 101 Switching Protocols")
 
     def open(self, room="notes"):
-        expect("open", self.ask(json.dumps({"t": "open", "room": room})), '{"r":"opened"}')
+        expect("open", self.ask('{"t":"open","room":"%s"}' % room), '{"r":"opened"}')
 
     def close(self):
         self.send(b"\x03\xe8", CLOSE)
