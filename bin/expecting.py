@@ -20,7 +20,7 @@ def expect(title, got, wanted):
 
 
 class Peer(WebSocket):
-    """A client that looks whether its handshake and its close are answered."""
+    """A client that looks whether its handshake and its close are answered, and whether the line ends behind the close."""
 
     def __init__(self, port, shake=True):
         super().__init__(port)
@@ -33,10 +33,11 @@ class Peer(WebSocket):
     def open(self, room="notes"):
         expect("open", self.ask('{"t":"open","room":"%s"}' % room), '{"r":"opened"}')
 
-    def close(self):
-        self.send(b"\x03\xe8", CLOSE)
+    def close(self, data=b"\x03\xe8"):
+        self.send(data, CLOSE)
         frame = self.receive()
         expect("close", frame and frame[0], CLOSE)
+        expect("the line's end behind a close", self.receive(), None)
         self.line.close()
 
 

@@ -1,8 +1,10 @@
 """How the scripts that start a server speak with it, and what the system tells of it."""
 
 import base64
+import hashlib
 import os
 import pathlib
+import re
 import socket
 import struct
 import time
@@ -24,6 +26,16 @@ def handshake(path="/"):
         f"GET {path} HTTP/1.1\r\nHost: 127.0.0.1\r\nUpgrade: websocket\r\nConnection: Upgrade\r\n"
         f"Sec-WebSocket-Key: {key}\r\nSec-WebSocket-Version: 13\r\n\r\n"
     ).encode()
+
+
+def is_taken(asked, response):
+    """Whether the response takes the handshake that was asked for (RFC 6455, section 4.1): its fields tell so, and the key was answered."""
+    (key,) = re.findall(rb"Sec-WebSocket-Key: (\S+)", asked)
+    wanted = base64.b64encode(hashlib.sha1(key + b"258EAFA5-E914-47DA-95CA-C5AB0DC85B11").digest())
+    fields = (line.partition(b":") for line in response.split(b"\r\n")[1:])
+    told = {name.lower(): value.strip() for name, _, value in fields}
+    kinds = told.get(b"upgrade", b"").lower(), told.get(b"connection", b"").lower()
+    return kinds == (b"websocket", b"upgrade") and told.get(b"sec-websocket-accept") == wanted
 
 
 def framed(data, kind=TEXT, is_last=True):
@@ -50,7 +62,8 @@ class WebSocket:
         self.held = b""
 
     def shake(self, pieces=1):
-        """Asks for a WebSocket, in so many pieces that are 50 ms apart: the first line of the answer."""
+        """Asks for a WebSocket, in so many pieces that are 50 ms apart: the first line of the response, or all of it where it doesn't
+        take the handshake."""
         asked = handshake()
         for at in range(pieces):
             time.sleep(0.05 if at else 0)
@@ -58,7 +71,7 @@ class WebSocket:
         while b"\r\n\r\n" not in self.held:
             self.read()
         head, self.held = self.held.split(b"\r\n\r\n", 1)
-        return head.split(b"\r\n")[0]
+        return head.split(b"\r\n")[0] if is_taken(asked, head) else head
 
     def read(self):
         block = self.line.recv(65536)
@@ -76,14 +89,14 @@ class WebSocket:
         self.line.sendall(framed(data, kind, is_last))
 
     def receive(self):
-        """The kind and the bytes of the next frame; none at the end of the line."""
+        """The kind and the bytes of the next frame, which is whole and has no reserved bit; none at the end of the line."""
         try:
             first, size = self.take(2)
             if size == 126:
                 (size,) = struct.unpack("!H", self.take(2))
             elif size == 127:
                 (size,) = struct.unpack("!Q", self.take(8))
-            return first & 15, self.take(size).decode(errors="surrogateescape")
+            return first ^ 128, self.take(size).decode(errors="surrogateescape")
         except (EOFError, ConnectionError):
             return None
 

@@ -1,17 +1,15 @@
-//! Two clients at once, of which one is held at its gate.
+//! Two connections at once, of which one is held at its gate.
 ghost use Rattle.std.specs.Thread.{IsSync};
 ghost use Rattle.ws_server.specs.Halls.{IsHallPassOf};
 
-use crate::clients::{Client, JOIN, Line, OPEN, OPENED, asks, client_at, closes, is_told, serves};
 use crate::halls::hall_of;
+use crate::streams::{CLOSE, HEAD, JOIN, OPEN, Record, TYPE_A, reading_after, reads, serve_script};
 use std::alloc::Global;
-use std::net::{Net, TcpListener, TcpStream};
 use std::sync::Wait;
 use std::sync::atomic::{AtomicU64, Ordering};
 use std::test::Fail;
 use std::thread::{Threads, join, sleep};
 use std::time::{Clock, Duration};
-use tungstenite::Message;
 use ws_server::{Gate, Hall, HallPass};
 
 // Holds its connection's first call until the other's first was answered, for at most 1,000,000 turns.
@@ -61,33 +59,68 @@ impl Gate for Telling<'_> {
     }
 }
 
+// The one that is held types in session 1, which the other opens: whether it ends well.
 fn is_held<R: Wait + Clock>(
     rt: &R,
     alloc: Global,
     hall: &Hall,
-    pass: HallPass,
-    stream: TcpStream,
+    pass: &mut HallPass,
     answered: &AtomicU64,
 ) -> bool
-    requires { IsHallPassOf hall.now pass }
+    requires { IsHallPassOf hall.now pass.old }
+    ensures { IsHallPassOf hall.now pass.new }
 {
     let mut gate = Holding {
         rt,
         answered,
         gave_up: false,
     };
-    serves(rt, alloc, hall, pass, stream, &mut gate) && !gate.gave_up
+    let parts = [HEAD, OPEN, TYPE_A, CLOSE];
+    let record = Record::new(0);
+    let end = serve_script(rt, alloc, hall, pass, &parts, &record, &mut gate);
+    let mut all = end == Ok(());
+    all &= !gate.gave_up;
+    all
 }
 
-// Serves both to their ends, the one held.
+// Whether what it typed is there besides. It would be refused, if it came before the other's first call.
+fn types_when_let_in<R: Wait + Clock>(
+    rt: &R,
+    alloc: Global,
+    hall: &Hall,
+    mut pass: HallPass,
+    answered: &AtomicU64,
+) -> bool
+    requires { IsHallPassOf hall.now pass }
+{
+    let mut all = is_held(rt, alloc, hall, &mut pass, answered);
+    all &= reads(rt, alloc, hall, &mut pass, reading_after(4));
+    all
+}
+
+// The other opens a session and goes: whether it ends well.
+fn joins<R: Wait>(
+    rt: &R,
+    alloc: Global,
+    hall: &Hall,
+    mut pass: HallPass,
+    answered: &AtomicU64,
+) -> bool
+    requires { IsHallPassOf hall.now pass }
+{
+    let mut gate = Telling { answered };
+    let parts = [HEAD, OPEN, JOIN, CLOSE];
+    let record = Record::new(0);
+    serve_script(rt, alloc, hall, &mut pass, &parts, &record, &mut gate) == Ok(())
+}
+
+// Serves both to their ends at once.
 fn serves_two<R: Threads + Wait + Clock + Sync>(
     rt: &R,
     alloc: Global,
     hall: &Hall,
     held: HallPass,
     free: HallPass,
-    one: TcpStream,
-    other: TcpStream,
 ) -> bool
     requires { IsHallPassOf hall.now held × IsHallPassOf hall.now free }
 {
@@ -96,78 +129,16 @@ fn serves_two<R: Threads + Wait + Clock + Sync>(
         rt,
         || -> bool
             requires { IsSync R.row × IsHallPassOf hall.now held }
-        { is_held(rt, alloc, hall, held, one, &answered) },
+        { types_when_let_in(rt, alloc, hall, held, &answered) },
         || -> bool
             requires { IsSync R.row × IsHallPassOf hall.now free }
-        {
-            let mut gate = Telling {
-                answered: &answered,
-            };
-            serves(rt, alloc, hall, free, other, &mut gate)
-        },
+        { joins(rt, alloc, hall, free, &answered) },
     );
     both.0 && both.1
 }
 
-// The one asks before the other does, and is answered after it.
-fn ask_both(alloc: Global, one: &mut Client, other: &mut Client) -> bool {
-    let Ok(join) = Message::text(alloc, JOIN) else {
-        return false;
-    };
-    asks(alloc, one, OPEN, false, OPENED)
-        && asks(alloc, other, OPEN, false, OPENED)
-        && one.send(join).is_ok()
-        && asks(
-            alloc,
-            other,
-            JOIN,
-            false,
-            "{\"r\":\"joined\",\"s\":1,\"v\":0,\"x\":\"\"}",
-        )
-        && is_told(one, "{\"r\":\"joined\",\"s\":2,\"v\":0,\"x\":\"\"}")
-}
-
-fn come_and_go(alloc: Global, one: TcpStream, other: TcpStream) -> bool {
-    let Some(mut one) = client_at(alloc, one) else {
-        return false;
-    };
-    let Some(mut other) = client_at(alloc, other) else {
-        return false;
-    };
-    ask_both(alloc, &mut one, &mut other) && closes(&mut one) && closes(&mut other)
-}
-
-fn holds_one<R: Threads + Wait + Clock + Sync>(
-    rt: &R,
-    alloc: Global,
-    hall: &Hall,
-    held: HallPass,
-    free: HallPass,
-    one: Line,
-    other: Line,
-) -> bool
-    requires { IsHallPassOf hall.now held × IsHallPassOf hall.now free }
-{
-    let Line {
-        served: first,
-        asking: one,
-    } = one;
-    let Line {
-        served: second,
-        asking: other,
-    } = other;
-    let both = join(
-        rt,
-        || -> bool
-            requires { IsSync R.row × IsHallPassOf hall.now held × IsHallPassOf hall.now free }
-        { serves_two(rt, alloc, hall, held, free, first, second) },
-        || -> bool { come_and_go(alloc, one, other) },
-    );
-    both.0 && both.1
-}
-
-// One of two connections is held, the first or the second.
-fn holds_either<R: Net<Listener = TcpListener, Stream = TcpStream> + Threads + Wait + Clock + Sync>(
+// One of two connections is held, that of the first pass or that of the second.
+fn holds_either<R: Threads + Wait + Clock + Sync>(
     rt: &R,
     alloc: Global,
     is_first_held: bool,
@@ -176,11 +147,10 @@ fn holds_either<R: Net<Listener = TcpListener, Stream = TcpStream> + Threads + W
     let Ok(second) = hall.split(alloc, &mut first, 8) else {
         return Err(Fail::from("draws"));
     };
-    let (one, other) = (Line::new(rt)?, Line::new(rt)?);
     Ok(if is_first_held {
-        holds_one(rt, alloc, &hall, first, second, one, other)
+        serves_two(rt, alloc, &hall, first, second)
     } else {
-        holds_one(rt, alloc, &hall, second, first, other, one)
+        serves_two(rt, alloc, &hall, second, first)
     })
 }
 

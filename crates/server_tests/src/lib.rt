@@ -3,8 +3,6 @@
 #![tactic(auto)]
 
 #[cfg(test)]
-mod clients;
-#[cfg(test)]
 mod gates;
 #[cfg(test)]
 mod halls;
@@ -12,7 +10,5 @@ mod halls;
 mod looks;
 #[cfg(test)]
 mod memory;
-#[cfg(test)]
-mod sizes;
 #[cfg(test)]
 mod streams;

@@ -64,10 +64,11 @@ fn is_seen<R: Wait>(
 {
     match hall.look(rt, pass, at, after) {
         Ok(look) => {
-            look.version == version
-                && look.calls == 0
-                && look.sessions == 0
-                && put_in(look.ops.as_slice(), text)
+            let mut all = put_in(look.ops.as_slice(), text);
+            all &= look.version == version;
+            all &= look.calls == 0;
+            all &= look.sessions == 0;
+            all
         }
         Err(_) => false,
     }

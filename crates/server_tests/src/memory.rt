@@ -1,5 +1,5 @@
 //! A connection that lacks memory. This test passes whatever allocation is refused: `bin/refused_memory` refuses each of them in turn.
-use crate::halls::hall_of;
+use crate::halls::{Free, hall_of};
 use crate::streams::{CLOSE, HEAD, OPEN, Record, serve_script};
 use std::alloc::Global;
 use std::sync::Wait;
@@ -12,7 +12,15 @@ fn come_and_go<R: Wait>(rt: &R, alloc: Global) -> Result<(), ServeFault> {
         return Err(ServeFault::Memory);
     };
     let parts = [HEAD, OPEN, CLOSE];
-    serve_script(rt, alloc, &hall, &mut pass, &parts, &Record::new(0))
+    serve_script(
+        rt,
+        alloc,
+        &hall,
+        &mut pass,
+        &parts,
+        &Record::new(0),
+        &mut Free,
+    )
 }
 
 // Where memory was wanting, from the handshake on, a second connection finds it. Where it was wanting for a field of the head,

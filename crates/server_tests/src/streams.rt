@@ -1,4 +1,4 @@
-//! A connection over a stream each of whose calls fails in turn, or that ends behind any of its parts.
+//! A connection over a stream each of whose calls fails in turn.
 ghost use Rattle.ws_server.specs.Halls.{IsHallPassOf, IsConnOf};
 
 use crate::halls::{Free, hall_of};
@@ -8,7 +8,7 @@ use std::io;
 use std::io::{Error, ErrorKind, Read, Write};
 use std::sync::Wait;
 use std::test::Fail;
-use ws_server::{Conn, Hall, HallPass, ServeFault, answer_frame, serve_socket};
+use ws_server::{Conn, Gate, Hall, HallPass, ServeFault, answer_frame, serve_socket};
 
 // What a client sends: a head with the key of RFC 6455's example, and then frames, whose masks are zero.
 pub(crate) const HEAD: &[u8] =
@@ -16,9 +16,9 @@ pub(crate) const HEAD: &[u8] =
 
 pub(crate) const OPEN: &[u8] = b"\x81\x9b\0\0\0\0{\"t\":\"open\",\"room\":\"notes\"}";
 
-const JOIN: &[u8] = b"\x81\x8c\0\0\0\0{\"t\":\"join\"}";
+pub(crate) const JOIN: &[u8] = b"\x81\x8c\0\0\0\0{\"t\":\"join\"}";
 
-const TYPE_A: &[u8] =
+pub(crate) const TYPE_A: &[u8] =
     b"\x81\xab\0\0\0\0{\"t\":\"ins\",\"s\":1,\"n\":1,\"v\":0,\"k\":0,\"x\":\"a\"}";
 
 const TYPE_B: &[u8] =
@@ -79,7 +79,6 @@ impl Read for Script<'_> {
         self.record.call(ServeFault::Read)?;
         let given = self.record.given.get();
         let Some(part) = self.parts.get(given) else {
-            self.record.fault.set(Some(ServeFault::Read));
             return Ok(0);
         };
         let n = part.len().min(buf.len());
@@ -122,17 +121,24 @@ fn asks<R: Wait>(
 }
 
 // Whether a new connection reads the text of this answer.
-fn reads<R: Wait>(rt: &R, alloc: Global, hall: &Hall, pass: &mut HallPass, want: &str) -> bool
+pub(crate) fn reads<R: Wait>(
+    rt: &R,
+    alloc: Global,
+    hall: &Hall,
+    pass: &mut HallPass,
+    want: &str,
+) -> bool
     requires { IsHallPassOf hall.now pass.old }
 {
     let mut conn = Conn::new(alloc);
     let open = b"{\"t\":\"open\",\"room\":\"notes\"}";
-    asks(rt, alloc, hall, pass, &mut conn, open, "{\"r\":\"opened\"}")
-        && asks(rt, alloc, hall, pass, &mut conn, b"{\"t\":\"read\"}", want)
+    let mut all = asks(rt, alloc, hall, pass, &mut conn, open, "{\"r\":\"opened\"}");
+    all &= asks(rt, alloc, hall, pass, &mut conn, b"{\"t\":\"read\"}", want);
+    all
 }
 
 // The answer to a read, once so many of the parts were given: the head, the open and the join come before what is typed.
-fn reading_after(given: usize) -> &'static str {
+pub(crate) fn reading_after(given: usize) -> &'static str {
     match given {
         0..4 => "{\"r\":\"text\",\"v\":0,\"x\":\"\"}",
         4 => "{\"r\":\"text\",\"v\":1,\"x\":\"a\"}",
@@ -141,35 +147,33 @@ fn reading_after(given: usize) -> &'static str {
 }
 
 // Serves a connection that sends these parts.
-pub(crate) fn serve_script<R: Wait>(
+pub(crate) fn serve_script<R: Wait, G: Gate>(
     rt: &R,
     alloc: Global,
     hall: &Hall,
     pass: &mut HallPass,
     parts: &[&[u8]],
     record: &Record,
+    gate: &mut G,
 ) -> Result<(), ServeFault>
     requires { IsHallPassOf hall.now pass.old }
     ensures { IsHallPassOf hall.now pass.new }
 {
-    serve_socket(rt, alloc, hall, pass, Script { parts, record }, &mut Free)
+    serve_socket(rt, alloc, hall, pass, Script { parts, record }, gate)
 }
 
-// Whether a connection that sends so many of the parts ended well, if it ended as its record says and the room is where the
-// calls leave it that were given whole.
+// Whether a connection ended well, if it ended as its record says and the room is where the calls leave it that were given whole.
 fn ends_as_told<R: Wait>(
     rt: &R,
     alloc: Global,
     hall: &Hall,
     pass: &mut HallPass,
-    count: usize,
     fails_at: usize,
 ) -> Option<bool>
     requires { IsHallPassOf hall.now pass.old }
 {
     let record = Record::new(fails_at);
-    let parts = PARTS.get(..count)?;
-    let end = serve_script(rt, alloc, hall, pass, parts, &record);
+    let end = serve_script(rt, alloc, hall, pass, &PARTS, &record, &mut Free);
     let is_there = reads(rt, alloc, hall, pass, reading_after(record.given.get()));
     if is_there && end.err() == record.fault.get() {
         Some(end.is_ok())
@@ -182,11 +186,10 @@ fn ends_as_told<R: Wait>(
 fn ends_as_told_anew<R: Wait>(
     rt: &R,
     alloc: Global,
-    count: usize,
     fails_at: usize,
 ) -> Result<Option<bool>, Fail> {
     let (hall, mut pass) = hall_of(alloc, &["notes"])?;
-    Ok(ends_as_told(rt, alloc, &hall, &mut pass, count, fails_at))
+    Ok(ends_as_told(rt, alloc, &hall, &mut pass, fails_at))
 }
 
 #[test]
@@ -194,23 +197,12 @@ fn each_call_of_a_stream_fails(rt: HostRuntime) -> Result<(), Fail> {
     let mut all = true;
     let mut failed = 0;
     for fails_at in 1..100 {
-        match ends_as_told_anew(&rt, rt.alloc(), 6, fails_at)? {
+        match ends_as_told_anew(&rt, rt.alloc(), fails_at)? {
             Some(false) => failed = fails_at,
             Some(true) => break,
             None => all = false,
         }
     }
     assert!(rt; all && failed > 11 && failed < 99);
-    Ok(())
-}
-
-// A client that goes without a close, and read no answer, leaves its room to others as its calls made it.
-#[test]
-fn a_stream_ends_without_a_close(rt: HostRuntime) -> Result<(), Fail> {
-    let mut all = true;
-    for count in 0..6 {
-        all &= ends_as_told_anew(&rt, rt.alloc(), count, 0)? == Some(false);
-    }
-    assert!(rt; all);
     Ok(())
 }
