@@ -5,6 +5,7 @@
  *   FAIL_SYNC=N           the Nth sync of a file or a folder fails
  *   FAIL_THREAD=N         the Nth thread can't be made
  *   REFUSE_ON             each later call of the same kind is refused, too
+ *   SHORT_READS=N         every read that isn't refused gives at most N bytes
  *   SHORT_WRITES          every write that isn't refused takes one byte
  *   TELL=FILE             a file that gets a byte for each call that is refused
  * Reads and writes are those of descriptors 0 and 1. */
@@ -65,7 +66,10 @@ void *realloc(void *old, size_t size)
 ssize_t read(int from, void *bytes, size_t size)
 {
     UNDER(read);
-    return from == 0 && is_refused(&reads, "FAIL_READ", EIO) ? -1 : under(from, bytes, size);
+    if (from == 0 && is_refused(&reads, "FAIL_READ", EIO))
+        return -1;
+    const char *most = from == 0 ? getenv("SHORT_READS") : NULL;
+    return under(from, bytes, most && size > (size_t)atol(most) ? (size_t)atol(most) : size);
 }
 
 ssize_t write(int to, const void *bytes, size_t size)

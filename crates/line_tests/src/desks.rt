@@ -22,7 +22,7 @@ fn insertion(alloc: Global, n: u32, text: &str) -> Result<Call, AllocError> {
 }
 
 // Whether the `n`-th submission is accepted.
-pub(crate) fn types(alloc: Global, desk: &mut RoomDesk, n: u32, text: &str) -> bool {
+fn types(alloc: Global, desk: &mut RoomDesk, n: u32, text: &str) -> bool {
     match insertion(alloc, n, text) {
         Ok(typed) => matches!(&desk.call(typed), Ok(Reply::Ok { .. })),
         Err(_) => false,
@@ -30,7 +30,7 @@ pub(crate) fn types(alloc: Global, desk: &mut RoomDesk, n: u32, text: &str) -> b
 }
 
 // A session is opened and types this, whole, at the beginning.
-pub(crate) fn begins(alloc: Global, desk: &mut RoomDesk, text: &str) -> bool {
+fn begins(alloc: Global, desk: &mut RoomDesk, text: &str) -> bool {
     desk.call(Call::Join { units: false }).is_ok() && types(alloc, desk, 1, text)
 }
 
@@ -55,17 +55,8 @@ fn rooms_carry(alloc: Global, first: Site, second: Site, want: &str) -> bool {
     carry_each_way(alloc, &mut a, &mut b, want)
 }
 
-#[test]
-fn two_rooms_carry_to_each_other(rt: HostRuntime) -> Result<(), Fail> {
-    let (zero, one) = (Site::new(0)?, Site::new(1)?);
-    let mut all = rooms_carry(rt.alloc(), zero, one, "ba");
-    all &= rooms_carry(rt.alloc(), one, zero, "ab");
-    assert!(rt; all);
-    Ok(())
-}
-
 // 64 characters, and 6 more before them.
-pub(crate) const MANY: &str = "cccccccccccccccccccccccccccccccccccccccccccccccccccccccccccccccc";
+const MANY: &str = "cccccccccccccccccccccccccccccccccccccccccccccccccccccccccccccccc";
 
 const MORE: &str = "dddddd";
 
@@ -87,8 +78,11 @@ fn rooms_carry_seventy(alloc: Global, first: Site, second: Site) -> bool {
 }
 
 #[test]
-fn a_carry_takes_at_most_64(rt: HostRuntime) -> Result<(), Fail> {
+fn rooms_carry_to_each_other(rt: HostRuntime) -> Result<(), Fail> {
     let (zero, one) = (Site::new(0)?, Site::new(1)?);
-    assert!(rt; rooms_carry_seventy(rt.alloc(), zero, one));
+    let mut all = rooms_carry(rt.alloc(), zero, one, "ba");
+    all &= rooms_carry(rt.alloc(), one, zero, "ab");
+    all &= rooms_carry_seventy(rt.alloc(), zero, one);
+    assert!(rt; all);
     Ok(())
 }

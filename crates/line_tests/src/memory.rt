@@ -1,4 +1,4 @@
-//! Lines that lack memory, each served by an engine of its own over one desk. These tests pass whatever allocation is refused:
+//! Lines that lack memory, each served by an engine of its own over one desk. This test passes whatever allocation is refused:
 //! `bin/refused_memory` refuses each of them in turn.
 use crate::desks::desk_of;
 use line_engine::{Counted, ServeFault, serve_lines};
@@ -185,29 +185,12 @@ fn bears_want_anew(alloc: Global, site: Site, lines: &[Line]) -> bool {
 }
 
 #[test]
-fn a_join_and_an_insertion(rt: HostRuntime) -> Result<(), Fail> {
+fn lines_that_lack_memory(rt: HostRuntime) -> Result<(), Fail> {
     let site = Site::new(0)?;
-    assert!(rt; bears_want_anew(rt.alloc(), site, INSERTS));
-    Ok(())
-}
-
-#[test]
-fn an_insertion_in_an_old_version(rt: HostRuntime) -> Result<(), Fail> {
-    let site = Site::new(0)?;
-    assert!(rt; bears_want_anew(rt.alloc(), site, NAMES_AN_OLD_VERSION));
-    Ok(())
-}
-
-#[test]
-fn what_is_early_is_held_back(rt: HostRuntime) -> Result<(), Fail> {
-    let site = Site::new(0)?;
-    assert!(rt; bears_want_anew(rt.alloc(), site, HOLDS_BACK));
-    Ok(())
-}
-
-#[test]
-fn operations_that_are_refused(rt: HostRuntime) -> Result<(), Fail> {
-    let site = Site::new(0)?;
-    assert!(rt; bears_want_anew(rt.alloc(), site, REFUSES));
+    let mut all = bears_want_anew(rt.alloc(), site, INSERTS);
+    all &= bears_want_anew(rt.alloc(), site, NAMES_AN_OLD_VERSION);
+    all &= bears_want_anew(rt.alloc(), site, HOLDS_BACK);
+    all &= bears_want_anew(rt.alloc(), site, REFUSES);
+    assert!(rt; all);
     Ok(())
 }
