@@ -1,44 +1,54 @@
 //! Editors of a room that fall behind and catch up, in either count of places.
 use crate::fixtures::{empty_room, insertion, shows};
-use crate::turns::{TURNS, Turn};
 use editors::{Editor, UnitEditor};
-use room::{Call, Desk, RoomDesk};
+use opid::Refusal;
+use room::{Call, Desk, Reply, RoomDesk};
 use std::alloc::Global;
 use std::test::Fail;
 
-/// The session pulls.
-fn pull(s: u32, have: u32, max: u32) -> Call {
-    Call::Pull { s, have, max }
+/// An editor of either count.
+#[derive(Drop)]
+pub(crate) struct Editors {
+    characters: Editor,
+    units: UnitEditor,
 }
 
-/// The editor is given the reply.
-fn follows(desk: &mut RoomDesk, editor: &mut Editor, call: Call) -> Result<(), Fail> {
-    let reply = desk.call(call)?;
-    let followed = editor.follow(&reply);
-    drop(reply);
-    Ok(followed?)
-}
+impl Editors {
+    /// Editors of the empty text.
+    pub(crate) fn new(alloc: Global) -> Editors {
+        Editors {
+            characters: Editor::new(alloc),
+            units: UnitEditor::new(alloc),
+        }
+    }
 
-/// `abc` is put in, and two of its three edits are pulled; then `X` is put in behind the first, and the rest is pulled.
-fn falls_behind(alloc: Global, desk: &mut RoomDesk, editor: &mut Editor) -> Result<bool, Fail> {
-    follows(desk, editor, Call::Join { units: false })?;
-    follows(desk, editor, insertion(alloc, 1, 1, 0, 0, "abc")?)?;
-    follows(desk, editor, pull(1, 0, 2))?;
-    let behind = shows(editor, "ab") && editor.version() == 2;
-    follows(desk, editor, insertion(alloc, 1, 2, 2, 1, "X")?)?;
-    follows(desk, editor, pull(1, 2, 64))?;
-    Ok(behind && shows(editor, "aXbc") && editor.version() == 4)
-}
+    /// The editor of the count is given the reply.
+    pub(crate) fn follow(&mut self, units: bool, reply: &Reply) -> Result<(), Refusal> {
+        if units {
+            self.units.follow(reply)
+        } else {
+            self.characters.follow(reply)
+        }
+    }
 
-fn catches_up(alloc: Global) -> Result<bool, Fail> {
-    let mut desk = RoomDesk::new(empty_room(alloc, 0)?);
-    falls_behind(alloc, &mut desk, &mut Editor::new(alloc))
-}
+    /// Whether that one has the text at the version.
+    pub(crate) fn show(&self, units: bool, version: u32, text: &str) -> bool {
+        if units {
+            self.units.version() == u64::from(version) && shows_units(&self.units, text)
+        } else {
+            self.characters.version() == u64::from(version) && shows(&self.characters, text)
+        }
+    }
 
-#[test]
-fn an_editor_falls_behind_and_catches_up(rt: HostRuntime) -> Result<(), Fail> {
-    assert!(rt; catches_up(rt.alloc())?);
-    Ok(())
+    /// The editor of the count is given the reply to the call.
+    fn ask(&mut self, desk: &mut RoomDesk, units: bool, call: Call) -> Result<(), Refusal> {
+        let Ok(reply) = desk.call(call) else {
+            return Err(Refusal::Memory);
+        };
+        let followed = self.follow(units, &reply);
+        drop(reply);
+        followed
+    }
 }
 
 /// Whether the editor has the text.
@@ -51,12 +61,20 @@ fn shows_units(editor: &UnitEditor, text: &str) -> bool {
         .eq(text.encode_utf16())
 }
 
-/// The editor is given the reply.
-fn follows_units(desk: &mut RoomDesk, editor: &mut UnitEditor, call: Call) -> Result<(), Fail> {
-    let reply = desk.call(call)?;
-    let followed = editor.follow(&reply);
-    drop(reply);
-    Ok(followed?)
+/// The session pulls.
+fn pull(s: u32, have: u32, max: u32) -> Call {
+    Call::Pull { s, have, max }
+}
+
+/// `abc` is put in, and two of its three edits are pulled; then `X` is put in behind the first, and the rest is pulled.
+fn falls_behind(alloc: Global, desk: &mut RoomDesk, both: &mut Editors) -> Result<bool, Refusal> {
+    both.ask(desk, false, Call::Join { units: false })?;
+    both.ask(desk, false, insertion(alloc, 1, 1, 0, 0, "abc")?)?;
+    both.ask(desk, false, pull(1, 0, 2))?;
+    let behind = both.show(false, 2, "ab");
+    both.ask(desk, false, insertion(alloc, 1, 2, 2, 1, "X")?)?;
+    both.ask(desk, false, pull(1, 2, 64))?;
+    Ok(behind && both.show(false, 4, "aXbc"))
 }
 
 /// Session 1 deletes the first two units of version 2, as its third submission.
@@ -71,161 +89,54 @@ fn deletion() -> Call {
 }
 
 /// A pair and `a` are put in, and pulled; then `b` is put in behind the pair, which is deleted, and the rest is pulled.
-fn deletes_a_pair(
-    alloc: Global,
-    desk: &mut RoomDesk,
-    editor: &mut UnitEditor,
-) -> Result<bool, Fail> {
-    follows_units(desk, editor, Call::Join { units: true })?;
-    follows_units(desk, editor, insertion(alloc, 1, 1, 0, 0, "\u{1F600}a")?)?;
-    follows_units(desk, editor, pull(1, 0, 64))?;
-    let behind = shows_units(editor, "\u{1F600}a");
-    follows_units(desk, editor, insertion(alloc, 1, 2, 2, 2, "b")?)?;
-    follows_units(desk, editor, deletion())?;
-    follows_units(desk, editor, pull(1, 2, 64))?;
-    Ok(behind && shows_units(editor, "ba") && editor.version() == 4)
-}
-
-fn catches_up_in_units(alloc: Global) -> Result<bool, Fail> {
-    let mut desk = RoomDesk::new(empty_room(alloc, 0)?);
-    deletes_a_pair(alloc, &mut desk, &mut UnitEditor::new(alloc))
-}
-
-#[test]
-fn an_editor_in_units_catches_up(rt: HostRuntime) -> Result<(), Fail> {
-    assert!(rt; catches_up_in_units(rt.alloc())?);
-    Ok(())
+fn deletes_a_pair(alloc: Global, desk: &mut RoomDesk, both: &mut Editors) -> Result<bool, Refusal> {
+    both.ask(desk, true, Call::Join { units: true })?;
+    both.ask(desk, true, insertion(alloc, 1, 1, 0, 0, "\u{1F600}a")?)?;
+    both.ask(desk, true, pull(1, 0, 64))?;
+    let behind = both.show(true, 2, "\u{1F600}a");
+    both.ask(desk, true, insertion(alloc, 1, 2, 2, 2, "b")?)?;
+    both.ask(desk, true, deletion())?;
+    both.ask(desk, true, pull(1, 2, 64))?;
+    Ok(behind && both.show(true, 4, "ba"))
 }
 
 /// Both sessions join, the first in characters and the second in UTF-16 units, and read the text that the first puts in.
-fn read_both(
-    alloc: Global,
-    desk: &mut RoomDesk,
-    editor: &mut Editor,
-    other: &mut UnitEditor,
-) -> Result<bool, Fail> {
-    follows(desk, editor, Call::Join { units: false })?;
-    follows_units(desk, other, Call::Join { units: true })?;
-    follows(desk, editor, insertion(alloc, 1, 1, 0, 0, "\u{1F600}ax")?)?;
-    follows(desk, editor, pull(1, 0, 64))?;
-    follows_units(desk, other, pull(2, 0, 64))?;
-    Ok(shows(editor, "\u{1F600}ax") && shows_units(other, "\u{1F600}ax"))
+fn read_both(alloc: Global, desk: &mut RoomDesk, both: &mut Editors) -> Result<bool, Refusal> {
+    both.ask(desk, false, Call::Join { units: false })?;
+    both.ask(desk, true, Call::Join { units: true })?;
+    both.ask(desk, false, insertion(alloc, 1, 1, 0, 0, "\u{1F600}ax")?)?;
+    both.ask(desk, false, pull(1, 0, 64))?;
+    both.ask(desk, true, pull(2, 0, 64))?;
+    Ok(both.show(false, 3, "\u{1F600}ax") && both.show(true, 3, "\u{1F600}ax"))
 }
 
 /// Both type behind the pair of version 3 at once, and read the same.
-fn type_at_once(
-    alloc: Global,
-    desk: &mut RoomDesk,
-    editor: &mut Editor,
-    other: &mut UnitEditor,
-) -> Result<bool, Fail> {
-    let before = read_both(alloc, desk, editor, other)?;
-    follows(desk, editor, insertion(alloc, 1, 2, 3, 1, "\u{10000}")?)?;
-    follows_units(desk, other, insertion(alloc, 2, 1, 3, 2, "\u{10FFFF}c")?)?;
-    follows(desk, editor, pull(1, 3, 64))?;
-    follows_units(desk, other, pull(2, 3, 64))?;
+fn type_at_once(alloc: Global, desk: &mut RoomDesk, both: &mut Editors) -> Result<bool, Refusal> {
+    let before = read_both(alloc, desk, both)?;
+    both.ask(desk, false, insertion(alloc, 1, 2, 3, 1, "\u{10000}")?)?;
+    both.ask(desk, true, insertion(alloc, 2, 1, 3, 2, "\u{10FFFF}c")?)?;
+    both.ask(desk, false, pull(1, 3, 64))?;
+    both.ask(desk, true, pull(2, 3, 64))?;
     let text = "\u{1F600}\u{10FFFF}c\u{10000}ax";
-    Ok(before && shows(editor, text) && shows_units(other, text))
+    Ok(before && both.show(false, 6, text) && both.show(true, 6, text))
 }
 
-fn editors_of_both_counts(alloc: Global) -> Result<bool, Fail> {
-    let mut desk = RoomDesk::new(empty_room(alloc, 0)?);
-    type_at_once(
-        alloc,
-        &mut desk,
-        &mut Editor::new(alloc),
-        &mut UnitEditor::new(alloc),
-    )
-}
-
-#[test]
-fn sessions_of_both_counts_type_at_once(rt: HostRuntime) -> Result<(), Fail> {
-    assert!(rt; editors_of_both_counts(rt.alloc())?);
-    Ok(())
-}
-
-/// An editor of either count.
-#[derive(Drop)]
-struct Editors {
-    characters: Editor,
-    units: UnitEditor,
-}
-
-impl Editors {
-    /// The editor of the turn's count is given the reply.
-    fn follow(&mut self, desk: &mut RoomDesk, turn: Turn, call: Call) -> Result<(), Fail> {
-        if turn.counts_units() {
-            follows_units(desk, &mut self.units, call)
-        } else {
-            follows(desk, &mut self.characters, call)
-        }
-    }
-
-    /// Whether that one has the text at the version.
-    fn show(&self, turn: Turn, version: u32, text: &str) -> bool {
-        if turn.counts_units() {
-            self.units.version() == u64::from(version) && shows_units(&self.units, text)
-        } else {
-            self.characters.version() == u64::from(version) && shows(&self.characters, text)
-        }
-    }
-
-    /// Gives the replies to a turn's calls. Whether it begins with the text that the joined one tells.
-    fn follow_each(
-        &mut self,
-        desk: &mut RoomDesk,
-        turn: Turn,
-        calls: &[Call],
-        text: &str,
-    ) -> Result<bool, Fail> {
-        let mut all = true;
-        for (place, call) in calls.iter().enumerate() {
-            self.follow(desk, turn, call.clone()?)?;
-            all &= place > 1 || self.show(turn, turn.version, text);
-        }
-        Ok(all)
-    }
-
-    /// Gives the replies to a turn, and to what is handed over behind it. Whether the edits are played, too.
-    fn follow_turn(
-        &mut self,
-        alloc: Global,
-        desk: &mut RoomDesk,
-        turn: Turn,
-    ) -> Result<bool, Fail> {
-        let mut calls = Vec::new(alloc);
-        turn.asks(alloc, &mut calls)?;
-        calls.push(turn.hands(alloc)?)?;
-        let all = self.follow_each(desk, turn, &calls, turn.text(alloc)?.as_str())?;
-        Ok(all && self.show(turn, turn.erased(), turn.next(0).text(alloc)?.as_str()))
-    }
-}
-
-/// Gives the replies to all turns.
-fn follow_turns(alloc: Global, desk: &mut RoomDesk, editors: &mut Editors) -> Result<bool, Fail> {
-    let mut all = true;
-    let mut turn = Turn::first();
-    for _ in 0..TURNS {
-        all &= editors.follow_turn(alloc, desk, turn)?;
-        turn = turn.next(turn.size);
-    }
-    Ok(all)
-}
-
-fn follow_all(alloc: Global) -> Result<bool, Fail> {
-    let mut editors = Editors {
-        characters: Editor::new(alloc),
-        units: UnitEditor::new(alloc),
-    };
-    follow_turns(
-        alloc,
-        &mut RoomDesk::new(empty_room(alloc, 0)?),
-        &mut editors,
-    )
+/// Asks something of an empty room and new editors. (What a function owns costs its proof at each step, so all others borrow it.)
+fn of_an_empty_room<F: Fn(Global, &mut RoomDesk, &mut Editors) -> Result<bool, Refusal>>(
+    alloc: Global,
+    asked: F,
+) -> Result<bool, Refusal>
+    requires { F.IsAlwaysCallable asked }
+{
+    let room = empty_room(alloc)?;
+    asked(alloc, &mut RoomDesk::new(room), &mut Editors::new(alloc))
 }
 
 #[test]
-fn editors_follow_replies_of_every_kind_and_size(rt: HostRuntime) -> Result<(), Fail> {
-    assert!(rt; follow_all(rt.alloc())?);
+fn editors_of_either_count_and_of_both(rt: HostRuntime) -> Result<(), Fail> {
+    let alloc = rt.alloc();
+    assert!(rt; of_an_empty_room(alloc, falls_behind)?);
+    assert!(rt; of_an_empty_room(alloc, deletes_a_pair)?);
+    assert!(rt; of_an_empty_room(alloc, type_at_once)?);
     Ok(())
 }

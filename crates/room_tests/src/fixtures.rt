@@ -1,18 +1,16 @@
-//! What tests of rooms share: an empty room, an insertion, replies, what an editor shows, and whether rooms have one order.
+//! What tests of rooms share: an empty room, an insertion, replies, and what an editor shows.
 ghost use Rattle.std.specs.Prelude.{◌≡◌, [], IfOk};
 
 use editors::Editor;
-use opid::Site;
-use replica_world::one_order;
+use opid::{Refusal, Site};
 use room::{Call, Characters, Reply, Room};
 use std::alloc::{AllocError, Global};
-use std::test::Fail;
 
-/// The room of a site, with an empty document.
-pub(crate) fn empty_room(alloc: Global, site: u8) -> Result<Room, Fail>
+/// The room of site 0, with an empty document.
+pub(crate) fn empty_room(alloc: Global) -> Result<Room, Refusal>
     ensures { IfOk result (λ r. r.history ≡ []) }
 {
-    Ok(Room::new(alloc, Site::new(site)?))
+    Ok(Room::new(alloc, Site::new(0)?))
 }
 
 /// The insertion of a text as submission `n` of a session, at a place of a version.
@@ -55,10 +53,4 @@ pub(crate) fn is_text(reply: &Reply, version: u32, text: &str) -> bool {
 /// Whether the editor has the text.
 pub(crate) fn shows(editor: &Editor, text: &str) -> bool {
     editor.text().characters().iter().copied().eq(text.chars())
-}
-
-/// Whether the two rooms have one order of elements.
-pub(crate) fn have_one_order(one: Room, other: Room) -> bool {
-    let rooms = [one, other];
-    one_order(&rooms)
 }

@@ -265,7 +265,7 @@ fn all_follow(alloc: Global, desk: &mut RoomDesk, clients: &mut Vec<Client>) -> 
 }
 
 fn all_follow_a_room(alloc: Global) -> Result<bool, Fail> {
-    let mut desk = RoomDesk::new(empty_room(alloc, 0)?);
+    let mut desk = RoomDesk::new(empty_room(alloc)?);
     all_follow(alloc, &mut desk, &mut Vec::new(alloc))
 }
 

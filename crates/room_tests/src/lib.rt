@@ -13,8 +13,6 @@ mod forged;
 #[cfg(test)]
 mod operations;
 #[cfg(test)]
-mod places;
-#[cfg(test)]
 mod replicas;
 #[cfg(test)]
 mod rooms;

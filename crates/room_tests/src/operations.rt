@@ -45,11 +45,6 @@ pub(crate) fn operation(site: u8, known: u32, n: u32, kind: OpKind) -> Result<Op
     Op::new(own, clock, kind)
 }
 
-/// Whether these operations are just that one.
-pub(crate) fn is_one(ops: &[Op], one: Op) -> bool {
-    ops.len() == 1 && ops.first() == Some(&one)
-}
-
 /// Whether these operations are just those two.
 pub(crate) fn are_two(ops: &[Op], first: Op, second: Op) -> bool {
     ops.len() == 2 && ops.first() == Some(&first) && ops.last() == Some(&second)

@@ -1,4 +1,4 @@
-//! Submissions and deliveries at a replica, against worked values.
+//! Deliveries at a replica, against worked values.
 use crate::operations::{are_two, at_head, behind, of_an_empty_replica, operation, stamp};
 use causal_clock::Op;
 use opid::{OpKind, Refusal};
@@ -14,26 +14,6 @@ fn reads(replica: &Replica, text: &str) -> Result<bool, Refusal> {
 /// Whether the log ends with these operations, from the place on.
 fn tells(replica: &Replica, after: u32, first: Op, second: Op) -> Result<bool, Refusal> {
     Ok(are_two(&replica.ops(after, 64)?, first, second))
-}
-
-/// `abc`, of which `b` is deleted and replaced by a character of two units.
-fn submits(_alloc: Global, replica: &mut Replica) -> Result<bool, Refusal> {
-    let mut all = replica.submit_ins(0, 0, "abc")? == (0, 3);
-    all &= replica.submit_del(3, 1, 1)? == (3, 4);
-    all &= replica.submit_ins_units(4, 1, "\u{1F600}")? == (4, 5);
-    all &= reads(replica, "a\u{1F600}c")?;
-    let target = stamp(2, 0)?;
-    let deletion = operation(0, 0, 4, OpKind::Del { target })?;
-    let pair = operation(0, 0, 5, behind(stamp(1, 0)?, '\u{1F600}'))?;
-    all &= tells(replica, 3, deletion, pair)?;
-    all &= replica.submit_del_units(5, 1, 2)? == (5, 6);
-    Ok(all && reads(replica, "ac")?)
-}
-
-#[test]
-fn submissions_of_both_counts(rt: HostRuntime) -> Result<(), Fail> {
-    assert!(rt; of_an_empty_replica(rt.alloc(), submits)?);
-    Ok(())
 }
 
 /// What comes before its past waits, within what was reserved, and is taken with it; and so is what is lent.

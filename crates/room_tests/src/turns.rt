@@ -11,6 +11,9 @@ use std::test::Fail;
 /// How many turns there are, which is the size of the last one.
 pub(crate) const TURNS: u32 = 64;
 
+/// How many calls a turn makes.
+pub(crate) const CALLS: usize = 8;
+
 /// The turn of the session with the number of its size. Those of even sizes count UTF-16 units.
 #[derive(Clone, Copy)]
 pub(crate) struct Turn {
@@ -120,12 +123,14 @@ impl Turn {
         }
     }
 
-    /// Its seven calls: a join, an insertion, its edits, a deletion, its edits, the insertion's operations, and a read.
+    /// Its calls: a join, an insertion, another text under the insertion's number, the insertion's edits, a deletion, its edits, the
+    /// insertion's operations, and a read.
     pub(crate) fn asks(self, alloc: Global, calls: &mut Vec<Call>) -> Result<(), AllocError> {
         let units = self.counts_units();
         let (after, max) = (self.version, self.size);
         calls.push(Call::Join { units })?;
         calls.push(self.insertion(alloc)?)?;
+        calls.push(insertion(alloc, self.size, 1, self.version, 0, "b")?)?;
         calls.push(self.pull(self.version))?;
         calls.push(self.deletion())?;
         calls.push(self.pull(self.typed()))?;
@@ -148,12 +153,12 @@ impl Turn {
     pub(crate) fn is_told(self, place: usize, reply: &Reply, before: &str, behind: &str) -> bool {
         match place {
             0 => is_joined(reply, self.size, self.version, before),
-            1 => is_ok(reply, (self.version, self.typed())),
-            2 => self.tells_insertions(reply),
-            3 => is_ok(reply, (self.typed(), self.erased())),
-            4 => self.tells_deletions(reply),
-            5 => self.tells_operations(reply),
-            6 => is_text(reply, self.erased(), behind),
+            1 | 2 => is_ok(reply, (self.version, self.typed())),
+            3 => self.tells_insertions(reply),
+            4 => is_ok(reply, (self.typed(), self.erased())),
+            5 => self.tells_deletions(reply),
+            6 => self.tells_operations(reply),
+            7 => is_text(reply, self.erased(), behind),
             _ => self.tells_outcomes(reply),
         }
     }
