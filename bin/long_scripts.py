@@ -197,6 +197,23 @@ def all_sites():
     return played.script
 
 
+def all_sites_at_once():
+    """Twice, each of 32 sites puts in a letter of its own, with a point behind it where its number is odd, at the beginning of the empty
+    version; then each is carried what the others put in. The greater stamp stands first: the later round, in each the greater site."""
+    script = Script()
+    texts = [[chr(256 + 32 * at + site) + "." * (site % 2) for site in range(SITES)] for at in range(2)]
+    for site in range(SITES):
+        script.call(site, {"r": "joined", "s": 1, "v": 0, "x": ""}, t="join")
+    for n, (before, of_all) in enumerate(zip((0, 48), texts), 1):
+        for site, text in enumerate(of_all):
+            script.call(site, {"from": before, "r": "ok", "to": before + len(text)}, t="ins", s=1, n=n, v=0, k=0, x=text)
+        for source, target in itertools.permutations(range(SITES), 2):
+            for at in range(len(of_all[source])):
+                script.event(f"carry {source} {before + at} {target}", put("took", 1, 0))
+    script.end([(site, 96, "".join(reversed(texts[0] + texts[1]))) for site in range(SITES)])
+    return script
+
+
 def many_sessions():
     """The 64 sessions that a room may have, of both counts in turn, put in, pull, delete what they put in (as many places, which are
     one or two characters), put in again, and leave for another one."""
