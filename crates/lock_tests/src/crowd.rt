@@ -4,7 +4,6 @@ ghost use Rattle.std.specs.Thread.{IsSync};
 ghost use Rattle.history_lock.specs.Locks.{IsPassOf, IsIdle};
 
 use crate::locks::{Count, take_turn};
-use crate::shared::TURNS;
 use history_lock::{Pass, TicketLock};
 use std::sync::Wait;
 use std::sync::atomic::AtomicU64;
@@ -12,6 +11,9 @@ use std::sync::atomic::Ordering::SeqCst;
 use std::test::Fail;
 use std::thread::{Threads, join, sleep};
 use std::time::{Clock, Duration};
+
+// After so many turns, each 10 microseconds after the one before, a thread gives up.
+const TURNS: u32 = 400_000;
 
 // Whether so many tickets come to be drawn before a limit.
 fn come_to<R: Wait + Clock>(rt: &R, drawn: &AtomicU64, tickets: u64) -> bool {

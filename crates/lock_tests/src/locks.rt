@@ -140,17 +140,22 @@ fn threads_use_up_their_draws(rt: HostRuntime) -> Result<(), Fail> {
     Ok(())
 }
 
-// Takes a turn by a try.
-fn try_turn(lock: &TicketLock<Count>, pass: &mut Pass<Count>) -> Result<(), TryFault>
+// Tries for the value, and gives it back: how the try went, and how many draws were left then.
+fn tries(lock: &TicketLock<Count>, pass: &mut Pass<Count>) -> (Result<(), TryFault>, u64)
     requires { IsPassOf lock.now pass.old × IsIdle pass.old }
     ensures { IsPassOf lock.now pass.new × IsIdle pass.new }
 {
-    let hold = lock.try_enter(pass)?;
-    lock.leave(hold, pass);
-    Ok(())
+    match lock.try_enter(pass) {
+        Ok(hold) => {
+            let left = pass.left();
+            lock.leave(hold, pass);
+            (Ok(()), left)
+        }
+        Err(why) => (Err(why), pass.left()),
+    }
 }
 
-// Whether a try is lost and a pass with no draw is told so at once, while another has the value.
+// Whether a try is lost, which uses no draw, and a pass with no draw is told so at once, while another has the value.
 fn waits_for_nobody<R: Wait>(
     rt: &R,
     lock: &TicketLock<Count>,
@@ -163,15 +168,31 @@ fn waits_for_nobody<R: Wait>(
     requires worn { IsPassOf lock.now worn.old × IsIdle worn.old }
     ensures holder { IsPassOf lock.now holder.new × IsIdle holder.new }
     ensures other { IsPassOf lock.now other.new × IsIdle other.new }
+    ensures worn { IsPassOf lock.now worn.new × IsIdle worn.new }
 {
     let Ok(ticket) = lock.draw(holder) else {
         return false;
     };
     let hold = lock.enter(rt, ticket, holder);
-    let tried = try_turn(lock, other);
+    let tried = tries(lock, other);
     let is_worn = !takes_turn(rt, lock, worn, true);
     lock.leave(hold, holder);
-    matches!(tried, Err(TryFault::Busy)) && is_worn
+    matches!(tried, (Err(TryFault::Busy), 2)) && is_worn
+}
+
+// A meeting with a pass that has no draw left uses none of the other's.
+fn meets_in_vain<R: Wait>(
+    rt: &R,
+    lock: &TicketLock<Count>,
+    pass: &mut Pass<Count>,
+    worn: &mut Pass<Count>,
+) -> bool
+    requires { IsPassOf lock.now pass.old × IsIdle pass.old × IsPassOf lock.now worn.old × IsIdle worn.old }
+{
+    let left = pass.left();
+    let mut all = lock.meet(rt, pass, worn).is_err();
+    all &= lock.meet(rt, worn, pass).is_err();
+    all && pass.left() == left && worn.left() == 0
 }
 
 #[test]
@@ -184,8 +205,9 @@ fn who_may_not_enter_is_told_at_once(rt: HostRuntime) -> Result<(), Fail> {
         return Err(Fail::from("no draws"));
     };
     let mut all = waits_for_nobody(&rt, &lock, &mut holder, &mut other, &mut worn);
-    all &= matches!(try_turn(&lock, &mut other), Ok(()));
+    all &= matches!(tries(&lock, &mut other), (Ok(()), 1));
     all &= matches!(lock.meet(&rt, &mut holder, &mut other), Ok(()));
+    all &= meets_in_vain(&rt, &lock, &mut holder, &mut worn);
     assert!(rt; all);
     Ok(())
 }
@@ -258,31 +280,6 @@ fn a_split_hands_over_no_more_than_is_left(rt: HostRuntime) -> Result<(), Fail> 
     let all = keeps_its_draws(&lock, &mut few);
     assert!(rt; all && split_in_line(&rt, &lock, &mut few, 2) == Some((2, 0)));
     assert!(rt; split_in_line(&rt, &lock, &mut pass, 0) == Some((0, (1 << 62) - 4)));
-    Ok(())
-}
-
-// A meeting with a pass that has no draw left uses none of the other's.
-fn meets_in_vain<R: Wait>(
-    rt: &R,
-    lock: &TicketLock<Count>,
-    pass: &mut Pass<Count>,
-    worn: &mut Pass<Count>,
-) -> bool
-    requires { IsPassOf lock.now pass.old × IsIdle pass.old × IsPassOf lock.now worn.old × IsIdle worn.old }
-{
-    let left = pass.left();
-    let mut all = lock.meet(rt, pass, worn).is_err();
-    all &= lock.meet(rt, worn, pass).is_err();
-    all && pass.left() == left && worn.left() == 0
-}
-
-#[test]
-fn a_meeting_needs_a_draw_of_each(rt: HostRuntime) -> Result<(), Fail> {
-    let (lock, mut pass) = TicketLock::new(rt.alloc(), Count { turns: 0 })?;
-    let Ok(mut worn) = lock.split(&mut pass, 0) else {
-        return Err(Fail::from("no draws"));
-    };
-    assert!(rt; meets_in_vain(&rt, &lock, &mut pass, &mut worn));
     Ok(())
 }
 

@@ -1,5 +1,0 @@
-use Rattle.shared_room.specs.Views.{IsPassOf}
-use Rattle.lock_tests.proofs.typing.types.Given as goal
-
-abbrev pub invariant-loop-n : goal.invariant-loop-n
-invariant-loop-n g l = IsPassOf l.room l.pass
