@@ -1,7 +1,7 @@
-//! The worked cases of what is held back.
+//! How what is held back leaves. What is kept, and what is refused, is asked in conversations.
 use crate::lending::lend;
 use causal_clock::{Clock, Op};
-use holdback::{Arrival, Held};
+use holdback::Held;
 use opid::{OpKind, Refusal, Site};
 use std::test::Fail;
 
@@ -10,35 +10,6 @@ fn insertion(own: u32, ch: char) -> Result<Op, Refusal> {
     let one = Site::new(1)?;
     let clock = Clock::from_pairs(&[(one, own)])?;
     Op::new(one, clock, OpKind::Ins { parent: None, ch })
-}
-
-/// How many of these operations of site 1 are kept, one after another.
-fn kept(held: &mut Held, first: u32, last: u32) -> Result<u32, Refusal> {
-    let mut count: u32 = 0;
-    for own in first..last {
-        if held.offer(insertion(own, 'a')?)? == Arrival::Kept {
-            count = count.saturating_add(1);
-        }
-    }
-    Ok(count)
-}
-
-/// One operation, and another of its number.
-fn keeps_the_first(held: &mut Held) -> Result<bool, Refusal> {
-    let (second, other) = (insertion(2, 'b')?, insertion(2, 'z')?);
-    let mut all = !held.look(&second)?;
-    all &= held.offer(second)? == Arrival::Kept;
-    all &= held.offer(second)? == Arrival::Again;
-    all &= held.look(&second)?;
-    all &= held.look(&other).err() == Some(Refusal::Conflict);
-    all &= held.offer(other).err() == Some(Refusal::Conflict);
-    Ok(all && held.len() == 1)
-}
-
-#[test]
-fn the_same_comes_again(rt: HostRuntime) -> Result<(), Fail> {
-    assert!(rt; lend(Held::new(rt.alloc()), keeps_the_first)?);
-    Ok(())
 }
 
 /// The third and the second operation of a site, and one that stays.
@@ -59,21 +30,5 @@ fn leave_in_turn(held: &mut Held) -> Result<bool, Refusal> {
 #[test]
 fn the_first_ready_one_leaves(rt: HostRuntime) -> Result<(), Fail> {
     assert!(rt; lend(Held::new(rt.alloc()), leave_in_turn)?);
-    Ok(())
-}
-
-/// 1,024 operations, the same again, one more, and another of a number that is there.
-fn keeps_1024(held: &mut Held) -> Result<bool, Refusal> {
-    let mut all = kept(held, 2, 1026)? == 1024;
-    all &= kept(held, 2, 1026)? == 0;
-    all &= held.offer(insertion(1026, 'a')?).err() == Some(Refusal::HoldFull);
-    all &= held.offer(insertion(2, 'a')?)? == Arrival::Again;
-    all &= held.offer(insertion(2, 'z')?).err() == Some(Refusal::Conflict);
-    Ok(all)
-}
-
-#[test]
-fn at_most_1024_are_held(rt: HostRuntime) -> Result<(), Fail> {
-    assert!(rt; lend(Held::new(rt.alloc()), keeps_1024)?);
     Ok(())
 }

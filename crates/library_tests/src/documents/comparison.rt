@@ -3,7 +3,6 @@ use crate::dice::Dice;
 use crate::documents::checked::{
     edit_at, edit_units_at, element_at, integrate, len_at, next_op, op_at, unit_at, units_at,
 };
-use crate::documents::lives::Lives;
 use crate::plain::{Insertion, Plain, edit_of, edit_units_of};
 use causal_clock::{Clock, Op};
 use characters::Characters;
@@ -106,18 +105,21 @@ fn is_text_of(text: &Characters, visible: &[Insertion]) -> bool {
     chars.next().is_none()
 }
 
-/// Whether the version shows these elements: its length, its text, and the elements at some places.
-fn shows(doc: &Doc, version: u32, visible: &[Insertion], dice: &mut Dice) -> Result<bool, Refusal> {
-    if len_at(doc, version) != Some(visible.len()) || !is_text_of(&doc.reading(version)?, visible) {
-        return Ok(false);
-    }
-    for _ in 0..16 {
-        let place = dice.roll(visible.len().saturating_add(1));
-        if element_at(doc, version, place) != visible.get(place).map(|x| x.stamp) {
-            return Ok(false);
+/// Whether the version has these elements, each at its place, and none behind them.
+fn has_elements(doc: &Doc, version: u32, visible: &[Insertion]) -> bool {
+    for (place, x) in visible.iter().enumerate() {
+        if element_at(doc, version, place) != Some(x.stamp) {
+            return false;
         }
     }
-    Ok(true)
+    element_at(doc, version, visible.len()).is_none()
+}
+
+/// Whether the version shows these elements: its length, its text, and the element at each place.
+fn shows(doc: &Doc, version: u32, visible: &[Insertion]) -> Result<bool, Refusal> {
+    let has_text = len_at(doc, version) == Some(visible.len())
+        && is_text_of(&doc.reading(version)?, visible);
+    Ok(has_text && has_elements(doc, version, visible))
 }
 
 /// The UTF-16 units of these elements, in order: the stamp of each, and 1 for the second of a pair, else 0.
@@ -168,7 +170,7 @@ fn shows_in_both(
     visible: &[Insertion],
     dice: &mut Dice,
 ) -> Result<bool, Refusal> {
-    let all = shows(doc, version, visible, dice)?;
+    let all = shows(doc, version, visible)?;
     Ok(has_units(alloc, doc, version, visible, dice)? && all)
 }
 
@@ -199,7 +201,7 @@ fn is_as_defined(
     shown: &mut Vec<Insertion>,
     dice: &mut Dice,
 ) -> Result<bool, Refusal> {
-    let mut all = true;
+    let mut all = shows(doc, 0, shown)?;
     for version in 0..MANY {
         all &= is_next(alloc, doc, plain, version, shown, dice)?;
     }
@@ -223,60 +225,5 @@ fn each_is_as_defined(alloc: Global) -> Result<bool, Refusal> {
 #[test]
 fn each_version_is_as_defined(rt: HostRuntime) -> Result<(), Fail> {
     assert!(rt; each_is_as_defined(rt.alloc())?);
-    Ok(())
-}
-
-/// Puts the log into the plain program and into the elements' lives, in the one order.
-fn live(alloc: Global, doc: &Doc, plain: &mut Plain, lives: &mut Lives) -> Result<(), Refusal> {
-    for version in 0..MANY {
-        let op = op_at(doc, version).ok_or(Refusal::BadVersion)?;
-        plain.add(alloc, op.stamp(), op.kind())?;
-        lives.add(&op, version.saturating_add(1))?;
-    }
-    Ok(lives.order(alloc, plain)?)
-}
-
-/// Puts the log into the elements' lives.
-fn live_alone(alloc: Global, doc: &Doc, lives: &mut Lives) -> Result<(), Refusal> {
-    live(alloc, doc, &mut Plain::new(alloc), lives)
-}
-
-/// Whether the version has these elements, each at its place, and none behind them.
-fn has_elements(doc: &Doc, version: u32, stamps: &[Stamp]) -> bool {
-    for (place, stamp) in stamps.iter().enumerate() {
-        if element_at(doc, version, place) != Some(*stamp) {
-            return false;
-        }
-    }
-    element_at(doc, version, stamps.len()).is_none()
-}
-
-/// Whether the version has the elements that a scan of the lives finds.
-fn is_found(alloc: Global, doc: &Doc, lives: &Lives, version: u32) -> Result<bool, AllocError> {
-    Ok(has_elements(doc, version, &lives.visible(alloc, version)?))
-}
-
-/// Whether each version of a long document has the elements that a scan of the lives finds.
-fn each_of_a_long_one_is_found(
-    alloc: Global,
-    doc: &mut Doc,
-    lives: &mut Lives,
-) -> Result<bool, Refusal> {
-    fill_alone(alloc, doc)?;
-    live_alone(alloc, doc, lives)?;
-    let mut all = true;
-    for version in 0..MANY + 1 {
-        all &= is_found(alloc, doc, lives, version)?;
-    }
-    Ok(all)
-}
-
-fn each_is_found(alloc: Global) -> Result<bool, Refusal> {
-    each_of_a_long_one_is_found(alloc, &mut Doc::new(alloc), &mut Lives::new(alloc))
-}
-
-#[test]
-fn each_place_of_each_version_is_found_as_by_a_scan(rt: HostRuntime) -> Result<(), Fail> {
-    assert!(rt; each_is_found(rt.alloc())?);
     Ok(())
 }
