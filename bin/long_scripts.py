@@ -235,30 +235,6 @@ def many_sessions():
     return script
 
 
-def turns_of_all_lengths():
-    """64 sessions, of both counts in turn, take turns at version after version, by arithmetic: each joins, and puts in, pulls, deletes and
-    pulls as many characters as its number, is told what it put in, and reads; then as many letters of site 1 are handed over. The
-    last one leaves. The keys stand in the order of the page."""
-    script, version, letters = Script(), 0, 0
-    ask = lambda reply, **request: script.event(json.dumps(request, separators=(",", ":"), ensure_ascii=False), reply)
-    run = lambda clock, place, site, text: {"c": clock, "k": "r" if len(text) > 1 else "i", "p": place, "s": site, "x": text}
-    for s in range(1, 65):
-        units, typed, erased = s % 2 == 0, version + s, version + 2 * s
-        ask({"r": "joined", "s": s, "v": version, "x": "x" * letters}, t="join", **({"u": 16} if units else {}))
-        ask({"from": version, "r": "ok", "to": typed}, t="ins", s=s, n=1, v=version, k=0, x="\u00e9" * s)
-        ask({"es": [["i", at, "\u00e9"] for at in range(s)], "from": version, "r": "edits"}, t="pull", s=s, have=version, max=s)
-        ask({"from": typed, "r": "ok", "to": erased}, t="del", s=s, n=2, v=typed, k=0, c=s)
-        ask({"es": [["d", 0, 1] if units else ["d", 0]] * s, "from": typed, "r": "edits"}, t="pull", s=s, have=typed, max=s)
-        clock = [[0, version - letters + 1]] + ([[1, letters]] if letters else [])
-        ask({"from": version, "ops": [run(clock, None, 0, "\u00e9" * s)], "r": "ops"}, t="ops", after=version, max=s)
-        ask({"r": "text", "v": erased, "x": "x" * letters}, t="read")
-        behind = [letters, 1] if letters else None
-        ask({"os": [["took", 1, 0]] * s, "r": "put"}, t="put", ops=[run([[1, letters + 1]], behind, 1, "x" * s)])
-        version, letters = erased + s, letters + s
-    ask({"r": "left"}, t="leave", s=64)
-    return script
-
-
 def runs_of_all_lengths():
     """Site 0 puts in runs of each length from 1 to 64, of characters of one to four bytes and of all of them, each at the head. It is
     asked for each run, for its beginning, and from the operation before it on. Gives the script, and the room."""
