@@ -1,5 +1,5 @@
-"""What bin/try_kept and bin/try_serving have in common: servers that keep their rooms, what stands in their files, and editors that
-type."""
+"""What bin/try_kept, bin/try_serving and bin/try_together have in common: servers that keep their rooms, what stands in their files,
+and editors that type."""
 import atexit
 import json
 import os

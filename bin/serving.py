@@ -62,8 +62,7 @@ class WebSocket:
         self.held = b""
 
     def shake(self, pieces=1):
-        """Asks for a WebSocket, in so many pieces that are 50 ms apart: the first line of the response, or all of it where it doesn't
-        take the handshake."""
+        """Asks for a WebSocket, in so many pieces that are 50 ms apart: the first line of the response, or what is wrong with it."""
         asked = handshake()
         for at in range(pieces):
             time.sleep(0.05 if at else 0)
@@ -71,7 +70,7 @@ class WebSocket:
         while b"\r\n\r\n" not in self.held:
             self.read()
         head, self.held = self.held.split(b"\r\n\r\n", 1)
-        return head.split(b"\r\n")[0] if is_taken(asked, head) else head
+        return head.split(b"\r\n")[0] if is_taken(asked, head) else b"doesn't take the handshake: " + head
 
     def read(self):
         block = self.line.recv(65536)

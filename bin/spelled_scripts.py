@@ -40,7 +40,8 @@ def spelled(request):
 
 def spelled_requests():
     """Requests of each kind, with texts of every length and as many operations as a put may have, each in the ways in which it may be
-    spelled. A text that is too long is refused, as long as a request may be; what was put in and handed over is asked for."""
+    spelled, the later ones with numbers of their own. A text that is too long is refused, as long as a request may be; what was put in
+    and handed over is asked for."""
     script, room, letters = Script(), Room(0), []
     ask = lambda line, request: script.event(line, room.answer(request))
 
@@ -78,6 +79,11 @@ def spelled_requests():
     each(t="pull", s=2 ** 32 - 1, have=70_000, max=0)
     each(t="del", s=12, n=3, v=100_000, k=2 ** 32 - 1, c=37)
     each(t="del", s=12, n=1, v=1, k=0, c=1)
+    for way in range(3):
+        ask(compact(request := {"t": "pull", "s": 12, "have": room.sessions[12].sent, "max": 64}), request)
+        for kind in ({"t": "ins", "k": way + 3, "x": "\u00e9" * (way + 2)}, {"t": "del", "k": way + 5, "c": way + 2}):
+            request = {"t": "", "s": 12, "n": room.sessions[12].last + 1, "v": room.sessions[12].sent, **kind}
+            ask(spelled(request)[way], request)
     each(t="read")
     for line, why in (
         ("", 1),

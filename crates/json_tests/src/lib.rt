@@ -5,4 +5,6 @@
 #[cfg(test)]
 mod operation_objects;
 #[cfg(test)]
+mod requests;
+#[cfg(test)]
 mod runs;

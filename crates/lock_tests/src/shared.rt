@@ -10,11 +10,11 @@ use std::alloc::{AllocError, Global};
 use std::sync::Wait;
 use std::test::Fail;
 
-// An empty room of this site that is shared.
-pub(crate) fn shared(alloc: Global, site: u8) -> Result<(SharedRoom, Pass), Fail>
+// An empty room of site 0 that is shared.
+pub(crate) fn shared(alloc: Global) -> Result<(SharedRoom, Pass), Fail>
     ensures { IfOk result (λ r. IsPassOf r.0 r.1) }
 {
-    Ok(SharedRoom::new(alloc, Room::new(alloc, Site::new(site)?))?)
+    Ok(SharedRoom::new(alloc, Room::new(alloc, Site::new(0)?))?)
 }
 
 // The room that was shared, if the pass has a draw and no ticket is open.
@@ -46,14 +46,14 @@ fn reads<R: Wait>(rt: &R, room: &SharedRoom, pass: &mut Pass, characters: &str) 
     }
 }
 
-// The `n`-th submission of a session, a letter in front of this version.
-fn front(alloc: Global, s: u32, n: u32, v: u32, letter: char) -> Result<Call, AllocError> {
+// The `n`-th submission of a session, a letter in front of version 0.
+fn front(alloc: Global, s: u32, n: u32, letter: char) -> Result<Call, AllocError> {
     let mut text = String::new(alloc);
     text.push(letter)?;
     Ok(Call::Ins {
         s,
         n,
-        v,
+        v: 0,
         k: 0,
         x: Characters::new(text),
     })
@@ -61,7 +61,7 @@ fn front(alloc: Global, s: u32, n: u32, v: u32, letter: char) -> Result<Call, Al
 
 // One letter of each of two sessions, both in front of version 0.
 fn two_letters(alloc: Global) -> Result<(Call, Call), AllocError> {
-    Ok((front(alloc, 1, 1, 0, 'a')?, front(alloc, 2, 1, 0, 'b')?))
+    Ok((front(alloc, 1, 1, 'a')?, front(alloc, 2, 1, 'b')?))
 }
 
 // The room's text.
@@ -133,7 +133,8 @@ fn two_take_turns<R: Wait>(rt: &R, alloc: Global, room: &SharedRoom, one: &mut P
     };
     let all = take_turns(rt, room, one, &mut other, first, second) && other.left() == 0;
     room.join(one, other);
-    room.call(rt, one, Call::Read).is_ok() & all
+    let read = room.call(rt, one, Call::Read).is_ok();
+    all && read && one.left() == (1 << 62) - 9
 }
 
 // Whether this is the call that was made at this place.
@@ -169,7 +170,7 @@ fn has_their_calls(room: &Room) -> bool {
 
 #[test]
 fn passes_take_their_turns_and_meet(rt: HostRuntime) -> Result<(), Fail> {
-    let (room, mut one) = shared(rt.alloc(), 0)?;
+    let (room, mut one) = shared(rt.alloc())?;
     let all = two_take_turns(&rt, rt.alloc(), &room, &mut one);
     let has = closed(room, one).is_some_and(|closed| has_their_calls(&closed));
     assert!(rt; all && has);
@@ -182,7 +183,10 @@ fn is_alone(room: &SharedRoom, pass: &mut Pass) -> bool
     ensures { IsPassOf room.now pass.new }
 {
     let mut all = room.try_call(pass, Call::Join { units: false }).is_ok();
-    all &= room.try_call(pass, Call::Read).is_ok();
+    all &= matches!(
+        &room.try_call(pass, Call::Leave { s: 2 }),
+        Ok(Reply::No(Refusal::NoSession))
+    );
     let left = pass.left();
     all &= room.split(pass, u64::MAX).is_err() && room.split(pass, 0).is_ok();
     all && pass.left() == left
@@ -205,7 +209,7 @@ fn makes_one_call<R: Wait>(rt: &R, room: &SharedRoom, pass: &mut Pass) -> bool
 
 #[test]
 fn a_lone_pass_is_never_busy_and_one_draw_is_one_call(rt: HostRuntime) -> Result<(), Fail> {
-    let (room, mut pass) = shared(rt.alloc(), 0)?;
+    let (room, mut pass) = shared(rt.alloc())?;
     let alone = is_alone(&room, &mut pass);
     assert!(rt; makes_one_call(&rt, &room, &mut pass) && alone);
     Ok(())
@@ -218,7 +222,7 @@ fn types<R: Wait>(rt: &R, alloc: Global, room: &SharedRoom, pass: &mut Pass) -> 
 {
     let mut all = joins(rt, room, pass);
     for n in 1..4 {
-        let Ok(call) = front(alloc, 1, n, 0, 'a') else {
+        let Ok(call) = front(alloc, 1, n, 'a') else {
             return false;
         };
         all &= room.call(rt, pass, call).is_ok();
@@ -263,7 +267,7 @@ fn is_seen<R: Wait>(rt: &R, room: &SharedRoom, pass: &mut Pass) -> bool
 
 #[test]
 fn a_look_records_nothing(rt: HostRuntime) -> Result<(), Fail> {
-    let (room, mut pass) = shared(rt.alloc(), 0)?;
+    let (room, mut pass) = shared(rt.alloc())?;
     let typed = types(&rt, rt.alloc(), &room, &mut pass);
     let left = pass.left();
     let all = is_seen(&rt, &room, &mut pass) && pass.left() + 5 == left;

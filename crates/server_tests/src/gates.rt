@@ -12,11 +12,29 @@ use std::thread::{Threads, join, sleep};
 use std::time::{Clock, Duration};
 use ws_server::{Gate, Hall, HallPass};
 
-// Holds its connection's first call until the other's first was answered, for at most 1,000,000 turns.
+// Whether one connection is held, and which call of the other was answered.
+#[derive(Drop)]
+struct Flags {
+    held: AtomicU64,
+    answered: AtomicU64,
+}
+
+// Whether a flag is raised within 1,000,000 turns.
+fn is_raised<R: Clock>(rt: &R, flag: &AtomicU64) -> bool {
+    for _ in 0..1_000_000 {
+        if flag.load(Ordering::SeqCst) > 0 {
+            return true;
+        }
+        sleep(rt, Duration::from_micros(10));
+    }
+    false
+}
+
+// Holds its connection's first call until the other's first was answered.
 #[derive(Drop)]
 struct Holding<'a, R: Clock> {
     rt: &'a R,
-    answered: &'a AtomicU64,
+    flags: &'a Flags,
     gave_up: bool,
 }
 
@@ -26,36 +44,36 @@ impl<R: Clock> Gate for Holding<'_, R> {
     ghost told_after = { λ _ _ _. Unit {0} };
 
     fn before(&mut self, n: u64) {
-        if n != 1 {
-            return;
+        if n == 1 {
+            self.flags.held.store(1, Ordering::SeqCst);
+            self.gave_up = !is_raised(self.rt, &self.flags.answered);
         }
-        for _ in 0..1_000_000 {
-            if self.answered.load(Ordering::SeqCst) > 0 {
-                return;
-            }
-            sleep(self.rt, Duration::from_micros(10));
-        }
-        self.gave_up = true;
     }
 
     fn after(&mut self, _n: u64) {}
 }
 
-// Tells that a call was answered.
+// Makes its connection's first call once the other is held, and tells that it was answered.
 #[derive(Drop)]
-struct Telling<'a> {
-    answered: &'a AtomicU64,
+struct Telling<'a, R: Clock> {
+    rt: &'a R,
+    flags: &'a Flags,
+    gave_up: bool,
 }
 
-impl Gate for Telling<'_> {
+impl<R: Clock> Gate for Telling<'_, R> {
     ghost told_before = { λ _ _ _. Unit {0} };
 
     ghost told_after = { λ _ _ _. Unit {0} };
 
-    fn before(&mut self, _n: u64) {}
+    fn before(&mut self, n: u64) {
+        if n == 1 {
+            self.gave_up = !is_raised(self.rt, &self.flags.held);
+        }
+    }
 
     fn after(&mut self, n: u64) {
-        self.answered.store(n, Ordering::SeqCst);
+        self.flags.answered.store(n, Ordering::SeqCst);
     }
 }
 
@@ -65,14 +83,14 @@ fn is_held<R: Wait + Clock>(
     alloc: Global,
     hall: &Hall,
     pass: &mut HallPass,
-    answered: &AtomicU64,
+    flags: &Flags,
 ) -> bool
     requires { IsHallPassOf hall.now pass.old }
     ensures { IsHallPassOf hall.now pass.new }
 {
     let mut gate = Holding {
         rt,
-        answered,
+        flags,
         gave_up: false,
     };
     let parts = [HEAD, OPEN, TYPE_A, CLOSE];
@@ -89,29 +107,36 @@ fn types_when_let_in<R: Wait + Clock>(
     alloc: Global,
     hall: &Hall,
     mut pass: HallPass,
-    answered: &AtomicU64,
+    flags: &Flags,
 ) -> bool
     requires { IsHallPassOf hall.now pass }
 {
-    let mut all = is_held(rt, alloc, hall, &mut pass, answered);
+    let mut all = is_held(rt, alloc, hall, &mut pass, flags);
     all &= reads(rt, alloc, hall, &mut pass, reading_after(4));
     all
 }
 
 // The other opens a session and goes: whether it ends well.
-fn joins<R: Wait>(
+fn joins<R: Wait + Clock>(
     rt: &R,
     alloc: Global,
     hall: &Hall,
     mut pass: HallPass,
-    answered: &AtomicU64,
+    flags: &Flags,
 ) -> bool
     requires { IsHallPassOf hall.now pass }
 {
-    let mut gate = Telling { answered };
+    let mut gate = Telling {
+        rt,
+        flags,
+        gave_up: false,
+    };
     let parts = [HEAD, OPEN, JOIN, CLOSE];
     let record = Record::new(0);
-    serve_script(rt, alloc, hall, &mut pass, &parts, &record, &mut gate) == Ok(())
+    let end = serve_script(rt, alloc, hall, &mut pass, &parts, &record, &mut gate);
+    let mut all = end == Ok(());
+    all &= !gate.gave_up;
+    all
 }
 
 // Serves both to their ends at once.
@@ -124,15 +149,18 @@ fn serves_two<R: Threads + Wait + Clock + Sync>(
 ) -> bool
     requires { IsHallPassOf hall.now held × IsHallPassOf hall.now free }
 {
-    let answered = AtomicU64::new(0);
+    let flags = Flags {
+        held: AtomicU64::new(0),
+        answered: AtomicU64::new(0),
+    };
     let both = join(
         rt,
         || -> bool
             requires { IsSync R.row × IsHallPassOf hall.now held }
-        { types_when_let_in(rt, alloc, hall, held, &answered) },
+        { types_when_let_in(rt, alloc, hall, held, &flags) },
         || -> bool
             requires { IsSync R.row × IsHallPassOf hall.now free }
-        { joins(rt, alloc, hall, free, &answered) },
+        { joins(rt, alloc, hall, free, &flags) },
     );
     both.0 && both.1
 }

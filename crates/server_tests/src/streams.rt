@@ -79,6 +79,7 @@ impl Read for Script<'_> {
         self.record.call(ServeFault::Read)?;
         let given = self.record.given.get();
         let Some(part) = self.parts.get(given) else {
+            self.record.fault.set(Some(ServeFault::Read));
             return Ok(0);
         };
         let n = part.len().min(buf.len());
