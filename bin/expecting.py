@@ -1,22 +1,15 @@
-"""How the scripts that try a server judge it: what they expect, clients that look whether they are answered, and the verdict."""
+"""How the scripts that try a server judge it: the program, which is built first, and clients that look whether they are
+answered."""
 import json
 import subprocess
-import sys
 
 from conversations import TOP
 from serving import CLOSE, WebSocket
+from verdict import expect
 
 PROGRAM = str(TOP / "bin" / "rgatext")
 subprocess.run([PROGRAM, "--help"], check=True, stdout=subprocess.DEVNULL)  # (it is built first, where it isn't)
 JOIN, READ = '{"t":"join"}', '{"t":"read"}'
-failed = False
-
-
-def expect(title, got, wanted):
-    global failed
-    if got != wanted:
-        failed = True
-        print(f"{title}: {got!r:.2000}, and not {wanted!r:.2000}")
 
 
 class Peer(WebSocket):
@@ -54,9 +47,3 @@ def text(port, room="notes"):
     answer = json.loads(peer.ask(READ))
     peer.close()
     return answer["x"]
-
-
-def end(name):
-    """Says whether all was as told, and ends."""
-    print(f"bin/{name}: " + ("not all is as told" if failed else "all is as told"))
-    sys.exit(failed)

@@ -14,11 +14,13 @@ import threading
 import time
 
 import expecting
+import verdict
 from conversations import TOP
-from expecting import JOIN, PROGRAM, expect, opened
+from expecting import JOIN, PROGRAM, opened
 from plain_world import object_of, operation_of, packed
 from refusing import library
 from serving import free_port
+from verdict import expect
 
 BUILT = str(TOP / "crates" / "rgatext" / "out" / "rgatext")
 EVERY = 1
@@ -194,4 +196,4 @@ def refused(title, folder, *words, told, rooms=("notes",), named=None, **failing
 def end(name):
     """Says whether all was as told, and ends."""
     room.cleanup()
-    expecting.end(name)
+    verdict.end(name)
