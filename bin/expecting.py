@@ -1,5 +1,4 @@
-"""How the scripts that try a server judge it: the program, which is built first, and clients that look whether they are
-answered."""
+"""How the scripts that try a server judge it: the program, and clients that look whether they are answered."""
 import json
 import subprocess
 
@@ -8,8 +7,12 @@ from serving import CLOSE, WebSocket
 from verdict import expect
 
 PROGRAM = str(TOP / "bin" / "rgatext")
-subprocess.run([PROGRAM, "--help"], check=True, stdout=subprocess.DEVNULL)  # (it is built first, where it isn't)
 JOIN, READ = '{"t":"join"}', '{"t":"read"}'
+
+
+def build():
+    """Builds the program where it isn't, so that no trial has to wait for it."""
+    subprocess.run([PROGRAM, "--help"], check=True, stdout=subprocess.DEVNULL)
 
 
 class Peer(WebSocket):

@@ -31,6 +31,13 @@ room = tempfile.TemporaryDirectory()
 top = pathlib.Path(room.name)
 
 
+def new_folder(name):
+    """A folder for the rooms of a trial."""
+    folder = top / name
+    folder.mkdir()
+    return folder
+
+
 class Server:
     """A run of the server over a folder."""
 

@@ -6,7 +6,8 @@ import itertools
 import json
 import random
 
-from plain_world import LIMIT, MOST_HELD, SITES, Room, World, clock_of, edits_in_one_order, object_of, operation_of, packed, places, width
+from plain_world import LIMIT, MOST_HELD, SITES, Room, World, clock_of, edits_in_one_order, no, object_of, operation_of
+from plain_world import packed, places, width
 
 ALPHABET = "abcdefghijklmnopqrstuvwxyz"
 CHARACTERS = ALPHABET + ' é\u20ac"\\' + 4 * "\U0001f600\U00010000\U0010ffff"
@@ -14,10 +15,6 @@ CHARACTERS = ALPHABET + ' é\u20ac"\\' + 4 * "\U0001f600\U00010000\U0010ffff"
 
 def compact(value):
     return json.dumps(value, separators=(",", ":"), sort_keys=True, ensure_ascii=False)
-
-
-def no(why):
-    return {"n": why, "r": "no"}
 
 
 def put(*outcome):

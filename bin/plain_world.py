@@ -157,7 +157,7 @@ class Room:
         try:
             return getattr(self, "answer_" + request["t"])(**{key: request[key] for key in request if key != "t"})
         except Refused as why:
-            return {"n": why.number, "r": "no"}
+            return no(why.number)
 
     def answer_join(self, **counts):
         if counts not in ({}, {"u": 16}):
@@ -296,6 +296,11 @@ class Refused(Exception):
         self.number = why
 
 
+def no(why):
+    """The reply of a request that is refused by this number."""
+    return {"n": why, "r": "no"}
+
+
 class World:
     """Rooms of several sites."""
 
@@ -304,23 +309,23 @@ class World:
 
     def call(self, site, request):
         if site not in self.rooms:
-            return {"n": 4, "r": "no"}
+            return no(4)
         return self.rooms[site].answer(request)
 
     def carry(self, source, n, target):
         if source not in self.rooms or target not in self.rooms:
-            return {"n": 4, "r": "no"}
+            return no(4)
         if n >= len(self.rooms[source].log):
-            return {"n": 23, "r": "no"}
+            return no(23)
         return {"os": [self.rooms[target].put(self.rooms[source].log[n])], "r": "put"}
 
     def fork(self, new, source, n):
         if new in self.rooms:
-            return {"n": 27, "r": "no"}
+            return no(27)
         if source not in self.rooms:
-            return {"n": 4, "r": "no"}
+            return no(4)
         if n > len(self.rooms[source].log):
-            return {"n": 23, "r": "no"}
+            return no(23)
         self.rooms[new] = Room(new, self.rooms[source].log[:n])
         return {"r": "forked"}
 

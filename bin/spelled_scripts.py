@@ -3,8 +3,8 @@ plain world."""
 import itertools
 import json
 
-from long_scripts import Script, compact, no
-from plain_world import SITES, Room, object_of, operation_of
+from long_scripts import Script, compact
+from plain_world import SITES, Room, no, object_of, operation_of
 
 
 def turns_of_all_lengths():
