@@ -2,6 +2,7 @@
 import json
 import subprocess
 
+import plain_world
 from conversations import TOP
 from serving import CLOSE, WebSocket
 from verdict import expect
@@ -13,6 +14,11 @@ JOIN, READ = '{"t":"join"}', '{"t":"read"}'
 def build():
     """Builds the program where it isn't, so that no trial has to wait for it."""
     subprocess.run([PROGRAM, "--help"], check=True, stdout=subprocess.DEVNULL)
+
+
+def no(number):
+    """The reply of a request that is refused by this number."""
+    return json.dumps(plain_world.no(number), separators=(",", ":"))
 
 
 class Peer(WebSocket):
