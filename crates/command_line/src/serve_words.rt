@@ -18,13 +18,10 @@ pub(crate) fn serve_command<'a>(alloc: Global) -> Result<Command<'a>, AllocError
     ensures shape { IfOk result (λ made. app_of made ≡ serve_command) }
     ensures local { IfOk result (λ made. (out-Command made).has_globals ≡ false) }
 {
-    let keep = keep_arg(alloc);
-    let every = every_arg(alloc);
-    let name = name_arg(alloc);
     let serve = line_command(alloc)?;
-    let serve = serve.arg(keep)?;
-    let serve = serve.arg(every)?;
-    serve.arg(name)
+    let serve = serve.arg(keep_arg(alloc))?;
+    let serve = serve.arg(every_arg(alloc))?;
+    serve.arg(name_arg(alloc))
 }
 
 // The subcommand with what it is told of its connections alone.
@@ -33,15 +30,12 @@ fn line_command<'a>(alloc: Global) -> Result<Command<'a>, AllocError>
         ≡ with_rule (with_rule (with_rule (new_app (codes "serve")) port_option) site_option) conns_option) }
     ensures local { IfOk result (λ made. (out-Command made).has_globals ≡ false) }
 {
-    let port = port_arg(alloc);
-    let site = site_arg(alloc).help(
-        "The rooms' site number, 0 to 31: 0, or with --keep the least that no kept log has an operation of",
-    );
-    let conns = conns_arg(alloc);
     let serve = Command::new(alloc, "serve").about("Serves rooms over WebSockets");
-    let serve = serve.arg(port)?;
-    let serve = serve.arg(site)?;
-    serve.arg(conns)
+    let serve = serve.arg(port_arg(alloc))?;
+    let serve = serve.arg(site_arg(alloc).help(
+        "The rooms' site number, 0 to 31: 0, or with --keep the least that no kept log has an operation of",
+    ))?;
+    serve.arg(conns_arg(alloc))
 }
 
 fn port_arg<'a>(alloc: Global) -> Arg<'a>

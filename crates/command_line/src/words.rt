@@ -41,39 +41,35 @@ fn command<'a>(alloc: Global) -> Result<Command<'a>, AllocError>
     ensures { IfOk result (λ made. app_of made ≡ rgatext) }
 {
     let lines = lines_command(alloc)?;
-    let text = text_command(alloc)?;
-    let world = world_command(alloc)?;
-    let serve = serve_command(alloc)?;
-    let top = Command::new(alloc, "rgatext")
-        .about("A replicated text server")
-        .subcommand_required(true);
+    let top = Command::new(alloc, "rgatext").about("A replicated text server");
     let top = top.subcommand(lines)?;
+    let text = text_command(alloc)?;
     let top = top.subcommand(text)?;
+    let world = world_command(alloc)?;
     let top = top.subcommand(world)?;
-    top.subcommand(serve)
+    let serve = serve_command(alloc)?;
+    let top = top.subcommand(serve)?;
+    Ok(top.subcommand_required(true))
 }
 
 fn lines_command<'a>(alloc: Global) -> Result<Command<'a>, AllocError>
     ensures shape { IfOk result (λ made. app_of made ≡ lines_command) }
     ensures local { IfOk result (λ made. (out-Command made).has_globals ≡ false) }
 {
-    let site = site_or_zero_arg(alloc);
-    let resume = flag_arg(
-        alloc,
-        "resume",
-        "The input's first line is a snapshot that the room opens over",
-    );
-    let snapshot = flag_arg(
-        alloc,
-        "snapshot",
-        "Writes the room's snapshot as the last line",
-    );
     let lines = Command::new(alloc, "lines").about(
         "Serves requests from standard input to standard output, one a line",
     );
-    let lines = lines.arg(site)?;
-    let lines = lines.arg(resume)?;
-    lines.arg(snapshot)
+    let lines = lines.arg(site_or_zero_arg(alloc))?;
+    let lines = lines.arg(flag_arg(
+        alloc,
+        "resume",
+        "The input's first line is a snapshot that the room opens over",
+    ))?;
+    lines.arg(flag_arg(
+        alloc,
+        "snapshot",
+        "Writes the room's snapshot as the last line",
+    ))
 }
 
 fn text_command<'a>(alloc: Global) -> Result<Command<'a>, AllocError>

@@ -1,21 +1,23 @@
--- What each step of the chain makes of the command line.
+-- What each step of the chain makes of the command line. The right sides are given: to find them takes longer than all else here.
 use Rattle.std.proofs.Common.{◌≡◌, ◌∙◌, ap, ap₂, codes, true}
-use Rattle.std.proofs.lemmas.Result.{IfOk-weaker}
 use Rattle.clap.specs.Words.{App, app_of, new_app, with_subcommand}
 use Rattle.clap.specs.Simple.{app_of_fields, on_top}
+use Rattle.command_line.specs.CommandLine.{lines_command, text_command, world_command, serve_command}
 use Rattle.command_line.proofs.words.command.Goals as goal
 
 pub returns : goal.returns
 returns c =
-    let top_is : app_of c.subcommand_required-top.result ≡ on_top (λ s. record s { subcommand_required = true })
-    (new_app (codes "rgatext")) =
-    ap app_of_fields c.subcommand_required-top.ensures ∙ ap (λ (a : App). on_top (λ s. record s { subcommand_required = true }) a)
-    (ap app_of_fields c.about.ensures ∙ c.new.ensures.app) in
-    let first = c.in_ok-top.ensures.shape c.in_ok-lines.ensures.local
-    ∙ ap₂ with_subcommand top_is (ap (λ (a : App). a.top) c.in_ok-lines.ensures.shape) in
-    let second = c.in_ok-top-2.ensures.shape c.in_ok-text.ensures.local
+    let of_lines = with_subcommand (new_app (codes "rgatext")) lines_command.top in
+    let of_text = with_subcommand of_lines text_command.top in
+    let of_world = with_subcommand of_text world_command.top in
+    let named : app_of c.about-top.result ≡ new_app (codes "rgatext") = ap app_of_fields c.about-top.ensures ∙ c.new.ensures.app in
+    let first : _ ≡ of_lines = c.in_ok-top.ensures.shape c.in_ok-lines.ensures.local
+    ∙ ap₂ with_subcommand named (ap (λ (a : App). a.top) c.in_ok-lines.ensures.shape) in
+    let second : _ ≡ of_text = c.in_ok-top-2.ensures.shape c.in_ok-text.ensures.local
     ∙ ap₂ with_subcommand first (ap (λ (a : App). a.top) c.in_ok-text.ensures.shape) in
-    let third = c.in_ok-top-3.ensures.shape c.in_ok-world.ensures.local
+    let third : _ ≡ of_world = c.in_ok-top-3.ensures.shape c.in_ok-world.ensures.local
     ∙ ap₂ with_subcommand second (ap (λ (a : App). a.top) c.in_ok-world.ensures.shape) in
-    IfOk-weaker c.subcommand-4.result _ _ (λ made h. h.shape c.in_ok-serve.ensures.local
-    ∙ ap₂ with_subcommand third (ap (λ (a : App). a.top) c.in_ok-serve.ensures.shape)) c.subcommand-4.ensures
+    let fourth : _ ≡ with_subcommand of_world serve_command.top = c.in_ok-top-4.ensures.shape c.in_ok-serve.ensures.local
+    ∙ ap₂ with_subcommand third (ap (λ (a : App). a.top) c.in_ok-serve.ensures.shape) in
+    ap app_of_fields c.subcommand_required.ensures
+    ∙ ap (λ (a : App). on_top (λ s. record s { subcommand_required = true }) a) fourth
