@@ -104,7 +104,6 @@ impl<T: Trailed> TicketLock<T> {
     /// As the next in line it looks 64 times, and then sleeps on the number of the ticket that is served until a
     /// `leave` wakes it. Further back it sleeps beside the bell of its ticket until it is the next in line.
     /// Beside the wait it takes constant time, with one look each time that it is woken, and no memory.
-    #[tactic(auto, using(crate::proofs::Turns::first_finds_opening))]
     pub fn enter<R: Wait>(&self, rt: &R, ticket: Ticket, pass: &mut Pass<T>) -> Hold<T>
         requires pass { IsPassOf self.now pass.old }
         requires ticket { HasDrawn pass.old ticket }
