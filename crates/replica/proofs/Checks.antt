@@ -129,19 +129,6 @@ pub deliver-took : (site : ℕ) (log held : List Operation) (x : Operation) → 
     (settle (record { log = log ++ x ∷ []; held = held; taken = 1; dropped = 0 }))
 deliver-took site log held x c e f w a = goes site log held x None c e f w a
 
-pub ruleset ways = (
-  deliver-own,
-  deliver-in_log,
-  deliver-other_in_log,
-  deliver-held,
-  deliver-other_held,
-  deliver-kept,
-  deliver-kept_again,
-  deliver-not_kept,
-  deliver-refused,
-  deliver-took,
-)
-
 -- what is kept finds fewer than 1,024
 pub kept-few : (held : List Operation) (x : Operation) → offered x held ≡ Ok arrivals.Kept → length held < 1024
 kept-few held x e = go (look_for x held) e

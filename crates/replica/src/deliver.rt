@@ -73,7 +73,6 @@ fn integrate(log: &mut Log, held: &mut Held, room: usize, op: &Op) -> Result<Tal
 /// Refused, in this order: `OwnSite`, `Conflict`; what isn't ready with `HoldFull`; what is with `Full`, `NotRising`,
 /// `UnknownElement`, `NotOlder`. `Memory` may come in place of these, but not of the first two, and only where the room
 /// isn't above what is held.
-#[tactic(auto, using(crate::proofs::Checks::ways))]
 pub(crate) fn deliver(
     site: Site,
     log: &mut Log,

@@ -79,9 +79,14 @@ impl Replica {
         ensures ok { IfOk result (λ r. r ≡ record { site = site; log = doc.log; held = []; room = 0 }) }
         ensures memory { IfErr result (λ e. e ≡ Memory) }
     {
-        let mut replica = Replica::new(alloc, site);
-        replica.log = Log::over(alloc, doc)?;
-        Ok(replica)
+        let log = Log::over(alloc, doc)?;
+        Ok(Replica {
+            site,
+            log,
+            held: Held::new(alloc),
+            room: 0,
+            alloc,
+        })
     }
 
     /// The site. Constant time.

@@ -1,12 +1,14 @@
--- Why each check refuses.
+-- What each check leads to.
 use Rattle.std.proofs.Common.{◌≡◌, ◌∙◌, ◌<◌, Ok, Err, false, true, ap, sym, arith, inl, inr, length}
 use Rattle.std.proofs.lemmas.Result.{err_from_is_err_and}
-use Rattle.holdback.specs.Offered.{look_for}
+use Rattle.holdback.specs.Offered.{HeldOperations, look_for, after_arrival}
 use Rattle.opid.specs.Clocks.{is_next}
 use Rattle.opid.specs.Delivery.{clock_of, is_ready}
 use Rattle.versions.specs.Document as document
-use Rattle.replica.specs.Deliver.{Delivered, claims_site}
-use Rattle.replica.proofs.Checks.{deliver-other_in_log, deliver-other_held, deliver-not_kept, deliver-refused, kept-few}
+use Rattle.replica.specs.declared.delivery.Delivery.TheVariants.{Kept, Again}
+use Rattle.replica.specs.Deliver.{Delivered, claims_site, settled}
+use Rattle.replica.proofs.Checks.{deliver-own, deliver-in_log, deliver-other_in_log, deliver-held, deliver-other_held, deliver-kept}
+use Rattle.replica.proofs.Checks.{deliver-kept_again, deliver-not_kept, deliver-refused, deliver-took, kept-few}
 use Rattle.replica.proofs.deliver.deliver.Goals as goal
 
 pub returns-in_err-look-clause-cause : goal.returns-in_err-look-clause-cause
@@ -61,3 +63,62 @@ returns-in_err-tally-clause-cause c =
       | inl q ↦ inl (ap (λ (d : Delivered). d.outcome) (deliver-refused c.args.site log held c.args.op.now e own new not_held ready q))
       | inr q ↦ inr q
     ])
+
+pub returns-then-claims_site-clause-cause : goal.returns-then-claims_site-clause-cause
+returns-then-claims_site-clause-cause c =
+    inl (ap (λ (d : Delivered). d.outcome) (deliver-own c.args.site c.args.log.now.log c.args.held.now.ops c.args.op.now
+    (sym c.if-claims_site.ensures.value)))
+
+pub returns-then-branch-clause-delivered : goal.returns-then-branch-clause-delivered
+returns-then-branch-clause-delivered c =
+    deliver-in_log c.args.site c.args.log.now.log c.args.held.now.ops c.args.op.now (sym c.if-claims_site.ensures.value)
+    (sym c.in_ok-look.ensures ∙ ap Ok c.if-branch.true)
+
+pub returns-in-Kept-clause-delivered : goal.returns-in-Kept-clause-delivered
+returns-in-Kept-clause-delivered c =
+    let log = c.args.log.now.log in
+    let held = c.args.held.now.ops in
+    let new : look_for c.args.op.now log ≡ Ok false = sym c.in_ok-look.ensures ∙ ap Ok c.if-branch.false in
+    let same_clock : c.known.result.now ≡ clock_of log =
+    c.known.ensures ∙ ap (λ (r : document.Document). clock_of r.log) c.doc.ensures.value in
+    let waits : is_ready log c.args.op.now ≡ false = sym (c.if-not-ready.ensures
+    ∙ ap (is_next c.args.op.now.site c.args.op.now.clock) same_clock) in
+    let with_held : HeldOperations → Delivered = λ h. record { outcome = Ok Kept; log = log; held = h.ops } in
+    deliver-kept c.args.site log held c.args.op.now (sym c.if-claims_site.ensures.value) new waits
+    (c.in_ok-offer.ensures.value ∙ ap Ok c.in-Kept.is)
+    ∙ sym (ap with_held (c.in_ok-offer.ensures.held
+    ∙ ap (λ a. let h : HeldOperations = record c.args.held.now { ops = after_arrival a c.args.op.now held } in h) c.in-Kept.is))
+
+pub returns-in-Again-clause-delivered : goal.returns-in-Again-clause-delivered
+returns-in-Again-clause-delivered c =
+    let log = c.args.log.now.log in
+    let held = c.args.held.now.ops in
+    let new : look_for c.args.op.now log ≡ Ok false = sym c.in_ok-look.ensures ∙ ap Ok c.if-branch.false in
+    let same_clock : c.known.result.now ≡ clock_of log =
+    c.known.ensures ∙ ap (λ (r : document.Document). clock_of r.log) c.doc.ensures.value in
+    let waits : is_ready log c.args.op.now ≡ false = sym (c.if-not-ready.ensures
+    ∙ ap (is_next c.args.op.now.site c.args.op.now.clock) same_clock) in
+    let with_held : HeldOperations → Delivered = λ h. record { outcome = Ok Again; log = log; held = h.ops } in
+    deliver-kept_again c.args.site log held c.args.op.now (sym c.if-claims_site.ensures.value) new waits
+    (c.in_ok-offer.ensures.value ∙ ap Ok c.in-Again.is)
+    ∙ sym (ap with_held (c.in_ok-offer.ensures.held
+    ∙ ap (λ a. let h : HeldOperations = record c.args.held.now { ops = after_arrival a c.args.op.now held } in h) c.in-Again.is))
+
+pub returns-then-branch-2-clause-delivered : goal.returns-then-branch-2-clause-delivered
+returns-then-branch-2-clause-delivered c =
+    let new : look_for c.args.op.now c.args.log.now.log ≡ Ok false = sym c.in_ok-look.ensures ∙ ap Ok c.if-branch.false in
+    deliver-held c.args.site c.args.log.now.log c.args.held.now.ops c.args.op.now (sym c.if-claims_site.ensures.value) new
+    (sym c.in_ok-look-2.ensures ∙ ap Ok c.if-branch-2.true)
+
+pub returns-clause-delivered : goal.returns-clause-delivered
+returns-clause-delivered c =
+    let log = c.args.log.now.log in
+    let held = c.args.held.now.ops in
+    let new : look_for c.args.op.now log ≡ Ok false = sym c.in_ok-look.ensures ∙ ap Ok c.if-branch.false in
+    let not_held : look_for c.args.op.now held ≡ Ok false = sym c.in_ok-look-2.ensures ∙ ap Ok c.if-branch-2.false in
+    let same_clock : c.known.result.now ≡ clock_of log =
+    c.known.ensures ∙ ap (λ (r : document.Document). clock_of r.log) c.doc.ensures.value in
+    let ready : is_ready log c.args.op.now ≡ true = sym (c.if-not-ready.ensures
+    ∙ ap (is_next c.args.op.now.site c.args.op.now.clock) same_clock) in
+    deliver-took c.args.site log held c.args.op.now (sym c.if-claims_site.ensures.value) new not_held ready c.in_ok-tally.ensures.accepted
+    ∙ sym (ap settled c.in_ok-tally.ensures.settled)
