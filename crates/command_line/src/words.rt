@@ -1,6 +1,8 @@
 //! The words of the command line: how `clap` is told of them, and the plan that is read of those that it took.
 ghost use Rattle.std.specs.Prelude.{◌≡◌, [], Some, None, Option, ℕ, ◌≤◌, false, IfOk, IfErr, IfSome, IfNone, map, option_map, string_bytes};
+ghost use Rattle.std.specs.Prelude.{codes};
 ghost use Rattle.clap.specs.Words.{app_of, fault_of, found_of, kind_of, rows_of, rule_of, first_of, subcommand_of, subcommand_rows_of};
+ghost use Rattle.clap.specs.Words.{new_app, with_subcommand};
 ghost use Rattle.clap.specs.declared.builder.command.Command.TheViews.{out-Command};
 ghost use Rattle.plans.specs.declared.plan.Plan.{Plan};
 ghost use Rattle.command_line.specs.CommandLine.{rgatext, lines_command, text_command, world_command, site_option, site_or_zero_option};
@@ -40,16 +42,24 @@ pub fn plan(alloc: Global, words: &[String]) -> Result<Plan, PlanFault>
 fn command<'a>(alloc: Global) -> Result<Command<'a>, AllocError>
     ensures { IfOk result (λ made. app_of made ≡ rgatext) }
 {
+    let top = without_serve(alloc)?;
+    let serve = serve_command(alloc)?;
+    let top = top.subcommand(serve)?;
+    Ok(top.subcommand_required(true))
+}
+
+// The same without `serve`, and no subcommand has to be there.
+fn without_serve<'a>(alloc: Global) -> Result<Command<'a>, AllocError>
+    ensures { IfOk result (λ made. app_of made ≡ with_subcommand (with_subcommand (with_subcommand (new_app (codes "rgatext"))
+        lines_command.top) text_command.top) world_command.top) }
+{
     let lines = lines_command(alloc)?;
     let top = Command::new(alloc, "rgatext").about("A replicated text server");
     let top = top.subcommand(lines)?;
     let text = text_command(alloc)?;
     let top = top.subcommand(text)?;
     let world = world_command(alloc)?;
-    let top = top.subcommand(world)?;
-    let serve = serve_command(alloc)?;
-    let top = top.subcommand(serve)?;
-    Ok(top.subcommand_required(true))
+    top.subcommand(world)
 }
 
 fn lines_command<'a>(alloc: Global) -> Result<Command<'a>, AllocError>

@@ -1,23 +1,15 @@
--- What each step of the chain makes of the command line. The right sides are given: to find them takes longer than all else here.
+-- What the last steps of the chain make of the command line.
 use Rattle.std.proofs.Common.{◌≡◌, ◌∙◌, ap, ap₂, codes, true}
-use Rattle.clap.specs.Words.{App, app_of, new_app, with_subcommand}
+use Rattle.clap.specs.Words.{App, new_app, with_subcommand}
 use Rattle.clap.specs.Simple.{app_of_fields, on_top}
 use Rattle.command_line.specs.CommandLine.{lines_command, text_command, world_command, serve_command}
 use Rattle.command_line.proofs.words.command.Goals as goal
 
 pub returns : goal.returns
 returns c =
-    let of_lines = with_subcommand (new_app (codes "rgatext")) lines_command.top in
-    let of_text = with_subcommand of_lines text_command.top in
-    let of_world = with_subcommand of_text world_command.top in
-    let named : app_of c.about-top.result ≡ new_app (codes "rgatext") = ap app_of_fields c.about-top.ensures ∙ c.new.ensures.app in
-    let first : _ ≡ of_lines = c.in_ok-top.ensures.shape c.in_ok-lines.ensures.local
-    ∙ ap₂ with_subcommand named (ap (λ (a : App). a.top) c.in_ok-lines.ensures.shape) in
-    let second : _ ≡ of_text = c.in_ok-top-2.ensures.shape c.in_ok-text.ensures.local
-    ∙ ap₂ with_subcommand first (ap (λ (a : App). a.top) c.in_ok-text.ensures.shape) in
-    let third : _ ≡ of_world = c.in_ok-top-3.ensures.shape c.in_ok-world.ensures.local
-    ∙ ap₂ with_subcommand second (ap (λ (a : App). a.top) c.in_ok-world.ensures.shape) in
-    let fourth : _ ≡ with_subcommand of_world serve_command.top = c.in_ok-top-4.ensures.shape c.in_ok-serve.ensures.local
-    ∙ ap₂ with_subcommand third (ap (λ (a : App). a.top) c.in_ok-serve.ensures.shape) in
+    let of_world = with_subcommand (with_subcommand (with_subcommand (new_app (codes "rgatext")) lines_command.top) text_command.top)
+    world_command.top in
+    let last : _ ≡ with_subcommand of_world serve_command.top = c.in_ok-top-2.ensures.shape c.in_ok-serve.ensures.local
+    ∙ ap₂ with_subcommand c.in_ok-top.ensures (ap (λ (a : App). a.top) c.in_ok-serve.ensures.shape) in
     ap app_of_fields c.subcommand_required.ensures
-    ∙ ap (λ (a : App). on_top (λ s. record s { subcommand_required = true }) a) fourth
+    ∙ ap (λ (a : App). on_top (λ s. record s { subcommand_required = true }) a) last
