@@ -86,26 +86,26 @@ abbrev pub flag_option : Text → Rule
 flag_option name = record (new_rule name) { long = Some name; action = Some SetTrue }
 
 -- the subcommand `lines`
-abbrev pub lines_command : App
+unfoldable pub lines_command : App
 lines_command =
     with_rule (with_rule (with_rule (new_app (codes "lines")) site_or_zero_option) (flag_option (codes "resume"))) (flag_option (codes "snapshot"))
 
 -- the subcommand `text`
-abbrev pub text_command : App
+unfoldable pub text_command : App
 text_command = with_rule (new_app (codes "text")) version_option
 
 -- the subcommand `world`
-abbrev pub world_command : App
+unfoldable pub world_command : App
 world_command = with_rule (new_app (codes "world")) sites_option
 
 -- the subcommand `serve`
-abbrev pub serve_command : App
+unfoldable pub serve_command : App
 serve_command =
     with_rule (with_rule (with_rule (with_rule (with_rule (with_rule (new_app (codes "serve")) port_option) site_option)
     conns_option) keep_option) every_option) name_words
 
 -- the program, which asks for a subcommand
-abbrev pub rgatext : App
+unfoldable pub rgatext : App
 rgatext =
     let a = with_subcommand (with_subcommand (with_subcommand (with_subcommand (new_app (codes "rgatext")) lines_command.top)
     text_command.top) world_command.top) serve_command.top in

@@ -2,10 +2,11 @@
 use Rattle.std.proofs.Common.{◌≡◌, ◌∙◌, ap₂, codes}
 use Rattle.std.proofs.lemmas.Result.{IfOk-weaker}
 use Rattle.clap.specs.Words.{new_app, with_rule}
-use Rattle.command_line.specs.CommandLine.{port_option, site_option, conns_option, keep_option, every_option}
+use Rattle.command_line.specs.CommandLine.{serve_command, port_option, site_option, conns_option, keep_option, every_option}
 use Rattle.command_line.proofs.serve_words.serve_command.Goals as goal
 
 pub returns-clause-shape : goal.returns-clause-shape
+unfolding serve_command
 returns-clause-shape c =
     let of_line = with_rule (with_rule (with_rule (new_app (codes "serve")) port_option) site_option) conns_option in
     let of_keep = with_rule of_line keep_option in

@@ -2,10 +2,11 @@
 use Rattle.std.proofs.Common.{◌≡◌, ◌∙◌, ap, ap₂, codes, true}
 use Rattle.clap.specs.Words.{App, new_app, with_subcommand}
 use Rattle.clap.specs.Simple.{app_of_fields, on_top}
-use Rattle.command_line.specs.CommandLine.{lines_command, text_command, world_command, serve_command}
+use Rattle.command_line.specs.CommandLine.{rgatext, lines_command, text_command, world_command, serve_command}
 use Rattle.command_line.proofs.words.command.Goals as goal
 
 pub returns : goal.returns
+unfolding rgatext
 returns c =
     let of_world = with_subcommand (with_subcommand (with_subcommand (new_app (codes "rgatext")) lines_command.top) text_command.top)
     world_command.top in

@@ -3,10 +3,11 @@ use Rattle.std.proofs.Common.{◌≡◌, ◌∙◌, ap, ap₂, codes}
 use Rattle.std.proofs.lemmas.Result.{IfOk-weaker}
 use Rattle.clap.specs.Words.{app_of, new_app, with_rule}
 use Rattle.clap.specs.Simple.{app_of_fields}
-use Rattle.command_line.specs.CommandLine.{flag_option, site_or_zero_option}
+use Rattle.command_line.specs.CommandLine.{flag_option, lines_command, site_or_zero_option}
 use Rattle.command_line.proofs.words.lines_command.Goals as goal
 
 pub returns-clause-shape : goal.returns-clause-shape
+unfolding lines_command
 returns-clause-shape c =
     let of_site = with_rule (new_app (codes "lines")) site_or_zero_option in
     let of_resume = with_rule of_site (flag_option (codes "resume")) in

@@ -8,7 +8,8 @@ use Rattle.clap.specs.declared.error.ErrorKind.{ErrorKind}
 use Rattle.clap.specs.declared.error.ErrorKind.TheVariants as kind
 use Rattle.plans.specs.declared.fault.PlanFault.{PlanFault}
 use Rattle.plans.specs.declared.fault.PlanFault.TheVariants.{Help, Words, Memory}
-use Rattle.command_line.specs.CommandLine.{rgatext, AsksForPlan, Refuses, ToldBy, shows_text, blames_words}
+use Rattle.command_line.specs.CommandLine.{rgatext, lines_command, text_command, world_command, serve_command, AsksForPlan}
+use Rattle.command_line.specs.CommandLine.{Refuses, ToldBy, shows_text, blames_words}
 use Rattle.command_line.proofs.words.plan.Goals as goal
 
 of_error : (kinds : Kinds) (met : Option (Text × List Row)) (k : ErrorKind) (fault : PlanFault) → (k ≡ kind.OutOfMemory) ⊎ IsAmong k kinds
@@ -27,6 +28,7 @@ of_none kinds met met' fault e f h =
     subst Q f (subst P (sym e) h)
 
 pub returns-in-Err-clause-refused : goal.returns-in-Err-clause-refused
+unfolding rgatext lines_command text_command world_command serve_command
 returns-in-Err-clause-refused c =
     let words = map string_bytes c.args.words.now in
     let P : App → Type 0 = λ a. is_simple_and_free a ≡ true → HasKind (fault_of a words) c.in-Err.error in
@@ -34,6 +36,7 @@ returns-in-Err-clause-refused c =
     (subst P c.in_ok-command.ensures c.in-Err.ensures.kinds refl) c.told.ensures
 
 pub returns-in-Ok-clause-planned : goal.returns-in-Ok-clause-planned
+unfolding rgatext lines_command text_command world_command serve_command
 returns-in-Ok-clause-planned c =
     let words = map string_bytes c.args.words.now in
     let Q : App → Type 0 = λ a. is_simple a ≡ true → subcommand_rows_of c.in-Ok.matches ≡ subcommand_of a words in
@@ -43,6 +46,7 @@ returns-in-Ok-clause-planned c =
     c.read_plan.ensures.planned
 
 pub returns-in-Ok-clause-refused : goal.returns-in-Ok-clause-refused
+unfolding rgatext lines_command text_command world_command serve_command
 returns-in-Ok-clause-refused c =
     let words = map string_bytes c.args.words.now in
     let P : App → Type 0 = λ a. is_simple_and_free a ≡ true → fault_of a words ≡ [] in
