@@ -3,12 +3,10 @@ use Rattle.std.proofs.Common.{◌≡◌, ◌∙◌, ◌∷◌, ◌+◌, ◌<◌,
 use mathlib.Core.Path.{ap₂}
 use Rattle.std.proofs.lemmas.List.{length-append}
 use Rattle.opid.specs.Delivery.{clock_of}
-use Rattle.holdback.specs.Ready.{first_ready, without_first_ready}
-use Rattle.holdback.specs.Offered as holding
 use Rattle.versions.specs.Document as document
 use Rattle.replica.specs.Refused.{refusal_of}
 use Rattle.replica.specs.Internal.Kept.{settling_of}
-use Rattle.replica.proofs.Rounds.{round-full, round-none, round-some}
+use Rattle.replica.proofs.Rounds.{clock_of-same, first_ready-same, without_first_ready-same, round-full, round-none, round-some}
 use Rattle.replica.proofs.settle.round.Goals as goal
 
 pub returns-then-version-ge-MAX_OPERATIONS-clause-next : goal.returns-then-version-ge-MAX_OPERATIONS-clause-next
@@ -21,10 +19,8 @@ pub returns-in-None-clause-next : goal.returns-in-None-clause-next
 returns-in-None-clause-next c =
     let log = c.args.log.now in
     let held = c.args.held.now in
-    let same_clock : c.known.result.now ≡ clock_of log.log =
-    c.known.ensures ∙ ap (λ (r : document.Document). clock_of r.log) c.doc-2.ensures.value in
-    let none : first_ready (clock_of log.log) held.ops ≡ None =
-    sym (c.in-None.ensures.taken ∙ ap (λ k. first_ready k held.ops) same_clock) in
+    let clock = clock_of-same c.known.result.now _ log c.known.ensures c.doc-2.ensures.value in
+    let none = first_ready-same c.known.result.now (clock_of log.log) held.ops None clock c.in-None.ensures.taken in
     let short : length log.log < 131072 = omega (arith, ap (λ (r : document.Document). length r.log) c.doc.ensures.value) in
     ap (λ h. settling_of log h c.args.tally.now) c.in-None.ensures.none
     ∙ sym (round-none (settling_of log held c.args.tally.now) short none)
@@ -35,14 +31,11 @@ returns-in-Ok-clause-next c =
     let held = c.args.held.now in
     let before = settling_of log held c.args.tally.now in
     let after = record c.args.tally.now { taken = c.args.tally.now.taken + 1 } in
-    let same_clock : c.known.result.now ≡ clock_of log.log =
-    c.known.ensures ∙ ap (λ (r : document.Document). clock_of r.log) c.doc-2.ensures.value in
-    let some : first_ready (clock_of log.log) held.ops ≡ Some c.in-Some.op =
-    sym (c.in-Some.ensures.taken ∙ ap (λ k. first_ready k held.ops) same_clock) in
+    let clock = clock_of-same c.known.result.now _ log c.known.ensures c.doc-2.ensures.value in
+    let some = first_ready-same c.known.result.now (clock_of log.log) held.ops (Some c.in-Some.op) clock c.in-Some.ensures.taken in
     let short : length log.log < 131072 = omega (arith, ap (λ (r : document.Document). length r.log) c.doc.ensures.value) in
-    let others : c.take_first_ready.new.self ≡ record held { ops = without_first_ready (clock_of log.log) held.ops } =
-    c.take_first_ready.ensures.others
-    ∙ ap (λ k. let h : holding.HeldOperations = record held { ops = without_first_ready k held.ops } in h) same_clock in
+    let others = without_first_ready-same c.known.result.now (clock_of log.log) held c.take_first_ready.new.self clock
+    c.take_first_ready.ensures.others in
     ap₂ (λ l h. settling_of l h after) c.in-Ok.ensures.grown others
     ∙ sym (round-some before c.in-Some.op None short some c.in-Ok.ensures.ok)
 
@@ -52,14 +45,11 @@ returns-in-Err-clause-next c =
     let held = c.args.held.now in
     let before = settling_of log held c.args.tally.now in
     let after = record c.args.tally.now { dropped = c.args.tally.now.dropped + 1 } in
-    let same_clock : c.known.result.now ≡ clock_of log.log =
-    c.known.ensures ∙ ap (λ (r : document.Document). clock_of r.log) c.doc-2.ensures.value in
-    let some : first_ready (clock_of log.log) held.ops ≡ Some c.in-Some.op =
-    sym (c.in-Some.ensures.taken ∙ ap (λ k. first_ready k held.ops) same_clock) in
+    let clock = clock_of-same c.known.result.now _ log c.known.ensures c.doc-2.ensures.value in
+    let some = first_ready-same c.known.result.now (clock_of log.log) held.ops (Some c.in-Some.op) clock c.in-Some.ensures.taken in
     let short : length log.log < 131072 = omega (arith, ap (λ (r : document.Document). length r.log) c.doc.ensures.value) in
-    let others : c.take_first_ready.new.self ≡ record held { ops = without_first_ready (clock_of log.log) held.ops } =
-    c.take_first_ready.ensures.others
-    ∙ ap (λ k. let h : holding.HeldOperations = record held { ops = without_first_ready k held.ops } in h) same_clock in
+    let others = without_first_ready-same c.known.result.now (clock_of log.log) held c.take_first_ready.new.self clock
+    c.take_first_ready.ensures.others in
     let refused : refusal_of log.log c.in-Some.op ≡ Some c.in-Err.field-0 = elim (c.in-Err.ensures.cause) [
       | inl q ↦ q
       | inr q ↦ absurd (omega (arith, q.1, c.requires.reserved, c.in-Some.ensures.fewer, short))
