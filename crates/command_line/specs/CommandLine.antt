@@ -13,13 +13,13 @@ use Rattle.plans.specs.declared.fault.PlanFault.{PlanFault}
 use Rattle.plans.specs.declared.fault.PlanFault.TheVariants.{Help, Words, Memory}
 use Rattle.plans.specs.declared.plan.Plan.TheVariants.{Lines, Text as TextOf, Serve, World}
 
+-- `--NAME` with a value
+abbrev pub valued_option : Text → Rule
+valued_option name = record (new_rule name) { long = Some name; value_names = 1 }
+
 -- `--site N`, a whole number from 0 to 31
 abbrev pub site_option : Rule
-site_option = record (new_rule (codes "site")) {
-  long = Some (codes "site");
-  parser = Some (vp.Signed (pos 0) (pos 31));
-  value_names = 1;
-}
+site_option = record (valued_option (codes "site")) { parser = Some (vp.Signed (pos 0) (pos 31)) }
 
 -- the same, or 0
 abbrev pub site_or_zero_option : Rule
@@ -27,53 +27,31 @@ site_or_zero_option = record site_option { defaults = codes "0" ∷ [] }
 
 -- `--version V`, a whole number of 32 bits
 abbrev pub version_option : Rule
-version_option = record (new_rule (codes "version")) {
-  long = Some (codes "version");
-  parser = Some (vp.Signed (pos 0) (pos 4294967295));
-  value_names = 1;
-}
+version_option = record (valued_option (codes "version")) { parser = Some (vp.Signed (pos 0) (pos 4294967295)) }
 
 -- `--sites N`, a whole number from 1 to 32, or 2
 abbrev pub sites_option : Rule
-sites_option = record (new_rule (codes "sites")) {
-  long = Some (codes "sites");
-  parser = Some (vp.Signed (pos 1) (pos 32));
-  value_names =
-      1;
-  defaults = codes "2" ∷ [];
-}
+sites_option = record (valued_option (codes "sites")) { parser = Some (vp.Signed (pos 1) (pos 32)); defaults = codes "2" ∷ [] }
 
 -- `--port P`, a whole number from 1 to 65535, which has to be there
 abbrev pub port_option : Rule
-port_option = record (new_rule (codes "port")) {
-  long = Some (codes "port");
-  required = true;
-  parser =
-      Some (vp.Signed (pos 1) (pos 65535));
-  value_names = 1;
-}
+port_option = record (valued_option (codes "port")) { required = true; parser = Some (vp.Signed (pos 1) (pos 65535)) }
 
 -- `--conns C`, a whole number from 1 to 65,536, or 65,536
 abbrev pub conns_option : Rule
-conns_option = record (new_rule (codes "conns")) {
-  long = Some (codes "conns");
+conns_option = record (valued_option (codes "conns")) {
   parser = Some (vp.Signed (pos 1) (pos 65536));
-  value_names =
-      1;
   defaults = codes "65536" ∷ [];
 }
 
 -- `--keep FOLDER`
 abbrev pub keep_option : Rule
-keep_option = record (new_rule (codes "keep")) { long = Some (codes "keep"); value_names = 1 }
+keep_option = valued_option (codes "keep")
 
 -- `--every SECONDS`, a whole number from 1 to 3600, or 5
 abbrev pub every_option : Rule
-every_option = record (new_rule (codes "every")) {
-  long = Some (codes "every");
+every_option = record (valued_option (codes "every")) {
   parser = Some (vp.Signed (pos 1) (pos 3600));
-  value_names =
-      1;
   defaults = codes "5" ∷ [];
 }
 

@@ -7,7 +7,7 @@ ghost use Rattle.plans.specs.declared.plan.Plan.{Plan};
 ghost use Rattle.command_line.specs.CommandLine.{serve_command, port_option, site_option, conns_option, keep_option, every_option};
 ghost use Rattle.command_line.specs.CommandLine.{name_words, AsksIn, AsksNothing, ReadsTo};
 
-use crate::words::{site_arg, site_in};
+use crate::words::{new_command, site_arg, site_in, valued_arg};
 use clap::{Arg, ArgAction, ArgMatches, Command, value_parser};
 use opid::Site;
 use plans::Plan;
@@ -30,7 +30,7 @@ fn line_command<'a>(alloc: Global) -> Result<Command<'a>, AllocError>
         ≡ with_rule (with_rule (with_rule (new_app (codes "serve")) port_option) site_option) conns_option) }
     ensures local { IfOk result (λ made. (out-Command made).has_globals ≡ false) }
 {
-    let serve = Command::new(alloc, "serve").about("Serves rooms over WebSockets");
+    let serve = new_command(alloc, "serve", "Serves rooms over WebSockets");
     let serve = serve.arg(port_arg(alloc))?;
     let serve = serve.arg(site_arg(alloc).help(
         "The rooms' site number, 0 to 31: 0, or with --keep the least that no kept log has an operation of",
@@ -42,46 +42,49 @@ fn port_arg<'a>(alloc: Global) -> Arg<'a>
     ensures rule { rule_of result ≡ port_option }
     ensures local { result.global ≡ false }
 {
-    Arg::new(alloc, "port")
-        .long("port")
+    valued_arg(alloc, "port", "P", "The port of 127.0.0.1, 1 to 65535")
         .required(true)
-        .value_name("P")
         .value_parser(value_parser!(u16).range(1..=65535))
-        .help("The port of 127.0.0.1, 1 to 65535")
 }
 
 fn conns_arg<'a>(alloc: Global) -> Arg<'a>
     ensures rule { rule_of result ≡ conns_option }
     ensures local { result.global ≡ false }
 {
-    Arg::new(alloc, "conns")
-        .long("conns")
-        .value_name("C")
-        .value_parser(value_parser!(u32).range(1..=65536))
-        .default_value("65536")
-        .help("How many connections are accepted, 1 to 65536")
+    valued_arg(
+        alloc,
+        "conns",
+        "C",
+        "How many connections are accepted, 1 to 65536",
+    )
+    .value_parser(value_parser!(u32).range(1..=65536))
+    .default_value("65536")
 }
 
 fn keep_arg<'a>(alloc: Global) -> Arg<'a>
     ensures rule { rule_of result ≡ keep_option }
     ensures local { result.global ≡ false }
 {
-    Arg::new(alloc, "keep")
-        .long("keep")
-        .value_name("FOLDER")
-        .help("The folder in which the rooms' logs are kept")
+    valued_arg(
+        alloc,
+        "keep",
+        "FOLDER",
+        "The folder in which the rooms' logs are kept",
+    )
 }
 
 fn every_arg<'a>(alloc: Global) -> Arg<'a>
     ensures rule { rule_of result ≡ every_option }
     ensures local { result.global ≡ false }
 {
-    Arg::new(alloc, "every")
-        .long("every")
-        .value_name("SECONDS")
-        .value_parser(value_parser!(u32).range(1..=3600))
-        .default_value("5")
-        .help("How many seconds pass between two turns of keeping, 1 to 3600")
+    valued_arg(
+        alloc,
+        "every",
+        "SECONDS",
+        "How many seconds pass between two turns of keeping, 1 to 3600",
+    )
+    .value_parser(value_parser!(u32).range(1..=3600))
+    .default_value("5")
 }
 
 fn name_arg<'a>(alloc: Global) -> Arg<'a>

@@ -5,9 +5,9 @@ ghost use Rattle.clap.specs.Words.{app_of, fault_of, found_of, kind_of, rows_of,
 ghost use Rattle.clap.specs.Words.{new_app, with_subcommand};
 ghost use Rattle.clap.specs.declared.builder.command.Command.TheViews.{out-Command};
 ghost use Rattle.plans.specs.declared.plan.Plan.{Plan};
-ghost use Rattle.command_line.specs.CommandLine.{rgatext, lines_command, text_command, world_command, site_option, site_or_zero_option};
-ghost use Rattle.command_line.specs.CommandLine.{version_option, sites_option, flag_option, AsksForPlan, AsksNothing, ReadsTo};
-ghost use Rattle.command_line.specs.CommandLine.{Refuses, ToldBy, is_set};
+ghost use Rattle.command_line.specs.CommandLine.{rgatext, lines_command, text_command, world_command, valued_option, site_option};
+ghost use Rattle.command_line.specs.CommandLine.{site_or_zero_option, version_option, sites_option, flag_option, AsksForPlan};
+ghost use Rattle.command_line.specs.CommandLine.{AsksNothing, ReadsTo, Refuses, ToldBy, is_set};
 
 use crate::serve_words::{serve_command, serve_plan};
 use clap::error::ErrorKind;
@@ -54,7 +54,7 @@ fn without_serve<'a>(alloc: Global) -> Result<Command<'a>, AllocError>
         lines_command.top) text_command.top) world_command.top) }
 {
     let lines = lines_command(alloc)?;
-    let top = Command::new(alloc, "rgatext").about("A replicated text server");
+    let top = new_command(alloc, "rgatext", "A replicated text server");
     let top = top.subcommand(lines)?;
     let text = text_command(alloc)?;
     let top = top.subcommand(text)?;
@@ -62,11 +62,21 @@ fn without_serve<'a>(alloc: Global) -> Result<Command<'a>, AllocError>
     top.subcommand(world)
 }
 
+// A command of which the name is told, and what it is about.
+pub(crate) fn new_command<'a>(alloc: Global, name: &'a str, about: &'a str) -> Command<'a>
+    ensures shape { app_of result ≡ new_app name.now }
+    ensures local { (out-Command result).has_globals ≡ false }
+{
+    Command::new(alloc, name).about(about)
+}
+
 fn lines_command<'a>(alloc: Global) -> Result<Command<'a>, AllocError>
     ensures shape { IfOk result (λ made. app_of made ≡ lines_command) }
     ensures local { IfOk result (λ made. (out-Command made).has_globals ≡ false) }
 {
-    let lines = Command::new(alloc, "lines").about(
+    let lines = new_command(
+        alloc,
+        "lines",
         "Serves requests from standard input to standard output, one a line",
     );
     let lines = lines.arg(site_or_zero_arg(alloc))?;
@@ -87,7 +97,9 @@ fn text_command<'a>(alloc: Global) -> Result<Command<'a>, AllocError>
     ensures local { IfOk result (λ made. (out-Command made).has_globals ≡ false) }
 {
     let version = version_arg(alloc);
-    let text = Command::new(alloc, "text").about(
+    let text = new_command(
+        alloc,
+        "text",
         "Prints the reading of the snapshot on standard input",
     );
     text.arg(version)
@@ -98,10 +110,23 @@ fn world_command<'a>(alloc: Global) -> Result<Command<'a>, AllocError>
     ensures local { IfOk result (λ made. (out-Command made).has_globals ≡ false) }
 {
     let sites = sites_arg(alloc);
-    let world = Command::new(alloc, "world").about(
+    let world = new_command(
+        alloc,
+        "world",
         "Plays a script of events over sites that exchange operations",
     );
     world.arg(sites)
+}
+
+// The option `--NAME` with a value.
+pub(crate) fn valued_arg<'a>(alloc: Global, name: &'a str, value: &'a str, help: &'a str) -> Arg<'a>
+    ensures rule { rule_of result ≡ valued_option name.now }
+    ensures local { result.global ≡ false }
+{
+    Arg::new(alloc, name)
+        .long(name)
+        .value_name(value)
+        .help(help)
 }
 
 // `--site` alone.
@@ -109,11 +134,8 @@ pub(crate) fn site_arg<'a>(alloc: Global) -> Arg<'a>
     ensures rule { rule_of result ≡ site_option }
     ensures local { result.global ≡ false }
 {
-    Arg::new(alloc, "site")
-        .long("site")
-        .value_name("N")
-        .value_parser(value_parser!(u8).range(0..=31))
-        .help("The room's site number, 0 to 31")
+    let site = valued_arg(alloc, "site", "N", "The room's site number, 0 to 31");
+    site.value_parser(value_parser!(u8).range(0..=31))
 }
 
 fn site_or_zero_arg<'a>(alloc: Global) -> Arg<'a>
@@ -127,23 +149,22 @@ fn version_arg<'a>(alloc: Global) -> Arg<'a>
     ensures rule { rule_of result ≡ version_option }
     ensures local { result.global ≡ false }
 {
-    Arg::new(alloc, "version")
-        .long("version")
-        .value_name("V")
-        .value_parser(value_parser!(u32).range(0..=4294967295))
-        .help("The version, the newest unless given")
+    valued_arg(
+        alloc,
+        "version",
+        "V",
+        "The version, the newest unless given",
+    )
+    .value_parser(value_parser!(u32).range(0..=4294967295))
 }
 
 fn sites_arg<'a>(alloc: Global) -> Arg<'a>
     ensures rule { rule_of result ≡ sites_option }
     ensures local { result.global ≡ false }
 {
-    Arg::new(alloc, "sites")
-        .long("sites")
-        .value_name("N")
+    valued_arg(alloc, "sites", "N", "How many sites there are, 1 to 32")
         .value_parser(value_parser!(u8).range(1..=32))
         .default_value("2")
-        .help("How many sites there are, 1 to 32")
 }
 
 fn flag_arg<'a>(alloc: Global, name: &'a str, help: &'a str) -> Arg<'a>

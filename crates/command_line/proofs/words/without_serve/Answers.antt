@@ -1,8 +1,7 @@
 -- What each step of the chain makes of the command line. The right sides are given: to find them takes longer than all else here.
 use Rattle.std.proofs.Common.{◌≡◌, ◌∙◌, ap, ap₂, codes}
 use Rattle.std.proofs.lemmas.Result.{IfOk-weaker}
-use Rattle.clap.specs.Words.{App, app_of, new_app, with_subcommand}
-use Rattle.clap.specs.Simple.{app_of_fields}
+use Rattle.clap.specs.Words.{App, new_app, with_subcommand}
 use Rattle.command_line.specs.CommandLine.{lines_command, text_command}
 use Rattle.command_line.proofs.words.without_serve.Goals as goal
 
@@ -10,9 +9,8 @@ pub returns : goal.returns
 returns c =
     let of_lines = with_subcommand (new_app (codes "rgatext")) lines_command.top in
     let of_text = with_subcommand of_lines text_command.top in
-    let named : app_of c.about-top.result ≡ new_app (codes "rgatext") = ap app_of_fields c.about-top.ensures ∙ c.new.ensures.app in
     let first : _ ≡ of_lines = c.in_ok-top.ensures.shape c.in_ok-lines.ensures.local
-    ∙ ap₂ with_subcommand named (ap (λ (a : App). a.top) c.in_ok-lines.ensures.shape) in
+    ∙ ap₂ with_subcommand c.new_command-top.ensures.shape (ap (λ (a : App). a.top) c.in_ok-lines.ensures.shape) in
     let second : _ ≡ of_text = c.in_ok-top-2.ensures.shape c.in_ok-text.ensures.local
     ∙ ap₂ with_subcommand first (ap (λ (a : App). a.top) c.in_ok-text.ensures.shape) in
     IfOk-weaker c.subcommand-3.result _ _ (λ made h. h.shape c.in_ok-world.ensures.local
