@@ -1,5 +1,5 @@
 -- The value tells just what is read of it.
-use Rattle.std.proofs.Common.{◌≡◌, ◌∙◌, ◌≤◌, ◌+◌, ◌++◌, ◌∷◌, ◌⊎◌, [], List, Result, Ok, Err, ap, sym, subst, inl, inr, length}
+use Rattle.std.proofs.Common.{◌≡◌, ◌∙◌, ◌≤◌, ◌+◌, ◌++◌, ◌∷◌, ◌⊎◌, [], List, Result, Ok, ap, sym, subst, inl, inr, length}
 use Rattle.std.proofs.lemmas.Result.{IfErr-weaker, on_ok_weaker}
 use Rattle.serde_json.specs.View.{view}
 use Rattle.opid.specs.declared.refusal.Refusal.{Refusal}
@@ -17,10 +17,6 @@ not_told e old xs told is (inl memory) = inl memory
 not_told e old xs told is (inr not) = inr (λ ys at.
     let same : xs ≡ ys = cc in
     subst (λ (zs : List Operation). GoesOn old zs → length old + length zs ≤ 131072 → ⊥) same not)
-
-nothing_told : (e f : Refusal) (old : List Operation) (told : Result (List Operation) Refusal) → told ≡ Err f
-    → (ys : List Operation) → told ≡ Ok ys → GoesOn old ys → length old + length ys ≤ 131072 → ⊥
-nothing_told e f old told is ys at goes few = cc
 
 pub returns-in_ok-ops-clause-grown : goal.returns-in_ok-ops-clause-grown
 returns-in_ok-ops-clause-grown c =
