@@ -9,8 +9,7 @@ use Rattle.std.proofs.lemmas.List.Folds.{find-append}
 use Rattle.opid.specs.declared.refusal.Refusal.{Refusal}
 use Rattle.opid.specs.declared.refusal.Refusal.TheVariants.{OwnSite, Conflict, HoldFull}
 use Rattle.opid.specs.Operations.{Operation, number_of}
-use Rattle.opid.specs.Clocks.{is_next}
-use Rattle.opid.specs.Delivery.{clock_of, is_ready}
+use Rattle.opid.specs.Delivery.{is_ready}
 use Rattle.holdback.specs.declared.held.Arrival.{Arrival}
 use Rattle.holdback.specs.declared.held.Arrival.TheVariants as arrivals
 use Rattle.holdback.specs.Same.{is_same_operation}
@@ -20,15 +19,10 @@ use Rattle.replica.specs.Refused.{refusal_of}
 use Rattle.replica.specs.Settle.{settle}
 use Rattle.replica.specs.Deliver.{Delivered, unchanged, settled, integrate, deliver_found, claims_site, deliver}
 
--- by what was looked for and what came of it
-pub looked : (ops : List Operation) (x : Operation) (found there : Bool) → Ok found ≡ look_for x ops → found ≡ there
+-- by an equal answer
+pub look_for-same : (ops : List Operation) (x : Operation) (found there : Bool) → Ok found ≡ look_for x ops → found ≡ there
     → look_for x ops ≡ Ok there
-looked ops x found there e f = sym e ∙ ap Ok f
-
--- by an equal clock
-pub is_ready-same : (known : List ℕ) (log : List Operation) (x : Operation) (ready : Bool) → known ≡ clock_of log
-    → ready ≡ is_next x.site x.clock known → is_ready log x ≡ ready
-is_ready-same known log x ready e f = sym (f ∙ ap (is_next x.site x.clock) e)
+look_for-same ops x found there e f = sym e ∙ ap Ok f
 
 compared-Ok : (x y : Operation) → compared x (Some y) ≡ Ok false → {P : Type 0} → P
 compared-Ok x y e {P} = go (is_same_operation x y) e

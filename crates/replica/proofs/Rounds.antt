@@ -1,28 +1,12 @@
 -- What one round does, and that rounds which change nothing are the last.
-use Rattle.std.proofs.Common.{◌≡◌, ℕ, zero, suc, ◌+◌, ◌-◌, ◌<◌, ◌≤◌, List, Option, Some, None, length, refl, ap, ◌∙◌, sym, arith}
+use Rattle.std.proofs.Common.{◌≡◌, ℕ, zero, suc, ◌+◌, ◌-◌, ◌<◌, ◌≤◌, Option, Some, None, length, refl, ap, ◌∙◌, sym, arith}
 use Rattle.std.proofs.lemmas.Bool.{cond-true, cond-false, le-leb, lt-leb}
 use Rattle.opid.specs.declared.refusal.Refusal.{Refusal}
 use Rattle.opid.specs.Operations.{Operation}
 use Rattle.opid.specs.Delivery.{clock_of}
-use Rattle.holdback.specs.Ready.{first_ready, without_first_ready}
-use Rattle.holdback.specs.Offered as holding
-use Rattle.versions.specs.Document as document
+use Rattle.holdback.specs.Ready.{first_ready}
 use Rattle.replica.specs.Refused.{refusal_of}
 use Rattle.replica.specs.Settle.{Settling, appended_or_dropped, taken_out, round_with, round, rounds}
-
--- by the clock of an equal document
-pub clock_of-same : (clock : List ℕ) (d e : document.Document) → clock ≡ clock_of d.log → d ≡ e → clock ≡ clock_of e.log
-clock_of-same clock d e f g = f ∙ ap (λ (r : document.Document). clock_of r.log) g
-
--- by an equal clock
-pub first_ready-same : (known clock : List ℕ) (ops : List Operation) (o : Option Operation) → known ≡ clock → o ≡ first_ready known ops
-    → first_ready clock ops ≡ o
-first_ready-same known clock ops o e f = sym (f ∙ ap (λ k. first_ready k ops) e)
-
-pub without_first_ready-same : (known clock : List ℕ) (held new : holding.HeldOperations) → known ≡ clock
-    → new ≡ record held { ops = without_first_ready known held.ops } → new ≡ record held { ops = without_first_ready clock held.ops }
-without_first_ready-same known clock held new e f =
-    f ∙ ap (λ k. let h : holding.HeldOperations = record held { ops = without_first_ready k held.ops } in h) e
 
 -- nothing changes where the log is full, or nothing is ready
 pub round-full : (s : Settling) → 131072 ≤ length s.log → round s ≡ s

@@ -5,8 +5,8 @@ use Rattle.holdback.specs.Offered.{HeldOperations, look_for, after_arrival}
 use Rattle.replica.specs.declared.delivery.Delivery.TheVariants.{Kept, Again}
 use Rattle.replica.specs.Deliver.{Delivered, claims_site, settled}
 use Rattle.replica.proofs.Checks.{deliver-own, deliver-in_log, deliver-other_in_log, deliver-held, deliver-other_held, deliver-kept}
-use Rattle.replica.proofs.Checks.{deliver-kept_again, deliver-not_kept, deliver-refused, deliver-took, is_ready-same, kept-few, looked}
-use Rattle.replica.proofs.Rounds.{clock_of-same}
+use Rattle.replica.proofs.Checks.{deliver-kept_again, deliver-not_kept, deliver-refused, deliver-took, kept-few, look_for-same}
+use Rattle.replica.proofs.Clocks.{clock_of-same, is_ready-same}
 use Rattle.replica.proofs.deliver.deliver.Goals as goal
 
 pub returns-in_err-look-clause-cause : goal.returns-in_err-look-clause-cause
@@ -24,7 +24,7 @@ returns-in_err-offer-clause-cause c =
     let held = c.args.held.now.ops in
     let e = c.in_err-offer.field-0.0 in
     let own : claims_site c.args.site log c.args.op.now ≡ false = sym c.if-claims_site.ensures.value in
-    let new = looked log c.args.op.now _ false c.in_ok-look.ensures c.if-branch.false in
+    let new = look_for-same log c.args.op.now _ false c.in_ok-look.ensures c.if-branch.false in
     let clock = clock_of-same c.known.result.now _ c.args.log.now c.known.ensures c.doc.ensures.value in
     let waits = is_ready-same c.known.result.now log c.args.op.now false clock c.if-not-ready.ensures in
     rw (p.1, p.2) (elim (c.in_err-offer.ensures.cause) [
@@ -37,7 +37,7 @@ returns-in_err-look-2-clause-cause c =
     let p = err_from_is_err_and c.from_residual-in_err-look-2.result c.from_residual-in_err-look-2.ensures.1 in
     let log = c.args.log.now.log in
     let own : claims_site c.args.site log c.args.op.now ≡ false = sym c.if-claims_site.ensures.value in
-    let new = looked log c.args.op.now _ false c.in_ok-look.ensures c.if-branch.false in
+    let new = look_for-same log c.args.op.now _ false c.in_ok-look.ensures c.if-branch.false in
     let other : look_for c.args.op.now c.args.held.now.ops ≡ Err c.in_err-look-2.field-0.0 = sym c.in_err-look-2.ensures in
     rw (p.1, p.2) (inl (ap (λ (d : Delivered). d.outcome) (deliver-other_held c.args.site log c.args.held.now.ops c.args.op.now
     c.in_err-look-2.field-0.0 own new other)))
@@ -49,8 +49,8 @@ returns-in_err-tally-clause-cause c =
     let held = c.args.held.now.ops in
     let e = c.in_err-tally.field-0.0 in
     let own : claims_site c.args.site log c.args.op.now ≡ false = sym c.if-claims_site.ensures.value in
-    let new = looked log c.args.op.now _ false c.in_ok-look.ensures c.if-branch.false in
-    let not_held = looked held c.args.op.now _ false c.in_ok-look-2.ensures c.if-branch-2.false in
+    let new = look_for-same log c.args.op.now _ false c.in_ok-look.ensures c.if-branch.false in
+    let not_held = look_for-same held c.args.op.now _ false c.in_ok-look-2.ensures c.if-branch-2.false in
     let clock = clock_of-same c.known.result.now _ c.args.log.now c.known.ensures c.doc.ensures.value in
     let ready = is_ready-same c.known.result.now log c.args.op.now true clock c.if-not-ready.ensures in
     rw (p.1, p.2) (elim (c.in_err-tally.ensures.cause) [
@@ -66,13 +66,13 @@ returns-then-claims_site-clause-cause c =
 pub returns-then-branch-clause-delivered : goal.returns-then-branch-clause-delivered
 returns-then-branch-clause-delivered c =
     deliver-in_log c.args.site c.args.log.now.log c.args.held.now.ops c.args.op.now (sym c.if-claims_site.ensures.value)
-    (looked c.args.log.now.log c.args.op.now _ true c.in_ok-look.ensures c.if-branch.true)
+    (look_for-same c.args.log.now.log c.args.op.now _ true c.in_ok-look.ensures c.if-branch.true)
 
 pub returns-in-Kept-clause-delivered : goal.returns-in-Kept-clause-delivered
 returns-in-Kept-clause-delivered c =
     let log = c.args.log.now.log in
     let held = c.args.held.now.ops in
-    let new = looked log c.args.op.now _ false c.in_ok-look.ensures c.if-branch.false in
+    let new = look_for-same log c.args.op.now _ false c.in_ok-look.ensures c.if-branch.false in
     let clock = clock_of-same c.known.result.now _ c.args.log.now c.known.ensures c.doc.ensures.value in
     let waits = is_ready-same c.known.result.now log c.args.op.now false clock c.if-not-ready.ensures in
     let with_held : HeldOperations → Delivered = λ h. record { outcome = Ok Kept; log = log; held = h.ops } in
@@ -85,7 +85,7 @@ pub returns-in-Again-clause-delivered : goal.returns-in-Again-clause-delivered
 returns-in-Again-clause-delivered c =
     let log = c.args.log.now.log in
     let held = c.args.held.now.ops in
-    let new = looked log c.args.op.now _ false c.in_ok-look.ensures c.if-branch.false in
+    let new = look_for-same log c.args.op.now _ false c.in_ok-look.ensures c.if-branch.false in
     let clock = clock_of-same c.known.result.now _ c.args.log.now c.known.ensures c.doc.ensures.value in
     let waits = is_ready-same c.known.result.now log c.args.op.now false clock c.if-not-ready.ensures in
     let with_held : HeldOperations → Delivered = λ h. record { outcome = Ok Again; log = log; held = h.ops } in
@@ -96,16 +96,16 @@ returns-in-Again-clause-delivered c =
 
 pub returns-then-branch-2-clause-delivered : goal.returns-then-branch-2-clause-delivered
 returns-then-branch-2-clause-delivered c =
-    let new = looked c.args.log.now.log c.args.op.now _ false c.in_ok-look.ensures c.if-branch.false in
+    let new = look_for-same c.args.log.now.log c.args.op.now _ false c.in_ok-look.ensures c.if-branch.false in
     deliver-held c.args.site c.args.log.now.log c.args.held.now.ops c.args.op.now (sym c.if-claims_site.ensures.value) new
-    (looked c.args.held.now.ops c.args.op.now _ true c.in_ok-look-2.ensures c.if-branch-2.true)
+    (look_for-same c.args.held.now.ops c.args.op.now _ true c.in_ok-look-2.ensures c.if-branch-2.true)
 
 pub returns-clause-delivered : goal.returns-clause-delivered
 returns-clause-delivered c =
     let log = c.args.log.now.log in
     let held = c.args.held.now.ops in
-    let new = looked log c.args.op.now _ false c.in_ok-look.ensures c.if-branch.false in
-    let not_held = looked held c.args.op.now _ false c.in_ok-look-2.ensures c.if-branch-2.false in
+    let new = look_for-same log c.args.op.now _ false c.in_ok-look.ensures c.if-branch.false in
+    let not_held = look_for-same held c.args.op.now _ false c.in_ok-look-2.ensures c.if-branch-2.false in
     let clock = clock_of-same c.known.result.now _ c.args.log.now c.known.ensures c.doc.ensures.value in
     let ready = is_ready-same c.known.result.now log c.args.op.now true clock c.if-not-ready.ensures in
     deliver-took c.args.site log held c.args.op.now (sym c.if-claims_site.ensures.value) new not_held ready c.in_ok-tally.ensures.accepted

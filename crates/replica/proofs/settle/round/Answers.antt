@@ -6,7 +6,8 @@ use Rattle.opid.specs.Delivery.{clock_of}
 use Rattle.versions.specs.Document as document
 use Rattle.replica.specs.Refused.{refusal_of}
 use Rattle.replica.specs.Internal.Kept.{settling_of}
-use Rattle.replica.proofs.Rounds.{clock_of-same, first_ready-same, without_first_ready-same, round-full, round-none, round-some}
+use Rattle.replica.proofs.Clocks.{clock_of-same, first_ready-same, without_first_ready-same}
+use Rattle.replica.proofs.Rounds.{round-full, round-none, round-some}
 use Rattle.replica.proofs.settle.round.Goals as goal
 
 pub returns-then-version-ge-MAX_OPERATIONS-clause-next : goal.returns-then-version-ge-MAX_OPERATIONS-clause-next
