@@ -1,5 +1,5 @@
 //! The words of `serve`.
-ghost use Rattle.std.specs.Prelude.{◌≡◌, ◌≤◌, Some, Option, ℕ, false, IfOk, IfSome, IfNone, MatchOption, map, option_map, string_bytes};
+ghost use Rattle.std.specs.Prelude.{◌≡◌, ◌≤◌, Some, Option, ℕ, false, IfOk, IfSome, IfNone, map, option_map, string_bytes};
 ghost use Rattle.std.specs.Prelude.{codes};
 ghost use Rattle.clap.specs.Words.{app_of, found_of, rows_of, rule_of, new_app, with_rule};
 ghost use Rattle.clap.specs.declared.builder.command.Command.TheViews.{out-Command};
