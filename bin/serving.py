@@ -53,6 +53,13 @@ def framed(data, kind=TEXT, is_last=True):
     return head + mask + (int.from_bytes(data, "big") ^ int.from_bytes(whole[:size], "big")).to_bytes(size, "big")
 
 
+def unread(line):
+    """Whether the system holds bytes that were sent over this line of loopback and that the other side hasn't read."""
+    ends = ["%s:%04X" % (socket.inet_aton(host)[::-1].hex().upper(), port) for host, port in (line.getpeername(), line.getsockname())]
+    lines = (it.split() for it in pathlib.Path("/proc/net/tcp").read_text().splitlines())
+    return any(it[1:3] == ends and int(it[4].split(":")[1], 16) > 0 for it in lines)
+
+
 class WebSocket:
     """A client's end of a line: the handshake and frames of RFC 6455, and nothing hidden."""
 
@@ -62,15 +69,20 @@ class WebSocket:
         self.held = b""
 
     def shake(self, pieces=1):
-        """Asks for a WebSocket, in so many pieces that are 50 ms apart: the first line of the response, or what is wrong with it."""
+        """Asks for a WebSocket, in so many pieces: the first line of the response, or what is wrong with it."""
         asked = handshake()
-        for at in range(pieces):
-            time.sleep(0.05 if at else 0)
-            self.line.sendall(asked[len(asked) * at // pieces : len(asked) * (at + 1) // pieces])
+        self.send_pieces(asked, pieces)
         while b"\r\n\r\n" not in self.held:
             self.read()
         head, self.held = self.held.split(b"\r\n\r\n", 1)
         return head.split(b"\r\n")[0] if is_taken(asked, head) else b"doesn't take the handshake: " + head
+
+    def send_pieces(self, data, pieces):
+        """Sends the bytes in so many pieces, each once the other side has read the one before."""
+        for at in range(pieces):
+            self.line.sendall(data[len(data) * at // pieces : len(data) * (at + 1) // pieces])
+            while at + 1 < pieces and unread(self.line):
+                time.sleep(0.0001)
 
     def read(self):
         block = self.line.recv(65536)
