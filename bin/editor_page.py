@@ -189,9 +189,11 @@ def tries_another_run():
     same("before the server is killed", "kept here")
     server.kill()
     windows[0].type("!")
-    server.start()
+    server.start(site=2)
     until(lambda: all("another text" in it.state for it in windows), "an empty room", 30)
     assert windows[0].text == "kept here!" and windows[1].text == "kept here", [it.text for it in windows]
+    own = windows[0].run("return document.getElementById('own').innerHTML")
+    assert own == "<mark>kept here!</mark>" and not windows[0].is_hidden("texts"), own
     windows[0].click("mine")
     until(lambda: windows[0].state == "up to date", "mine is put in")
     windows[1].click("theirs")

@@ -3,13 +3,18 @@ import assert from "node:assert/strict";
 import { readFileSync } from "node:fs";
 import { carried, played } from "../examples/web/changes.js";
 import { Document, MOST } from "../examples/web/document.js";
+import { Log } from "../examples/web/log.js";
+import { wayTo } from "../examples/web/rejoin.js";
 import { isInside } from "../examples/web/text.js";
+import { rejoin } from "./rejoining.mjs";
 import { dice, Room } from "./room.mjs";
 import { mustFitWhole, undoAtRandom, undoOnesOwn, undoQuickly } from "./undoing.mjs";
+import { keptRun, renewedRun } from "./way.mjs";
 
 /** A case of the vectors, played with a document: each answer and edit is the program's. */
 class Case {
   room = new Room();
+  log = new Log((request) => this.room.ask(request));
   others = 0; // submissions
   seen = 0; // edits that the other session was told
   number = 0;
@@ -28,14 +33,16 @@ class Case {
     await this.room.ask({ t: "join", u: 16 });
     if (this.text !== "") await this.submitAsOther({ t: "ins", v: 0, k: 0, x: this.text });
     const { x, v } = await this.room.ask({ t: "join", u: 16 });
-    this.document = new Document(x, v);
+    this.document = new Document(x, v, await this.log.last(v));
     for (const step of this.steps) {
+      if (step.restart) await this.restart(step.restart);
       if (step.local) this.document.replace(step.local.at, step.local.removed, step.local.text);
       if (step.other) await this.submitAsOther(step.other);
       if (step.send) await this.submit(step);
       if (step.again) this.answerAgain(step.again);
       if (step.late) await this.pullLate(step.late);
-      if (step.changes) await this.pull(step);
+      if (step.follow) await this.follow(step);
+      else if (step.changes) await this.pull(step);
       if (step.shown !== undefined) this.equal(this.document.text, step.shown);
     }
     this.room.close();
@@ -53,6 +60,7 @@ class Case {
     if (!answer) return;
     this.equal(reply, { r: "ok", ...answer });
     this.equal(this.document.accept(reply.from, reply.to), true);
+    this.document.site ??= await this.log.siteOf(reply.from);
     [this.number, this.submission] = [this.number + 1, null];
     this.again = await this.room.ask({ t: "ins", s: 2, n: this.number, v: 0, k: 0, x: "" });
   }
@@ -66,6 +74,26 @@ class Case {
     const { from, es } = await this.room.ask({ t: "pull", s: 2, have: wanted.from, max: MOST });
     this.equal({ from, edits: es }, wanted);
     this.equal(this.document.play(es, from), []);
+  }
+
+  /** Another run of the program, whose log has lost so many operations, or is a new one of the same text. */
+  async restart({ lost, isRenewed = false, isSameSite = false }) {
+    this.room = await (isRenewed ? renewedRun(this.room, lost) : keptRun(this.room, lost, isSameSite ? 0 : 2));
+    this.seen = (await this.room.ask({ t: "join", u: 16 })).v;
+    [this.others, this.number, this.submission] = [0, 0, null];
+  }
+
+  /** The client joins the run, and comes to its text. */
+  async follow(step) {
+    const { x, v } = await this.room.ask({ t: "join", u: 16 });
+    const shown = this.document.text;
+    const go = await wayTo(this.document, new Document(x, v, await this.log.last(v)), this.log, []);
+    const changes = go();
+    this.document.site = null;
+    this.equal(changes, step.changes);
+    this.equal(played(shown, changes), this.document.text);
+    this.equal(this.document.roomText, x);
+    for (const [before, after] of step.carets ?? []) this.equal(carried(before, changes), after, `${this.name}: a caret at ${before}`);
   }
 
   async pull(step) {
@@ -165,12 +193,14 @@ async function mergeAtRandom(seed, steps) {
   return x.length;
 }
 
-const { cases } = JSON.parse(readFileSync(new URL("../examples/vectors/merging.json", import.meta.url), "utf8"));
+const vectors = (name) => JSON.parse(readFileSync(new URL(`../examples/vectors/${name}.json`, import.meta.url), "utf8")).cases;
+const cases = vectors("merging");
 for (const it of cases) await new Case(it).play();
+const rejoined = await rejoin(vectors("rejoining"));
 const merged = [];
 for (let seed = 1; seed <= 3; seed += 1) merged.push(await mergeAtRandom(seed, 1_000));
 undoOnesOwn();
 undoQuickly();
 mustFitWhole();
 for (let seed = 1; seed <= 300; seed += 1) undoAtRandom(dice(seed), seed % 2 === 0);
-console.log(`bin/try_merging: ${cases.length} vectors, texts of ${merged.join(", ")} units merged, steps undone`);
+console.log(`bin/try_merging: ${cases.length + rejoined} vectors, texts of ${merged.join(", ")} units merged, steps undone`);

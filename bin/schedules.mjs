@@ -170,7 +170,7 @@ async function leavesAtOnce() {
   const busy = await begin("hello");
   busy.delay = 300;
   busy.editor.change(5, 0, "!");
-  await until(() => busy.lines[0].asked.includes("ins"));
+  await until(() => busy.lines[0].asked.filter((it) => it === "ins").length === 2);
   const closed = busy.editor.session.close();
   assert.equal(busy.lines[0].asked.at(-1), "leave");
   await closed;

@@ -37,7 +37,7 @@ async function goOnInAnotherRun() {
   editors[0].change(0, 0, "hello");
   await until(() => editors.every(({ shown, session }) => shown === "hello" && !session.isAhead));
   room.close();
-  room = new Room();
+  room = new Room(1);
   await until(() => editors.every(({ session }) => session.state === "another text"));
   assert.deepEqual(editors.map(({ shown }) => shown), ["hello", "hello"]);
   editors[0].change(5, 0, "!");
@@ -68,10 +68,10 @@ async function isRefused() {
   const tooMany = " too many".repeat(8);
   late.change(4, 0, tooMany);
   late.change(0, 2, "");
-  await late.session.ended;
+  await until(() => late.session.state === "refused");
   const unsent = [{ kind: "deleted", text: "on" }, { kind: "put in", text: tooMany }];
   assert.deepEqual([late.session.state, late.session.unsent, line.asked.at(-1)], ["refused", unsent, "leave"]);
-  await patient.session.close();
+  for (const { session } of [late, patient]) await session.close();
   for (const { session } of [late, patient]) assert.throws(() => session.insert(0, "x"), Ended);
   room.close();
 }

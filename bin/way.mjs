@@ -1,5 +1,6 @@
 // Editors and their ways to a room, which break at given requests, for bin/schedules.mjs.
 import assert from "node:assert/strict";
+import { MOST } from "../examples/web/document.js";
 import { Lost } from "../examples/web/rgatext.js";
 import { pause } from "../examples/web/seat.js";
 import { editorOf, Line, Room, until } from "./room.mjs";
@@ -16,6 +17,8 @@ export class Way {
     this.lines = [];
     this.loses = () => "";
     this.editor = editorOf(() => this.connect());
+    this.states = [];
+    this.editor.session.addEventListener("state", () => this.states.push(this.editor.session.state));
   }
 
   async connect() {
@@ -68,11 +71,17 @@ export class Way {
     return this.loseOnce({ r: "no", n }, kind, true);
   }
 
+  /** Waits until the editor has joined the room that is there in another's place. */
+  async joins(room) {
+    await until(() => this.lines.at(-1).room === room && this.lines.at(-1).asked.includes("join"));
+  }
+
   async comesTo(state, shown = this.editor.shown) {
     const { editor } = this;
     const { session } = editor;
     const isAsWanted = () => session.state === state && editor.shown === shown && !(state === "up to date" && session.isAhead);
-    await until(isAsWanted, () => `${state}, "${shown}": ${session.state}, "${editor.shown}"`);
+    const told = (text) => `"${text.slice(0, 100)}" of ${text.length}`;
+    await until(isAsWanted, () => `${state}, ${told(shown)}: ${session.state}, ${told(editor.shown)}`);
   }
 }
 
@@ -102,13 +111,39 @@ export const typedBy = (room, k, x) => submittedBy(room, { t: "ins", k, x });
 /** Another session deletes so many units. */
 export const deletedBy = (room, k, c) => submittedBy(room, { t: "del", k, c });
 
-/** Another run with the log of a room, but for the last operations. */
-export async function keptRun(room, without = 0) {
-  const kept = new Room(2);
-  const told = (await room.operations()).flat();
-  await kept.refill([told.slice(0, told.length - without)]);
+/** The single operations of one that may be a run. */
+function singles({ k, c, s, p, x, t }) {
+  if (k === "d") return [{ k, c, s, t }];
+  const sum = c.reduce((total, [, count]) => total + count, 0);
+  const clock = (n) => c.map(([site, count]) => [site, count + (site === s ? n : 0)]);
+  return [...x].map((sign, n) => ({ k: "i", c: clock(n), s, p: n === 0 ? p : [sum + n - 1, s], x: sign }));
+}
+
+/** Another run at a site, with the log of a room but for the last operations. */
+export async function keptRun(room, without = 0, site = 2) {
+  const kept = new Room(site);
+  const told = (await room.operations()).flat().flatMap(singles);
+  told.splice(told.length - without);
+  while (told.length > 0) await kept.refill([told.splice(0, MOST)]);
   room.close();
   return kept;
+}
+
+/** A room that was renewed: with the text of another one, as site 0 typed it, but for the last operations. */
+export async function renewedRun(room, without = 0) {
+  const kept = await keptRun(room, without);
+  const text = await textOf(kept);
+  kept.close();
+  const typist = new Room(0);
+  const { s } = await typist.ask({ t: "join", u: 16 });
+  for (let at = 0, n = 1; at < text.length; at += MOST, n += 1) {
+    await typist.ask({ t: "ins", s, n, v: at, k: at, x: text.slice(at, at + MOST) });
+    await typist.ask({ t: "pull", s, have: at, max: MOST });
+  }
+  const renewed = new Room(1);
+  await renewed.refill(await typist.operations());
+  typist.close();
+  return renewed;
 }
 
 export async function end(...ways) {

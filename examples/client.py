@@ -6,16 +6,25 @@ to it; it raises `Lost` where no answer came, whether or not the request arrived
 `rgatext lines`, and `Socket` one over `rgatext serve`, by the library `websockets`. Run as a program, the file types what
 it reads into a new room and prints the room's text.
 """
+import itertools
 import json
 import subprocess
 import sys
 import time
 
-MOST = 64  # characters of a submission, edits of a pull
+from past import MOST, PENDING, Deletion, Insertion, Past, is_of_site_0, operations, play, written
+
+FULL = 131_072  # operations of a room
+SEARCHED = 8_192  # operations of another run that are looked through for what is known here, at most
+LONGEST = 5  # seconds between two tries, at most
 
 
 class Lost(Exception):
-    """No answer came. The request may have been carried out."""
+    """No answer came. What was asked for stays in `waiting`, and the session's next call sends it first: don't repeat it."""
+
+
+class Full(Exception):
+    """The room doesn't take as many changes. Nothing was sent."""
 
 
 class Refused(Exception):
@@ -66,36 +75,41 @@ class Socket:
         self.gone = (OSError, asyncio.TimeoutError, websockets.WebSocketException)
         self.address, self.room, self.line, self.lines = address, room, None, 0
 
-    async def opened(self):
-        line = await self.connect(self.address, max_size=None, ping_interval=None)
-        await line.send(spelled({"t": "open", "room": self.room}))
-        reply = json.loads(await line.recv())
-        if reply["r"] == "no":
-            await line.close()
-            raise Refused(reply["n"])
-        return line
+    async def told(self, request):
+        await self.line.send(spelled(request))
+        return json.loads(await self.line.recv())
 
     async def answer(self, request):
-        self.line = self.line or await self.opened()
-        await self.line.send(spelled(request))
-        reply = json.loads(await self.line.recv())
+        if self.line is None:
+            self.line = await self.connect(self.address, max_size=None, ping_interval=None)
+            reply = await self.told({"t": "open", "room": self.room})
+            if reply["r"] == "no":
+                await self.ended()
+                raise Refused(reply["n"])
+        reply = await self.told(request)
         if reply.get("n") == 25:  # this line's calls are used up: the next request connects again
-            await self.line.close()
-            self.line = None
+            await self.ended()
         return reply
+
+    async def ended(self, is_lost=False):
+        """Ends the line, and waits until the library has done with it."""
+        line, self.line = self.line, None
+        if is_lost:
+            line.transport.abort()
+        await line.close()
 
     def __call__(self, request):
         try:
             return self.run(self.wait(self.answer(request), 60))
         except self.gone:
             if self.line:
-                self.line.transport.abort()
-            self.line, self.lines = None, self.lines + 1
+                self.run(self.ended(is_lost=True))
+            self.lines += 1
             raise Lost from None
 
     def close(self):
         if self.line:
-            self.run(self.line.close())
+            self.run(self.ended())
 
 
 def carried(place, edits):
@@ -109,43 +123,50 @@ def carried(place, edits):
     return place
 
 
-def play(text, edits):
-    """Plays edits on a text, a list of characters."""
-    for edit in edits:
-        if edit[0] == "i":
-            text.insert(edit[1], edit[2])
-        elif edit[0] == "d":
-            del text[edit[1] : edit[1] + 1]
-
-
 class Session:
-    """A session: the text and the version that it has, and the number of its last accepted submission."""
+    """A session: the text and the version that it has, the number of its last accepted submission, and what is to be submitted."""
 
     def __init__(self, ask, tries=20, pause=0.01):
         self.ask = ask
         self.tries = tries  # how often a request is sent whose answer is lost
-        self.pause = pause  # seconds before a request is sent again that found no memory
-        self.under_way = None  # the submission whose answer wasn't seen
+        self.pause = pause  # seconds before a request is sent again, at first; then each time twice as long
+        self.waiting = []  # what was asked for and isn't in the text yet; a part of its first may be under way
+        self.missing = []  # what another run of the server lacks of one's own
         self.before = []  # the text before the session joined anew
-        self.undecided = None  # that, with what was known of its log and was under way, until the session goes on
-        self.join()
+        self.played = []  # edits that no call gave yet
+        self.session, self.version, self.text, self.lines, self.under_way = None, 0, [], None, None
+        self.past = Past(0, [], [])
+        self.join_anew()
+        self.played = []
+
+    def _begin(self, joined):
+        self.session, self.version, self.text = joined["s"], joined["v"], list(joined["x"])
+        self.lines = getattr(self.ask, "lines", 0)
+        self.number, self.came, self.reached = 0, 0, 0  # the last accepted submission, and from and to which version it led
+        self.under_way = None  # the submission whose edits weren't played yet
+        self.is_full = False
+
+    def _pauses(self):
+        """So many tries, with pauses between that grow."""
+        for at in range(self.tries):
+            time.sleep(min(self.pause * 2 ** (at - 1), LONGEST) if at else 0)
+            yield
 
     def _ask(self, request):
         """The reply, a refusal too, asked for again where memory was refused or a line's calls are used up."""
-        for _ in range(self.tries):
+        for _ in self._pauses():
             reply = self.ask(request)
             if reply.get("n") == 13 and reply["r"] == "no":
                 raise Refused(13)
             if reply["r"] != "no" or reply["n"] not in (25, 26):
                 return reply
-            time.sleep(self.pause)
         raise Lost
 
     def _answer(self, request):
         """The reply, where it isn't refused, to a request that may be sent again: nothing is carried out twice."""
-        for _ in range(self.tries):
+        for _ in self._pauses():
             try:
-                if request["t"] != "join" and self.lines != getattr(self.ask, "lines", 0):
+                if self.lines != getattr(self.ask, "lines", 0):
                     self._find_out()
                 reply = self._ask(request)
             except Lost:
@@ -159,43 +180,10 @@ class Session:
     def _refuse(number):
         raise JoinAnew(number) if number in (5, 7, 9, 22) else Refused(number)
 
-    def join(self):
-        """Opens a session. If the answer is lost, a session of the room stays unused."""
-        reply = self._answer({"t": "join"})
-        self.session, self.version, self.text = reply["s"], reply["v"], list(reply["x"])
-        self.lines = getattr(self.ask, "lines", 0)
-        self.number, self.came, self.reached = 0, 0, 0
-        self.known = 0, []  # a version of this session, and what the log had last there
-        self._remember(self.version)
-
-    def join_anew(self):
-        """Joins another run of the server: whether its log goes on from what was pulled here, so that what is unsent may be submitted by
-        the text of now. Where it doesn't, the text of before stays in `before`, and the user chooses, as docs/CLIENTS.md tells; until
-        something is submitted, a further call speaks of the same text."""
-        self.undecided = self.undecided or (self.text, self.known, self.under_way)
-        self.before, known, under_way = self.undecided
-        self.under_way = None
-        self.join()
-        is_known = not under_way and 0 < known[0] <= self.version and self._begins_as(known, self._answer)
-        if is_known or self.text == self.before:
-            self.undecided = None
-        return self.undecided is None
-
-    @staticmethod
-    def _last_operations(version, ask):
-        """What the log has last up to a version, which isn't 0; nothing where it hasn't come to that."""
-        count = min(MOST, version)
-        return ask({"t": "ops", "after": version - count, "max": count}).get("ops")
-
-    def _remember(self, version):
-        """What the log has last up to a version, by which it is known again."""
-        if version > 0:
-            self.known = version, self._last_operations(version, self._answer)
-
-    def _begins_as(self, known, ask):
-        """Whether the log begins as was known."""
-        version, last = known
-        return version == 0 or self._last_operations(version, ask) == last
+    def _goes_on(self):
+        """Whether the log goes on from the last that is known here."""
+        last = self.past.log[-MOST:]
+        return operations(self._ask, self.version - len(last), self.version) == last
 
     def _find_out(self):
         """On another line: whether the server is in the same run, where the last accepted submission has the answer that it had and the
@@ -203,37 +191,99 @@ class Session:
         lines = getattr(self.ask, "lines", 0)
         again = lambda n: self._ask({"t": "ins", "s": self.session, "n": n, "v": 0, "k": 0, "x": ""})
         reply = again(self.number)
-        same = (reply["r"], reply.get("from"), reply.get("to")) == ("ok", self.came, self.reached)
-        same = same and self._begins_as(self.known, self._ask)
+        is_same = (reply["r"], reply.get("from"), reply.get("to")) == ("ok", self.came, self.reached)
         if reply.get("n") == 7:
-            next_one = again(self.number + 1)
-            same = self._is_mine(next_one)
-            if self.number == 0 and next_one.get("n") in (8, 10) and self._reads_the_same():
-                self._ask({"t": "leave", "s": self.session})  # unused: in another run it may be another client's, so no two share it
-        if not same:
+            reply = again(self.number + 1)
+            if is_same := reply["r"] == "ok" and self._is_unanswered() and self.version <= reply["from"]:
+                log = operations(self._ask, reply["from"], reply["to"])
+                is_same = self.past.came_at(0, log, self.under_way) == reply["to"] - reply["from"]
+            if self.number == 0 and reply.get("n") in (8, 10) and self._goes_on():
+                self._leave_unused()
+        if not (is_same and self._goes_on()):
             raise JoinAnew(5)
         self.lines = lines
 
-    def _is_mine(self, reply):
-        """Whether this is the answer to what is under way, in a log that begins as is known here: its operations are those that were
-        asked for. A deletion tells no place, so of those only the count is compared."""
-        if reply["r"] != "ok" or not self.under_way or self.known[0] > reply["from"] or not self._begins_as(self.known, self._ask):
-            return False
-        ops = self._ask({"t": "ops", "after": reply["from"], "max": min(MOST, reply["to"] - reply["from"])})["ops"]
-        text, count = self.under_way.get("x", ""), self.under_way.get("c", len(self.under_way.get("x", "")))
-        return reply["to"] - reply["from"] == count and "".join(it.get("x", "") for it in ops) == text
+    def _leave_unused(self):
+        """Leaves a session that has submitted nothing: in another run it may be another client's, and no two may share one."""
+        if self._ask({"t": "pull", "s": self.session, "have": self.version, "max": 1})["r"] == "edits":
+            self._ask({"t": "leave", "s": self.session})
 
-    def _reads_the_same(self):
-        """Whether pulls by the session, which has submitted nothing, lead to the text that is read."""
-        text, version = list(self.text), self.version
-        while True:
-            reply = self._ask({"t": "pull", "s": self.session, "have": version, "max": MOST})
-            if reply["r"] == "no":
-                return False
-            play(text, reply["es"])
-            version += len(reply["es"])
-            if len(reply["es"]) < MOST and (read := self._ask({"t": "read"}))["v"] == version:
-                return text == list(read["x"])
+    def _is_unanswered(self):
+        return self.under_way is not None and self.under_way["n"] > self.number
+
+    def join_anew(self):
+        """Joins, also another run of the server, and says whether its log goes on from what was pulled here: then what is waiting is
+        submitted there. Else `missing` has what that run lacks of one's own, which `put_missing` submits, and `before` is the text of
+        before. Where it raises call it again."""
+        for _ in self._pauses():
+            try:
+                if self.session is not None and self.lines == getattr(self.ask, "lines", 0):
+                    self._ask({"t": "leave", "s": self.session})  # on one line the run is the same
+                joined = self._ask({"t": "join"})
+                if joined["r"] == "no":
+                    raise Refused(joined["n"])
+                version, common = joined["v"], self._common()
+                kept = self._kept(version) if common is None and self.session is not None else common
+                if common is not None and common < self.past.version:
+                    common, kept = None, self.past.version  # all that is remembered was lost
+                begin = version if common is None else common
+                log = operations(self._ask, begin, min(version, begin + SEARCHED))
+                last = operations(self._ask, max(0, version - MOST), version)
+            except Lost:
+                continue
+            return self._go_on(joined, common, kept, log, last)
+        raise Lost
+
+    def _common(self):
+        """Up to which version the log is the one that is known here; nothing where it isn't, or begins as that of a renewed room does."""
+        if self.session is None:
+            return None
+        if self._goes_on():
+            return self.version
+        first, known = self.past.first, self.past.log
+        told = lambda at: operations(self._ask, first + at, min(first + at + MOST, self.version))
+        if told(0)[:1] != known[:1]:
+            return None
+        at = len(known) // MOST * MOST
+        while at > 0 and told(at - MOST) != known[at - MOST : at]:
+            at -= MOST
+        pairs = itertools.zip_longest(told(at), known[at:][:MOST])
+        count, new = next(((at + n, one) for n, (one, other) in enumerate(pairs) if one != other), (0, None))
+        is_renewed = new is not None and new.stamp[1] in {it.stamp[1] for it in known[:count]}  # a run that goes on has a site of its own
+        return None if count == 0 or is_renewed else first + count
+
+    def _kept(self, version):
+        """Up to which version of those that are remembered another log has what was done: that whose text it was written of, where the
+        room was renewed; nothing where that was a later one."""
+        kept = self.past.version_of(written(self._ask, version))
+        return self.past.version if kept is None and (version == 0 or is_of_site_0(self._ask, version)) else kept
+
+    def _go_on(self, joined, common, kept, log, last):
+        goes_on, self.before = common == self.version, list(self.text)
+        if goes_on and self.under_way:
+            self._play_own(log)
+        played = list(self.played)
+        self.waiting, self.missing = self.waiting + self.missing, []
+        while self.waiting:
+            for _ in range(len(self.waiting[0])):
+                self.past.step(PENDING, self.waiting[0].edit(), True)
+                self._play(self.waiting[0].edit(), True)
+            self.waiting.pop(0)
+        edits, lost = self.past.move(joined["v"], list(joined["x"]), common, kept, log, last)
+        self._begin(joined)
+        self.waiting, self.missing = (lost, []) if goes_on else ([], lost)
+        self.played = played + edits
+        return goes_on
+
+    def _play_own(self, log):
+        """Plays what a log that goes on from here has of what is under way."""
+        places = range(len(log)) if self._is_unanswered() else [self.came - self.version]
+        at, count = next(((it, count) for it in places if (count := self.past.came_at(it, log, self.under_way))), (0, 0))
+        for n in range(count):
+            k = self.under_way["k"]
+            edit = ["i", k + n, self.under_way["x"][n]] if self.under_way["t"] == "ins" else ["d", k]
+            self._play(edit, True)
+            self.past.step(self.version + at + n + 1, edit, True, log[at + n].stamp)
 
     def leave(self):
         """Ends the session, where it is there and the run of the server is the same."""
@@ -242,46 +292,98 @@ class Session:
         except JoinAnew:
             pass  # 5: it was ended, or it may be another client's by now
 
-    def follow(self, reply):
-        """Plays a reply, whenever and however often it comes, and gives the edits that it played."""
-        if reply["r"] != "edits" or reply["from"] != self.version:
-            return []
-        play(self.text, reply["es"])
-        self.version += len(reply["es"])
-        return reply["es"]
+    def _play(self, edit, is_own):
+        """Plays an edit on the text, and on the places of what is to be submitted."""
+        others = self.waiting + self.missing
+        if is_own:
+            others.pop(0).came(edit)
+        for it in others:
+            it.follow(edit, is_own)
+        play(self.text, [edit])
+        self.played.append(edit)
 
-    def pull(self):
-        """Brings the text up to the newest version, and gives the edits that led there."""
-        played = []
-        while True:
-            edits = self.follow(self._answer({"t": "pull", "s": self.session, "have": self.version, "max": MOST}))
-            played += edits
-            if len(edits) < MOST:
-                break
-        if played:
-            self._remember(self.version)
+    def follow(self, reply):
+        """Plays a reply, whenever and however often it comes, and gives the edits that it played. While it isn't known which edits are
+        one's own it plays none."""
+        if reply["r"] != "edits" or reply["from"] != self.version or self.under_way:
+            return []
+        self._play_all(reply["es"])
+        return self._given()
+
+    def _play_all(self, edits):
+        for edit, operation in zip(edits, operations(self._answer, self.version, self.version + len(edits))):
+            is_own = self.came <= self.version < self.reached
+            self._play(edit, is_own)
+            self.past.note(edit, is_own, operation)
+            self.version += 1
+        if not self._is_unanswered():
+            self.under_way = None
+            self.waiting = [it for it in self.waiting if len(it)]
+
+    def _given(self):
+        played, self.played = self.played, []
         return played
 
-    def _submit(self, kind, place, **what):
-        """Submits at a place of the session's text, as its next number. The version that it names is always one that
-        was sent, so 8 doesn't come."""
-        self.under_way = {"t": kind, "s": self.session, "n": self.number + 1, "v": self.version, "k": place, **what}
-        reply = self._answer(self.under_way)
+    def _pull(self):
+        edits = []
+        while True:
+            more = self._answer({"t": "pull", "s": self.session, "have": self.version + len(edits), "max": MOST})["es"]
+            edits += more
+            if len(more) < MOST:
+                return self._play_all(edits)
+
+    def pull(self):
+        """Submits what is waiting, as long as the room takes it, and brings the text up to the newest version. Gives the edits since
+        those that a call gave last."""
+        while True:
+            if self.waiting and not self.is_full:
+                self._submit()
+            self._pull()
+            if not self.waiting or self.is_full:
+                return self._given()
+
+    def _submit(self):
+        """Submits the first part of what is waiting, or asks for the answer that wasn't seen."""
+        self.under_way = self.under_way or {"s": self.session, "n": self.number + 1, "v": self.version, **self.waiting[0].request()}
+        if not self._is_unanswered():
+            return
+        try:
+            reply = self._answer(self.under_way)
+        except Refused as refused:
+            if not isinstance(refused, JoinAnew) and refused.number != 13:
+                self.under_way, self.is_full = None, refused.number == 12
+            raise
         if reply["from"] < self.reached:
             self._refuse(7)
         self.number, self.came, self.reached = self.number + 1, reply["from"], reply["to"]
-        self._remember(self.reached)
-        self.under_way = self.undecided = None
+
+    def _do(self, change):
+        """Submits a change, where the room takes all of it. A long one's room is looked for in the version of now."""
+        self.waiting.append(change)
+        if len(change) > MOST and not self.under_way:
+            self._pull()
+        if self.version + sum(map(len, self.waiting)) > FULL:
+            self.waiting.remove(change)
+            raise Full
+        return self.pull()
 
     def insert(self, place, text):
-        """Puts a text in at a place. Its parts all name one version and place, so the last one is sent first."""
-        for start in reversed(range(0, len(text), MOST)):
-            self._submit("ins", place, x=text[start : start + MOST])
+        """Puts a text in at a place, and gives the edits that were played, its own among them."""
+        if not 0 <= place <= len(self.text):
+            raise ValueError("beyond the text")
+        text.encode()  # half a pair is no text
+        return self._do(Insertion(place, text))
 
     def delete(self, place, count):
-        """Deletes characters from a place on. The places of the version that is named don't move."""
-        for start in range(0, count, MOST):
-            self._submit("del", place + start, c=min(MOST, count - start))
+        """Deletes characters from a place on, and gives the edits that were played, its own among them."""
+        if not 0 <= place <= place + count <= len(self.text):
+            raise ValueError("beyond the text")
+        return self._do(Deletion(range(place, place + count)))
+
+    def put_missing(self):
+        """Submits what another run of the server lacks of one's own."""
+        self.waiting, self.missing = self.waiting + self.missing, []
+        return self.pull()
 
 
 if __name__ == "__main__":

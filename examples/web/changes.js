@@ -40,7 +40,13 @@ export function carried(place, changes) {
 /** Adds a change, or lengthens the last one where it goes on there. */
 export function add(changes, change) {
   const last = changes.at(-1) ?? { at: -1, removed: 0, text: "" };
-  if (last.removed === 0 && change.removed === 0 && change.at === last.at + last.text.length) last.text += change.text;
-  else if (last.text === "" && change.text === "" && change.at === last.at) last.removed += change.removed;
-  else changes.push(change);
+  const isRemoval = last.text === "" && change.text === "";
+  if (last.removed === 0 && change.removed === 0 && change.at === last.at + last.text.length) {
+    last.text += change.text;
+  } else if (isRemoval && (change.at === last.at || change.at + change.removed === last.at)) {
+    last.at = change.at;
+    last.removed += change.removed;
+  } else {
+    changes.push(change);
+  }
 }

@@ -7,28 +7,10 @@
  * An open line to a room. `ask` sends a request and gives its reply, or throws `Lost`.
  * @typedef {{isOpen: boolean, ask(request: object): Promise<Reply>, close(): void}} Line
  */
+import { Lost, Refused } from "./faults.js";
 
 /** Milliseconds until an answer is missed. One to `join` has the whole text, and where it isn't seen a session is left that nobody uses. */
 export const LIMITS = { join: 60_000, other: 8_000 };
-
-/** What the numbers of refusals mean that a session may come to. */
-const REASONS = {
-  4: "the server has no room of this name",
-  6: "64 editors are there, and no more may join",
-  12: "the room is full: it takes no more changes",
-  13: "the room is at its end: it takes no more calls",
-};
-
-/** No answer came. The request may have been carried out. */
-export class Lost extends Error {}
-
-/** The server refused a request; `number` says why. */
-export class Refused extends Error {
-  constructor(number) {
-    super(REASONS[number] ?? `the server refused a request with ${number}`);
-    this.number = number;
-  }
-}
 
 /** A line over a WebSocket. */
 export class Connection {

@@ -6,8 +6,11 @@
  * deletion that is new or under way. What is shown are the pieces that aren't gone. The room's text are the pieces that are its own.
  */
 import { add } from "./changes.js";
+import { differences } from "./differences.js";
+import { Memory } from "./memory.js";
 import { Piece } from "./piece.js";
-import { beginning, characters, differences, isInside } from "./text.js";
+import { Pieces } from "./pieces.js";
+import { beginning, characters, isInside } from "./text.js";
 
 /** The most characters of an insertion, units of a deletion, edits of a pull and operations of an `ops`. */
 export const MOST = 64;
@@ -25,51 +28,70 @@ export const MOST = 64;
  */
 
 /** @typedef {{kind: "put in" | "deleted", text: string}} Unsent */
+/** @typedef {import("./memory.js").Known} Known */
+
+const NONE = [];
+
+/** What is known of operations, one object for those that are alike: many thousands are remembered. */
+const alike = new Map();
+function knownAs(sign, site) {
+  if (alike.size === 10_000) alike.clear();
+  const key = `${site} ${sign}`;
+  if (!alike.has(key)) alike.set(key, { sign, site });
+  return alike.get(key);
+}
 
 export class Document {
-  /** @type {Piece[]} */
-  #pieces;
+  #pieces = new Pieces();
   #orders = 0;
   /** What is under way: nothing, or what was sent; once it is accepted, from and to which version it leads. */
   #sent = null;
 
-  /** The document of a room's text at a version, whose log has this last. */
+  /**
+   * The document of a room's text at a version, whose log has this last.
+   * @param {Known[]} last
+   */
   constructor(text = "", version = 0, last = []) {
-    this.#pieces = text === "" ? [] : [new Piece(text, "room")];
+    if (text !== "") this.#pieces.list.push(new Piece(text, "room"));
     this.version = version;
-    /** What the log has last up to the version: of an insertion its character, and an empty text of a deletion. @type {string[]} */
-    this.last = last;
+    this.memory = new Memory(version, last);
+    /** The site of the server's run, once an accepted submission has told it. @type {number | null} */
+    this.site = null;
   }
 
   /** The text that is shown. */
   get text() {
-    return this.#pieces.map((piece) => (piece.isShown ? piece.text : "")).join("");
+    return this.#pieces.text((piece) => piece.isShown);
   }
 
   /** The room's text at the document's version. */
   get roomText() {
-    return this.#pieces.map((piece) => (piece.isRooms ? piece.text : "")).join("");
+    return this.#pieces.text((piece) => piece.isRooms);
   }
 
   /** The room's text as it is once what is under way is played. */
   get textToCome() {
-    return this.#pieces.map((piece) => (piece.owner !== "new" && piece.gone !== "sent" ? piece.text : "")).join("");
-  }
-
-  /** What the log has of what is under way, once it is accepted, as `last` tells it. */
-  get underWay() {
-    const signs = this.#pieces.map((piece) => (piece.owner === "sent" || piece.gone === "sent" ? [...piece.text] : []));
-    return signs.flat().map((sign) => (this.#sent.submission.t === "ins" ? sign : ""));
+    return this.#pieces.text((piece) => (piece.isRooms || piece.owner === "sent") && piece.gone !== "sent");
   }
 
   /**
-   * What was changed here and the room isn't known to have: the texts that were put in, and such of the room's that were deleted.
+   * What is under way and wasn't played yet: where it was put in or deleted in the room's text, and its characters.
+   */
+  get underWay() {
+    const isUnderWay = (piece) => piece.owner === "sent" || piece.gone === "sent";
+    const first = this.#pieces.list.findIndex(isUnderWay);
+    const isPut = this.#sent.submission.t === "ins";
+    return { isPut, k: this.#pieces.roomPlace(first), signs: [...this.#pieces.text(isUnderWay)] };
+  }
+
+  /**
+   * What was changed here and the room isn't known to have: the texts that were put in, and those that were deleted.
    */
   get unsent() {
     /** @type {Unsent[]} */
     const unsent = [];
-    for (const { text, isShown, isRooms } of this.#pieces) {
-      if (isShown !== isRooms) unsent.push({ kind: isShown ? "put in" : "deleted", text });
+    for (const { text, isShown, isRooms, isLost } of this.#pieces.list) {
+      if (!isLost && !(isShown && isRooms)) unsent.push({ kind: isShown ? "put in" : "deleted", text });
     }
     return unsent;
   }
@@ -77,9 +99,9 @@ export class Document {
   /** How many changes of the room's text are new or under way: characters to put in, and such to delete. */
   get pending() {
     let count = 0;
-    for (const piece of this.#pieces) {
-      if (!piece.isRooms) count += characters(piece.text);
-      if (piece.gone !== null) count += characters(piece.text);
+    for (const { text, isShown, isRooms, isLost } of this.#pieces.list) {
+      if (!isLost && !isRooms) count += characters(text);
+      if (!isLost && !isShown) count += characters(text);
     }
     return count;
   }
@@ -88,7 +110,7 @@ export class Document {
   cost(at, removed, text) {
     let count = characters(text.toWellFormed());
     let before = 0;
-    for (const piece of this.#pieces) {
+    for (const piece of this.#pieces.list) {
       if (!piece.isShown) continue;
       const part = piece.text.slice(Math.max(0, at - before), Math.max(0, at + removed - before));
       count += piece.owner === "new" ? -characters(part) : characters(part);
@@ -124,31 +146,32 @@ export class Document {
 
   /** Puts a text in behind what is shown before the place. What is new there already takes it in. */
   #insert(at, text) {
-    const index = this.#behind(at);
-    const left = this.#pieces[index - 1];
+    const index = this.#pieces.behind(at);
+    const left = this.#pieces.list[index - 1];
     if (left !== undefined && left.owner === "new" && left.isShown) {
       left.text += text;
       return;
     }
-    this.#pieces.splice(index, 0, new Piece(text, "new", null, (this.#orders += 1)));
+    this.#pieces.list.splice(index, 0, new Piece(text, "new", null, (this.#orders += 1)));
   }
 
   /** Removes so many units of what is shown. What is new is taken out; all else is gone, and that is sent when its turn comes. */
   #remove(at, removed) {
     if (removed === 0) return;
+    const { list } = this.#pieces;
     const order = (this.#orders += 1);
-    let index = this.#behind(at);
+    let index = this.#pieces.behind(at);
     let rest = removed;
     while (rest > 0) {
-      const piece = this.#pieces[index];
+      const piece = list[index];
       if (!piece.isShown) {
         index += 1;
         continue;
       }
-      if (piece.text.length > rest) this.#pieces.splice(index + 1, 0, piece.cut(rest));
+      this.#pieces.cut(index, rest);
       rest -= piece.text.length;
       if (piece.owner === "new") {
-        this.#pieces.splice(index, 1);
+        list.splice(index, 1);
       } else {
         piece.gone = "new";
         piece.order = order;
@@ -157,44 +180,42 @@ export class Document {
     }
   }
 
-  /** The number of the piece right behind what is shown before the place; a piece that the place is inside of is cut there. */
-  #behind(at) {
-    if (at === 0) return 0;
-    let before = 0;
-    for (let index = 0; index < this.#pieces.length; index += 1) {
-      const piece = this.#pieces[index];
-      if (!piece.isShown) continue;
-      if (at <= before + piece.text.length) {
-        if (at < before + piece.text.length) this.#pieces.splice(index + 1, 0, piece.cut(at - before));
-        return index + 1;
-      }
-      before += piece.text.length;
-    }
-    return this.#pieces.length;
+  /** The order of what is made next: all that is pending now has that of before. */
+  get order() {
+    return this.#orders + 1;
   }
 
   /**
-   * What is to be sent next, and marks it as under way; nothing where all is sent, or something is under way. What was done first is
-   * sent first.
+   * What is to be sent next, and marks it as under way; nothing where all is sent that was made before an order, or something is under way.
+   * What was done first is sent first.
    * @returns {Submission | null}
    */
-  next() {
-    if (this.#sent !== null) return null;
-    let first = -1;
-    for (const [index, piece] of this.#pieces.entries()) {
-      const isNew = piece.owner === "new" || (piece.isRooms && piece.gone === "new");
-      if (isNew && (first < 0 || piece.order < this.#pieces[first].order)) first = index;
-    }
+  next(before = Infinity) {
+    const first = this.#sent === null ? this.#first(before) : -1;
     if (first < 0) return null;
-    const k = this.#roomPlace(first);
-    this.#sent = this.#pieces[first].isRooms ? this.#deletion(first, k) : this.#insertion(first, k);
+    const k = this.#pieces.roomPlace(first);
+    this.#sent = this.#pieces.list[first].isRooms ? this.#deletion(first, k) : this.#insertion(first, k);
     return this.#sent.submission;
   }
 
+  /** Whether something is new that was made before an order. */
+  hasNew(before = Infinity) {
+    return this.#first(before) >= 0;
+  }
+
+  #first(before) {
+    const { list } = this.#pieces;
+    let first = -1;
+    for (const [index, piece] of list.entries()) {
+      if (piece.isNew && piece.order < before && (first < 0 || piece.order < list[first].order)) first = index;
+    }
+    return first;
+  }
+
   #insertion(index, k) {
-    const piece = this.#pieces[index];
+    const piece = this.#pieces.list[index];
     const x = beginning(piece.text, MOST);
-    if (x.length < piece.text.length) this.#pieces.splice(index + 1, 0, piece.cut(x.length));
+    this.#pieces.cut(index, x.length);
     piece.owner = "sent";
     return { submission: { t: "ins", k, x }, from: null, to: null };
   }
@@ -202,14 +223,14 @@ export class Document {
   /** The deletion of what is gone from a piece on, without a gap in the room's text. */
   #deletion(first, k) {
     let c = 0;
-    for (let index = first; index < this.#pieces.length; index += 1) {
-      const piece = this.#pieces[index];
+    for (let index = first; index < this.#pieces.list.length; index += 1) {
+      const piece = this.#pieces.list[index];
       if (!piece.isRooms) continue;
       if (piece.gone !== "new") break;
       let most = Math.min(MOST - c, piece.text.length);
       if (isInside(piece.text, most)) most -= 1;
       if (most === 0) break;
-      if (most < piece.text.length) this.#pieces.splice(index + 1, 0, piece.cut(most));
+      this.#pieces.cut(index, most);
       piece.gone = "sent";
       c += most;
     }
@@ -230,18 +251,40 @@ export class Document {
   /** What is under way wasn't accepted: it is new again. */
   takeBack() {
     this.#sent = null;
-    for (const piece of this.#pieces) {
+    for (const piece of this.#pieces.list) {
       if (piece.owner === "sent") piece.owner = "new";
       if (piece.gone === "sent") piece.gone = "new";
     }
-    for (let index = this.#pieces.length - 1; index > 0; index -= 1) this.#joinAt(index);
+    this.#pieces.join();
   }
 
-  /** What is under way is the room's, where it is shown. */
-  came() {
-    this.#sent = null;
-    this.#pieces = this.#pieces.filter((piece) => piece.gone !== "sent");
-    for (const piece of this.#pieces) if (piece.owner === "sent") piece.owner = "room";
+  /**
+   * So many characters of what is under way are the room's, where they are shown: its log has them from a version on. The others are new
+   * again.
+   */
+  came(from, count) {
+    const { list } = this.#pieces;
+    let rest = count;
+    for (let index = 0; index < list.length && rest > 0; index += 1) {
+      const piece = list[index];
+      if (piece.owner !== "sent" && piece.gone !== "sent") continue;
+      this.#pieces.cut(index, beginning(piece.text, rest).length);
+      rest -= characters(piece.text);
+      const at = this.#pieces.roomPlace(index);
+      const isPut = piece.owner === "sent";
+      if (isPut) piece.owner = "room";
+      else list.splice(index--, 1);
+      this.#remember(from, [...piece.text].map((sign) => (isPut ? sign : "")), true, [
+        isPut ? { at, taken: [], put: piece.text } : { at, taken: [{ text: piece.text, isMine: true }], put: "" },
+      ]);
+      from += characters(piece.text);
+    }
+    this.takeBack();
+  }
+
+  #remember(from, signs, isOwn, ways) {
+    const known = signs.map((sign) => knownAs(sign, isOwn ? this.site : null));
+    this.memory.add({ from, to: from + signs.length, known, isOwn, ways });
   }
 
   /**
@@ -254,125 +297,102 @@ export class Document {
   play(edits, from = this.version) {
     const changes = [];
     if (from !== this.version) return changes;
-    for (const edit of edits) {
-      const isOwn = this.#sent !== null && this.#sent.from !== null && this.#sent.from <= this.version && this.version < this.#sent.to;
+    this.#pieces.forgetLost();
+    let put = 0; // so many edits were put in with those before
+    for (const [index, edit] of edits.entries()) {
+      const isOwn = this.#isOwn(this.version);
+      const way = { at: edit[1] ?? 0, taken: NONE, put: "" };
       if (edit[0] === "i") {
-        if (isOwn) this.#settle(edit[1], edit[2], changes);
-        else this.#put(edit[1], edit[2], changes);
+        way.put = edit[2];
+        if (isOwn) this.#pieces.settle(edit[1], edit[2], changes);
+        else if (put > 0) put -= 1;
+        else put = this.#putRun(edits, index, changes);
       } else if (edit[0] === "d") {
-        this.#take(edit[1], edit[2], changes);
+        way.taken = this.#pieces.take(edit[1], edit[2], changes);
       }
+      this.#remember(this.version, [way.put], isOwn, [way]);
       this.version += 1;
       if (isOwn && this.version === this.#sent.to) this.#sent = null;
-      this.last.push(edit[0] === "i" ? edit[2] : "");
     }
-    this.last.splice(0, this.last.length - MOST);
     return changes;
+  }
+
+  /** Whether the edit that leads from a version on is one's own. */
+  #isOwn(version) {
+    return this.#sent !== null && this.#sent.from !== null && this.#sent.from <= version && version < this.#sent.to;
+  }
+
+  /** Puts in what others did from an edit on. Gives how many edits more it takes in: a text that may have been lost counts as a whole. */
+  #putRun(edits, first, changes) {
+    const [, k] = edits[first];
+    let text = edits[first][2];
+    let more = 0;
+    if (this.#pieces.hasLost) {
+      for (; edits[first + more + 1]?.[0] === "i" && edits[first + more + 1][1] === k + text.length; more += 1) {
+        if (this.#isOwn(this.version + more + 1)) break;
+        text += edits[first + more + 1][2];
+      }
+    }
+    this.#pieces.put(k, text, changes);
+    return more;
   }
 
   /** The room has another text by now, of a version whose way from this one isn't known: what both have in common stays. */
-  follow({ roomText, version, last }) {
+  follow({ roomText, version, memory }) {
     const changes = [];
+    const ways = [];
     for (const { at, removed, text } of differences(this.roomText, roomText)) {
-      this.#take(at, removed, changes);
-      if (text !== "") this.#put(at, text, changes);
+      ways.push({ at, taken: this.#pieces.take(at, removed, changes), put: text });
+      if (text !== "") this.#pieces.put(at, text, changes);
     }
+    const known = memory.last(version);
+    if (version > this.version || ways.length > 0) this.memory.add({ from: this.version, to: version, known, isOwn: false, ways });
     this.version = version;
-    this.last = last;
     return changes;
   }
 
-  /** A text that others put in: behind what is pending at its place, which stands right behind what is before it. */
-  #put(k, text, changes) {
-    const index = this.#atRooms(k);
-    add(changes, { at: this.#shownPlace(index), removed: 0, text });
-    const left = this.#pieces[index - 1];
-    if (left !== undefined && left.isRooms && left.isShown) left.text += text;
-    else this.#pieces.splice(index, 0, new Piece(text, "room"));
-    this.#joinAt(index);
-  }
-
-  /** Units of the room's text that are deleted, by whom ever. What was gone is gone for good. */
-  #take(k, units, changes) {
-    let rest = units;
-    const index = rest > 0 ? this.#atRooms(k) : 0;
-    for (let at = index; rest > 0; ) {
-      const piece = this.#pieces[at];
-      if (!piece.isRooms) {
-        at += 1;
-        continue;
-      }
-      if (piece.text.length > rest) this.#pieces.splice(at + 1, 0, piece.cut(rest));
-      rest -= piece.text.length;
-      if (piece.isShown) add(changes, { at: this.#shownPlace(at), removed: piece.text.length, text: "" });
-      this.#pieces.splice(at, 1);
+  /**
+   * The room has lost all that came behind so many entries of the memory. What was done here since is new again, what others did is
+   * undone: they do it again. Gives the changes of the shown text.
+   */
+  goBack(length) {
+    const changes = [];
+    this.takeBack();
+    this.#pieces.awaitLost();
+    for (const { from, isOwn, ways } of this.memory.since(length)) {
+      for (const way of ways.reverse()) this.#undo(way, isOwn, changes);
+      this.version = Math.min(this.version, from);
     }
-    this.#joinAt(index);
-  }
-
-  /** A character that was under way is the room's now. Where it stands elsewhere than it is shown, what is pending there moves. */
-  #settle(k, ch, changes) {
-    let index = this.#pieces.findIndex((piece) => piece.owner === "sent");
-    if (index < 0 || !this.#pieces[index].text.startsWith(ch)) throw new Error("an edit of another submission");
-    if (this.#roomPlace(index) !== k) index = this.#move(index, k, changes);
-    const piece = this.#pieces[index];
-    if (ch.length < piece.text.length) this.#pieces.splice(index + 1, 0, piece.cut(ch.length));
-    piece.owner = "room";
-    if (piece.isShown) piece.order = 0;
-    this.#joinAt(index);
-  }
-
-  /** Moves what is pending from a piece on to a place of the room's text, and gives the number that the piece has there. */
-  #move(index, k, changes) {
-    let end = index;
-    while (end < this.#pieces.length && !this.#pieces[end].isRooms) end += 1;
-    const at = this.#shownPlace(index);
-    const moved = this.#pieces.splice(index, end - index);
-    const text = moved.map((piece) => (piece.isShown ? piece.text : "")).join("");
-    const there = this.#atRooms(k);
-    const to = this.#shownPlace(there);
-    if (text !== "" && to !== at) changes.push({ at, removed: text.length, text, to });
-    this.#pieces.splice(there, 0, ...moved);
-    return there;
-  }
-
-  /** The number of the piece of the room's that begins at the place of its text: one that the place is inside of is cut there. */
-  #atRooms(k) {
-    let before = 0;
-    for (const [index, piece] of this.#pieces.entries()) {
-      if (!piece.isRooms) continue;
-      if (k === before) return index;
-      if (k < before + piece.text.length) {
-        this.#pieces.splice(index + 1, 0, piece.cut(k - before));
-        return index + 1;
-      }
-      before += piece.text.length;
+    for (const [index, piece] of this.#pieces.list.entries()) {
+      if (!piece.isRooms || piece.gone !== "others") continue;
+      piece.gone = null;
+      add(changes, { at: this.#pieces.shownPlace(index), removed: 0, text: piece.text });
     }
-    if (k !== before) throw new RangeError("beyond the room's text");
-    return this.#pieces.length;
+    this.#pieces.join();
+    return changes;
   }
 
-  /** How many units of the room's text stand before a piece. */
-  #roomPlace(index) {
-    let units = 0;
-    for (let i = 0; i < index; i += 1) if (this.#pieces[i].isRooms) units += this.#pieces[i].text.length;
-    return units;
-  }
-
-  /** How many units that are shown stand before a piece. */
-  #shownPlace(index) {
-    let units = 0;
-    for (let i = 0; i < index; i += 1) if (this.#pieces[i].isShown) units += this.#pieces[i].text.length;
-    return units;
-  }
-
-  /** Joins the pieces round a number that are of one kind. */
-  #joinAt(index) {
-    for (let at = Math.min(index + 1, this.#pieces.length - 1); at >= Math.max(1, index - 1); at -= 1) {
-      if (this.#pieces[at - 1].isLike(this.#pieces[at])) {
-        this.#pieces[at - 1].text += this.#pieces[at].text;
-        this.#pieces.splice(at, 1);
+  #undo({ at, taken, put }, isOwn, changes) {
+    const { list } = this.#pieces;
+    for (const piece of this.#pieces.rooms(at, put.length)) {
+      const index = list.indexOf(piece);
+      if (isOwn && piece.isShown) {
+        piece.owner = "new";
+      } else if (isOwn || piece.gone === "others") {
+        list.splice(index, 1); // it was deleted since
+      } else {
+        if (piece.isShown) add(changes, { at: this.#pieces.shownPlace(index), removed: piece.text.length, text: "" });
+        piece.owner = "lost";
+        piece.gone ??= "others";
       }
     }
+    const old = taken.map(({ text, isMine }) => new Piece(text, "room", isMine ? "new" : "others"));
+    list.splice(this.#pieces.atRooms(at), 0, ...old);
+  }
+
+  /** The room has the text with another log, of which so many operations make it. */
+  renew(version, last) {
+    this.version = version;
+    this.memory = new Memory(version, last);
   }
 }

@@ -1,47 +1,152 @@
 /**
- * What the log of a room tells of a document: whether it goes on from what the document knows, and whether it has what is under way. An
- * operation is told by its sign: the character that it puts in, or an empty text where it deletes.
+ * What the log of a room tells of a document: whether it goes on from what the document knows, up to where it is the one that is known,
+ * and whether it has what is under way.
  */
-import { Refused } from "./connection.js";
 import { MOST } from "./document.js";
+import { Refused } from "./faults.js";
+import { SIGNS } from "./memory.js";
 
-/** @typedef {import("./document.js").Document} Document */
+/**
+ * @typedef {import("./document.js").Document} Document
+ * @typedef {import("./memory.js").Known} Known
+ *
+ * A single operation: the character that it puts in, or an empty text of a deletion; its site; which of its site's it is; its clock; its
+ * stamp, and that of the element that it stands behind or deletes.
+ * @typedef {{sign: string, site: number, sequence: number, clock: number[][], stamp: string, of: string}} Single
+ */
 
-/** So many operations behind what is known are looked through for what is under way. */
-const FAR = 16 * MOST;
+/** So many operations behind what is known are looked through for what is under way: as many as a log takes. */
+const FAR = 131_072;
+
+/** So many requests are on their way at one time, and so often something is asked that others' typing spoils. */
+const AHEAD = 16;
+const TRIES = 4;
+
+/** @returns {Single[]} */
+function singles({ c, k, s, p, x, t }) {
+  const sum = c.reduce((total, [, count]) => total + count, 0);
+  const sequence = c.find(([site]) => site === s)[1];
+  if (k === "d") return [{ sign: "", site: s, sequence, clock: c, stamp: `${[sum, s]}`, of: `${t}` }];
+  return [...x].map((sign, n) => ({
+    sign,
+    site: s,
+    sequence: sequence + n,
+    clock: c.map(([site, count]) => [site, site === s ? count + n : count]),
+    stamp: `${[sum + n, s]}`,
+    of: n === 0 ? `${p}` : `${[sum + n - 1, s]}`,
+  }));
+}
+
+/** Whether an operation is one that is known. */
+const isLike = (known, single) => known.sign === single.sign && (known.site === null || known.site === single.site);
 
 export class Log {
   #ask;
+  #end = 0; // a version that the log has
 
   /** @param {(request: object) => Promise<import("./connection.js").Reply>} ask */
   constructor(ask) {
     this.#ask = ask;
   }
 
-  /** The signs of at most so many operations from a number on, at most 64; fewer where the log is shorter. */
-  async #signs(after, max) {
+  /** At most so many operations from a number on, at most 64; fewer where the log is shorter. */
+  async #singles(after, max = MOST) {
     if (max === 0) return [];
     const reply = await this.#ask({ t: "ops", after, max });
     if (reply.r === "no" && reply.n !== 23) throw new Refused(reply.n);
-    return (reply.ops ?? []).flatMap(({ x }) => (x === undefined ? [""] : [...x]));
+    return (reply.ops ?? []).flatMap(singles);
   }
 
   /**
-   * The signs of the last operations up to a version.
-   * @param {number} version
+   * The last operations up to a version.
+   * @returns {Promise<Known[]>}
    */
-  last(version) {
-    const max = Math.min(version, MOST);
-    return this.#signs(version - max, max);
+  async last(version) {
+    this.#end = version;
+    const max = Math.min(version, SIGNS);
+    return (await this.#singles(version - max, max)).map(({ sign, site }) => ({ sign, site }));
+  }
+
+  /** The site of an operation. */
+  async siteOf(number) {
+    return (await this.#singles(number, 1))[0]?.site ?? null;
+  }
+
+  async #isAt(number, known) {
+    const found = await this.#singles(number, known.length);
+    return found.length === known.length && known.every((it, n) => isLike(it, found[n]));
   }
 
   /**
    * Whether the log goes on from what a document knows of it.
    * @param {Document} document
    */
-  async goesOn({ version, last }) {
-    if (version === 0) return true;
-    return last.length > 0 && isAt(0, last, await this.#signs(version - last.length, last.length));
+  async goesOn({ version, memory }) {
+    const last = memory.last(version);
+    return version === 0 || (last.length > 0 && this.#isAt(version - last.length, last));
+  }
+
+  /**
+   * Up to which version the log is the one that a document knows, and whether it surely lost what was behind that; null where not even
+   * its beginning is known.
+   * @param {Document} document
+   */
+  async upTo({ version, memory }) {
+    const { start, known } = memory.known;
+    let kept = version;
+    for (let back = SIGNS; ; back *= 2) {
+      kept = Math.max(memory.base, version - back);
+      const last = memory.last(kept);
+      if (kept === 0 || (last.length > 0 && (await this.#isAt(kept - last.length, last)))) break;
+      if (kept === memory.base) return this.#wasBefore(memory);
+    }
+    if (known[kept - start] === undefined) return { kept, isSure: false }; // of a log before a joined text only the end is known
+    let isSame = memory.last(kept).some(({ site }) => site > 0); // no new document has operations of these
+
+    const firsts = new Map(); // where each site begins among what is as it was known
+    let next = null;
+    for (let found = []; kept < version; kept += 1) {
+      if (found.length === 0) found = await this.#singles(kept);
+      next = found.shift() ?? null;
+      const was = known[kept - start];
+      if (next === null || (was !== undefined && !isLike(was, next))) break;
+      isSame ||= was?.site > 0;
+      if (!firsts.has(next.site)) firsts.set(next.site, kept);
+    }
+    for (const [site, first] of firsts) {
+      if (await this.isOfRun(site)) return { kept: first, isSure: first > 0 || memory.sites.has(site) };
+    }
+    if (kept > 0) return { kept, isSure: isSame || next === null || next.sequence === 1 };
+    const sites = [...memory.sites].filter((site) => next === null || site === next.site);
+    for (const site of sites) if (await this.isOfRun(site)) return { kept, isSure: true };
+    return null;
+  }
+
+  /** Whether the log lost its end soon before what is remembered: no further back can be gone. */
+  async #wasBefore({ base, known: { start, known } }) {
+    const found = await this.#singles(start, base - start);
+    const kept = found.findIndex((it, n) => !isLike(known[n], it));
+    const next = kept < 0 ? undefined : found[kept];
+    const isSure = found.length > 0 && kept !== 0 && (next === undefined || next.sequence === 1);
+    return isSure ? { kept: base, isSure } : null;
+  }
+
+  /**
+   * Whether a site is that of the server's run: that takes no operation of its own from elsewhere. This one deletes what isn't there, so
+   * nobody takes it.
+   */
+  async isOfRun(site) {
+    for (let tries = 0; tries < TRIES; tries += 1) {
+      const last = await this.#singles(Math.max(0, this.#end - 1));
+      this.#end += Math.max(0, last.length - 1);
+      const clock = new Map(last.at(-1)?.clock ?? []);
+      clock.set(site, (clock.get(site) ?? 0) + 1);
+      const c = [...clock].sort(([one], [other]) => one - other);
+      const sum = c.reduce((total, [, count]) => total + count, 0);
+      const { os } = await this.#ask({ t: "put", ops: [{ c, k: "d", s: site, t: [sum, site] }] });
+      if (os?.[0][1] !== 17) return os?.[0][1] === 16;
+    }
+    return true; // the site's operations come faster than they are asked for
   }
 
   /**
@@ -50,27 +155,78 @@ export class Log {
    * @param {number} from
    * @param {number} to
    */
-  async is({ underWay }, from, to) {
-    const signs = to - from === underWay.length ? await this.#signs(from, underWay.length) : [];
-    return signs.length > 0 && isAt(0, underWay, signs);
+  async is(document, from, to) {
+    const found = await this.find(document, from);
+    return found !== null && found.from + found.count === to;
   }
 
   /**
-   * Whether the log has somewhere behind what a document knows, in one piece, what that has under way.
+   * Where the log has what a document has under way: behind what the document knows, and in one piece; or its beginning alone, where the
+   * log lost the end. Null where it hasn't. `from`: the version that it leads from, where that is known.
    * @param {Document} document
    */
-  async has({ version, underWay }) {
-    const signs = [];
-    for (let isMore = true; isMore && signs.length < FAR; ) {
-      const more = await this.#signs(version + signs.length, MOST);
-      signs.push(...more);
+  async find(document, from = document.accepted?.[0]) {
+    const { version, site, roomText, underWay } = document;
+    const { isPut, k, signs } = underWay;
+    const before = k === 0 ? "" : [...roomText.slice(0, k)].at(-1);
+    const first = Math.max(from ?? version, version);
+    const found = [];
+    for (let isMore = true; isMore && found.length < (from === undefined ? FAR : 2 * MOST); ) {
+      const more = await this.#singles(first + found.length);
+      found.push(...more);
       isMore = more.length === MOST;
     }
-    return signs.some((_, at) => isAt(at, underWay, signs));
+    const isNext = (at, n) => {
+      const it = found[at + n];
+      if (it === undefined || (site !== null && it.site !== site) || (n > 0 && it.site !== found[at].site)) return false;
+      return isPut ? it.sign === signs[n] && (n === 0 || it.of === found[at + n - 1].stamp) : it.sign === "";
+    };
+    for (let at = 0; at < (from === undefined ? found.length : 1); at += 1) {
+      let count = 0;
+      while (count < signs.length && isNext(at, count)) count += 1;
+      const end = found[at + count];
+      const isWhole = count === signs.length || (count > 0 && (end === undefined || end.sequence === 1));
+      if (!isWhole) continue;
+      if (document.accepted !== null || (await this.#areOf(found.slice(at, at + count), isPut ? [before] : signs))) return { from: first + at, count };
+    }
+    return null;
   }
-}
 
-/** Whether the signs stand among others at a place. */
-function isAt(at, signs, others) {
-  return signs.every((sign, n) => others[at + n] === sign);
+  /** Whether operations stand behind, or delete, elements that have these signs, as far as that is found out. */
+  async #areOf(operations, signs) {
+    for (const [n, sign] of signs.slice(0, operations.length).entries()) {
+      const { of } = operations[n];
+      if (of === "null" || sign === "") {
+        if (sign !== "" || of !== "null") return false;
+        continue;
+      }
+      const [element] = await this.#singles(Number(of.split(",")[0]) - 1, 1); // no further, and just there where one server alone typed
+      if (element?.stamp === of && element.sign !== sign) return false;
+    }
+    return true;
+  }
+
+  /**
+   * The text that one site typed from its beginning to its end, where the log begins so, and whether it is that of a new document: site 0
+   * typed it, as a room is renewed, before this run of the server. Null where the log begins otherwise.
+   */
+  async firstText() {
+    const signs = [];
+    let next = null;
+    let site = null;
+    for (let [after, count] = [0, 1]; next === null; [after, count] = [after + count * MOST, AHEAD]) {
+      const parts = await Promise.all(Array.from({ length: count }, (_, n) => this.#singles(after + n * MOST)));
+      for (const it of parts.flat()) {
+        site ??= it.site;
+        const behind = signs.length === 0 ? "null" : `${[signs.length, site]}`;
+        next = it.site !== site || it.sign === "" || it.of !== behind ? it : null;
+        if (next !== null) break;
+        signs.push(it.sign);
+      }
+      if (parts.at(-1).length < MOST) break;
+    }
+    if (signs.length === 0) return null;
+    const isNew = site === 0 && (next === null || next.sequence === 1) && !(await this.isOfRun(0));
+    return { text: signs.join(""), version: signs.length, last: signs.slice(-SIGNS).map((sign) => ({ sign, site })), isNew };
+  }
 }

@@ -1,9 +1,12 @@
-/** A piece: its text; whose it is; what becomes of it; and, where something of it is new, when that was made. */
+/**
+ * A piece: its text; whose it is; what becomes of it; and, where something of it is new, when that was made. Text that others put in and
+ * the room lost stays where it stood, unseen, for when they put it in again.
+ */
 export class Piece {
   constructor(text, owner, gone = null, order = 0) {
     this.text = text;
-    this.owner = owner; // "room", "new" or "sent"
-    this.gone = gone; // null, "new" or "sent"
+    this.owner = owner; // "room", "new", "sent" or "lost"
+    this.gone = gone; // null, "new" or "sent"; "others" of what they put in again, or delete again
     this.order = order;
   }
 
@@ -13,6 +16,15 @@ export class Piece {
 
   get isRooms() {
     return this.owner === "room";
+  }
+
+  /** Whether something of it is to be sent, as soon as the room has it. */
+  get isNew() {
+    return this.owner === "new" || (this.gone === "new" && !this.isLost);
+  }
+
+  get isLost() {
+    return this.owner === "lost";
   }
 
   /** Takes what stands behind the place off, and gives it as a piece of its own. */

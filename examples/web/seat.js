@@ -2,12 +2,16 @@
  * What a client has in a room under the number of a session: which submission was accepted last, and which is under way. It joins and
  * leaves, and finds out on a new line whether the number is still its own.
  */
-import { Lost, Refused } from "./connection.js";
 import { Document, MOST } from "./document.js";
+import { Lost, Refused } from "./faults.js";
 import { Log } from "./log.js";
 
-/** Milliseconds until a request is sent again for which memory was refused. */
+/** Milliseconds until a request is sent again for which memory was refused, and until it is told that no answer comes. */
 export const RETRY = 100;
+const SILENCE = 2_000;
+
+/** The most operations of a room. */
+export const OPERATIONS = 131_072;
 
 /** The room and the session don't have one count any more, on a line that is there: the run of the server is the same. */
 export class OutOfStep extends Error {
@@ -34,18 +38,38 @@ export class Seat {
   #underWay = null; // the request of a submission whose answer wasn't seen
   #leaving = null; // the request to leave for good
 
+  /** @param {() => void} onSilence is called where an answer doesn't come soon */
+  constructor(onSilence = () => {}) {
+    this.onSilence = onSilence;
+  }
+
   get isTaken() {
     return this.#number !== null;
+  }
+
+  /** Whether the room was asked for the end of the session. */
+  get isLeaving() {
+    return this.#leaving !== null;
   }
 
   get isUnanswered() {
     return this.#underWay !== null;
   }
 
+  /** Sends a request, and gives the reply. */
+  async send(request) {
+    const timer = setTimeout(this.onSilence, SILENCE);
+    try {
+      return await this.line.ask(request);
+    } finally {
+      clearTimeout(timer);
+    }
+  }
+
   /** Asks, again where memory was refused. Gives the reply, a refusal too. */
   async ask(request) {
     for (;;) {
-      const reply = await this.line.ask(request);
+      const reply = await this.send(request);
       if (reply.r !== "no" || (reply.n !== 25 && reply.n !== 26)) return reply;
       if (reply.n === 25) throw new Lost();
       await pause(RETRY);
@@ -65,18 +89,27 @@ export class Seat {
     this.#number = s;
     this.#last = { n: 0, from: 0, to: 0 };
     this.#underWay = null;
+    this.#leaving = null;
     return new Document(x, v, await this.log.last(v));
   }
 
   /** Gives the number up, for another one. */
   async giveUp() {
     await this.ask({ t: "leave", s: this.#number });
+    this.#number = null;
+  }
+
+  /** Whether the room takes calls, and so many changes. */
+  async takes(changes) {
+    const reply = await this.ask({ t: "ops", after: Math.max(0, OPERATIONS - changes), max: 1 });
+    return reply.r === "no" ? reply.n === 23 : reply.ops.length === 0;
   }
 
   /** Asks for the end of the session at once, and once. Settles with whether it has come to that. */
-  leave() {
-    this.#leaving ??= this.line.ask({ t: "leave", s: this.#number }).then(
-      () => true,
+  async leave() {
+    if (!this.isTaken) return true;
+    this.#leaving ??= this.send({ t: "leave", s: this.#number }).then(
+      () => (this.#number = null) === null,
       () => false,
     );
     return this.#leaving;
@@ -95,6 +128,7 @@ export class Seat {
    * @returns {Promise<"same" | "unused" | "another">}
    */
   async findOut(document) {
+    this.#leaving = null;
     const again = (n) => this.ask({ t: "ins", s: this.#number, n, v: 0, k: 0, x: "" });
     const { n, from, to } = this.#last;
     let reply = n > 0 ? await again(n) : { r: "no", n: 7 };
@@ -120,7 +154,7 @@ export class Seat {
 
   /** Asks for edits from a version on. */
   pull(have) {
-    return this.line.ask({ t: "pull", s: this.#number, have, max: MOST });
+    return this.send({ t: "pull", s: this.#number, have, max: MOST });
   }
 
   /** The edits of a reply to a pull; none where memory was refused, which is waited for. */
@@ -148,14 +182,15 @@ export class Seat {
   }
 
   /**
-   * The request of what a document has to be submitted: the same again, while its answer wasn't seen. What isn't sent isn't under way.
+   * The request of what a document has to be submitted, of what was made before an order: the same again, while its answer wasn't seen.
+   * What isn't sent isn't under way.
    * @param {Document} document
    * @returns {object | null}
    */
-  submission(document) {
+  submission(document, before = Infinity) {
     if (this.#underWay !== null) return this.#underWay;
     if (!this.line.isOpen) throw new Lost();
-    const next = document.next();
+    const next = document.next(before);
     if (next === null) return null;
     const { t, ...rest } = next;
     this.#underWay = { t, s: this.#number, n: this.#last.n + 1, v: document.version, ...rest };
@@ -176,6 +211,7 @@ export class Seat {
     if (reply.r === "ok" && document.accept(reply.from, reply.to)) {
       this.#last = { n: this.#underWay.n, from: reply.from, to: reply.to };
       this.#underWay = null;
+      document.site ??= await this.log.siteOf(reply.from);
       return;
     }
     if (reply.n === 26) return pause(RETRY);

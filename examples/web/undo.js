@@ -5,7 +5,7 @@
  * The text is a list of pieces. What was taken out and may come back stands hidden among them, so it comes back where it stood.
  */
 import { carried } from "./changes.js";
-import { Full } from "./rgatext.js";
+import { Full } from "./faults.js";
 
 /**
  * What is asked of a session.

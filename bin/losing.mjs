@@ -1,0 +1,221 @@
+// What bin/try_merging plays with sessions behind a run of the server that lost the end of its log, or whose room was renewed. The one
+// argument is the program.
+import assert from "node:assert/strict";
+import { carried } from "../examples/web/changes.js";
+import { Undo } from "../examples/web/undo.js";
+import { Room, until } from "./room.mjs";
+import { begin, deletedBy, end, endsAs, keptRun, renewedRun, textOf, typedBy, Way } from "./way.mjs";
+
+/** An editor has a text of its own in a room, and another one one behind it. */
+async function two(text, more) {
+  const one = await begin(text);
+  const other = new Way(one.room);
+  await other.comesTo("up to date", text);
+  other.editor.change(text.length, 0, more);
+  for (const way of [one, other]) await way.comesTo("up to date", text + more);
+  return [one, other];
+}
+
+/** Another run begins for all, and the editors come to show a text that its room has. */
+async function goOn(room, ways, text) {
+  for (const way of ways) way.cut(room);
+  for (const way of ways) await way.joins(room);
+  for (const way of ways) await way.comesTo("up to date", text);
+  assert.equal(await textOf(room), text);
+  assert.deepEqual(ways.map(({ states }) => states.includes("another text")), ways.map(() => false), "nobody is asked");
+  await end(...ways);
+}
+
+/** What each typed is put in again by its own client, once, whatever the log lost of it. */
+async function losesItsEnd(without) {
+  const ways = await two("hello ", "world");
+  await goOn(await keptRun(ways[0].room, without), ways, "hello world");
+}
+
+/** Nothing was kept of a room's first run, and its site comes again. */
+async function losesItsFirstRun() {
+  const ways = await two("hello ", "world");
+  await goOn(new Room(1), ways, "hello world");
+}
+
+/** While both come back a third types, in the new run, before what was lost. */
+async function losesItsEndWhileAThirdTypes() {
+  const ways = await two("hello ", "world");
+  const kept = await keptRun(ways[0].room, 4);
+  await typedBy(kept, 0, "Oh, ");
+  await goOn(kept, ways, "Oh, hello world");
+}
+
+/** A deletion is lost, of what was kept and of what wasn't: it is done again, and what its author took back stays away. */
+async function losesDeletions() {
+  const ways = await two("hello ", "world");
+  ways[1].editor.change(1, 8, "");
+  for (const way of ways) await way.comesTo("up to date", "hld");
+  await goOn(await keptRun(ways[0].room, 13), ways, "hld");
+}
+
+/** The answer to a text is lost, with all that the log has of it, or with some. */
+async function losesWhatWasUnderWay(without) {
+  const way = await begin("hello");
+  const isLost = way.loseOnce("answer", "ins");
+  way.editor.change(5, 0, " you");
+  await isLost;
+  await goOn(await keptRun(way.room, without), [way], "hello you");
+}
+
+/** What is pending, a caret, and the undoing of what was lost. */
+async function keepsWhatIsPending() {
+  const [one, other] = await two("hello ", "world");
+  const undo = new Undo();
+  let caret = 8;
+  one.editor.session.addEventListener("changes", ({ detail }) => {
+    undo.follow(detail);
+    caret = carried(caret, detail);
+  });
+  undo.note({ at: 5, removed: 0, text: "!" }, "");
+  one.editor.change(5, 0, "!");
+  await other.comesTo("up to date", "hello! world");
+  one.cutOff();
+  await one.comesTo("offline");
+  one.editor.change(0, 1, "J");
+  const kept = await keptRun(one.room, 6);
+  for (const way of [one, other]) way.cut(kept);
+  for (const way of [one, other]) await way.joins(kept);
+  for (const way of [one, other]) await way.comesTo("up to date", "Jello! world");
+  assert.equal(caret, 7, "a caret in what others lost stands where that stood");
+  const { session } = one.editor;
+  undo.turn(false, session, (at, removed, text) => one.editor.change(at, removed, text));
+  await other.comesTo("up to date", "Jello world");
+  assert.equal(session.text, "Jello world");
+  await end(one, other);
+}
+
+/** A room is renewed: people type on, and nobody is asked. */
+async function isRenewed(first, second, without) {
+  const ways = await two(first, second);
+  ways[1].editor.change(1, 1, "");
+  ways[1].editor.change(1, 0, (first + second)[1]);
+  for (const way of ways) await way.comesTo("up to date", first + second);
+  const renewed = await renewedRun(ways[0].room, without);
+  await typedBy(renewed, 0, "<");
+  ways[0].cutOff();
+  await ways[0].comesTo("offline");
+  ways[0].editor.change(first.length, 0, "-");
+  await goOn(renewed, ways, `<${first}-${second}`);
+}
+
+/** A room is renewed twice, and what was typed between is lost by the second. */
+async function isRenewedTwice() {
+  const ways = await two("one ", "two");
+  for (const without of [2, 1]) {
+    const renewed = await renewedRun(ways[0].room, without);
+    for (const way of ways) way.cut(renewed);
+    for (const way of ways) await way.joins(renewed);
+    for (const way of ways) await way.comesTo("up to date", "one two");
+  }
+  assert.equal(await textOf(ways[0].room), "one two");
+  await end(...ways);
+}
+
+/** Behind a kept restart there are 1,100 changes by others. */
+async function isFarBehind() {
+  const lines = Array.from({ length: 60 }, (_, n) => `this is line ${n} of a text\n`);
+  const way = await begin(lines.join(""));
+  way.cutOff();
+  await way.comesTo("offline");
+  const start = (n) => lines.slice(0, n).join("").length;
+  way.editor.change(start(50), 0, "MINE ");
+  way.editor.change(start(30), lines[30].length, "");
+  const caret = { place: start(55) - lines[30].length + 5 };
+  way.editor.session.addEventListener("changes", ({ detail }) => (caret.place = carried(caret.place, detail)));
+  way.room = await keptRun(way.room);
+  const { s, v } = await way.room.ask({ t: "join", u: 16 });
+  for (let n = 1; n <= 55; n += 1) await way.room.ask({ t: "ins", s, n, v, k: start(n) - 1, x: "0123456789abcdefghij" });
+  way.isUp = true;
+  const wanted = lines.map((line, n) => (n === 30 ? "" : `${n === 50 ? "MINE " : ""}${line.slice(0, -1)}`) + (n < 55 ? "0123456789abcdefghij" : "") + (n === 30 ? "" : "\n"));
+  await endsAs(way, wanted.join(""));
+  assert.equal(caret.place, wanted.slice(0, 55).join("").length);
+}
+
+/** A text came, its answer was lost, and others deleted more than half of it. */
+async function cameAndIsMostlyDeleted() {
+  const way = await begin("Dear all, ");
+  const isLost = way.loseOnce("answer", "ins");
+  way.editor.change(10, 0, "hello");
+  await isLost;
+  way.room = await keptRun(way.room);
+  await deletedBy(way.room, 10, 3);
+  way.isUp = true;
+  await endsAs(way, "Dear all, lo");
+}
+
+/** A deletion came, its answer was lost, and another types the same there: that stays. */
+async function deletesWhatIsTypedAgain() {
+  const way = await begin("abcdefgh");
+  const isLost = way.loseOnce("answer", "del");
+  way.editor.change(2, 1, "");
+  await isLost;
+  way.room = await keptRun(way.room);
+  await typedBy(way.room, 2, "c");
+  way.isUp = true;
+  await endsAs(way, "abcdefgh");
+}
+
+/** Of an accepted text some edits were played when the line broke; the log has all of it, or lost the end. */
+async function isPlayedInParts(without) {
+  const way = await begin("text ");
+  const told = "0123456789";
+  way.loses = async ({ t }) => {
+    const { document } = way.editor.session;
+    if (t !== "pull" || !document.isWaiting) return "";
+    await until(() => document.accepted !== null);
+    const [from] = document.accepted;
+    way.loses = ({ t: kind }) => (kind === "pull" ? "request" : "");
+    way.isUp = false;
+    return { r: "edits", from, es: [["i", 5, "0"], ["i", 6, "1"]] };
+  };
+  way.editor.change(5, 0, told);
+  await until(() => !way.isUp);
+  await way.comesTo("offline");
+  way.loses = () => "";
+  way.cut(await keptRun(way.room, without));
+  await endsAs(way, `text ${told}`);
+}
+
+/** In the same run a submission is lost, and the answer to the `join` that follows a `leave`, while another deletes: nothing is guessed. */
+async function knowsThatItLeft() {
+  const way = await begin("abcdefgh", false);
+  const isLost = way.loseOnce("request", "del", true);
+  way.editor.change(5, 2, "");
+  await isLost;
+  await way.loseOnce("answer", "join");
+  await deletedBy(way.room, 6, 2);
+  way.isUp = true;
+  await endsAs(way, "abcde");
+  assert.ok(!way.states.includes("another text"), "it is the same run");
+}
+
+await Promise.all([
+  losesItsEnd(3),
+  losesItsEnd(8),
+  losesItsEndWhileAThirdTypes(),
+  losesItsFirstRun(),
+  losesDeletions(),
+  losesWhatWasUnderWay(4),
+  losesWhatWasUnderWay(2),
+  losesWhatWasUnderWay(6),
+  keepsWhatIsPending(),
+]);
+await Promise.all([
+  isRenewed("hello ", "world", 0),
+  isRenewed("a", "b", 0),
+  isRenewed("hello ", "world", 3),
+  isRenewedTwice(),
+  isFarBehind(),
+  cameAndIsMostlyDeleted(),
+  deletesWhatIsTypedAgain(),
+  isPlayedInParts(0),
+  isPlayedInParts(3),
+  knowsThatItLeft(),
+]);
+console.log("bin/try_merging: logs that lost their end, renewed rooms, and what came of what was under way");

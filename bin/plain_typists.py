@@ -1,0 +1,141 @@
+"""Editors of examples/client.py that type, a thread for each, for bin/soak_clients."""
+import json
+import pathlib
+import random
+import sys
+import threading
+import time
+import traceback
+
+sys.path.insert(0, str(pathlib.Path(__file__).resolve().parent.parent / "examples"))
+from client import Full, JoinAnew, Lost, Refused, Session  # noqa: E402
+from serving import WebSocket  # noqa: E402
+
+SILENT = 3  # seconds until an answer is missed
+
+
+class Line:
+    """A room of a server over a WebSocket, as a session asks it. A line that ends or is silent is lost."""
+
+    def __init__(self, port):
+        self.port, self.socket, self.lines = port, None, 0
+
+    def __call__(self, request):
+        try:
+            if self.socket is None:
+                self.socket = WebSocket(self.port)
+                self.socket.line.settimeout(SILENT)
+                self.socket.shake()
+                self.socket.ask('{"t":"open","room":"notes"}')
+            return json.loads(self.socket.ask(json.dumps(request)) or "")
+        except (OSError, EOFError, ValueError):
+            if self.socket:
+                self.socket.line.close()
+            self.socket, self.lines = None, self.lines + 1
+            raise Lost from None
+
+
+class PlainTypist(threading.Thread):
+    """Types and deletes at random. In another run of the server it puts in what that lacks of its own."""
+
+    def __init__(self, who, text, port, tally, is_of_words):
+        super().__init__(daemon=True)
+        self.who, self.text, self.port, self.tally, self.is_of_words = who, text, port, tally, is_of_words
+        self.dice, self.used = random.Random(who), 0
+        self.is_typing, self.is_open, self.fault = True, True, ""
+        self.state, self.asked = "joining", 0
+        self.start()
+
+    def run(self):
+        try:
+            self.serve(Line(self.port))
+        except Exception:  # (the soak tells it at the end)
+            self.fault = traceback.format_exc()
+
+    def serve(self, line):
+        while True:
+            try:
+                self.session = Session(line, tries=3)
+                break
+            except Lost:
+                continue
+        while self.is_open:
+            time.sleep(self.dice.uniform(0.05, 0.35))
+            self.turn(self.type if self.is_typing and self.state == "up to date" else self.session.pull)
+        self.turn(self.session.leave)
+
+    def turn(self, does):
+        """Does something, and whatever it leads to."""
+        try:
+            does()
+            self.state = "up to date"
+        except JoinAnew:
+            self.state = "joining"
+            try:
+                self.session.join_anew()
+                self.session.put_missing()
+                self.state = "up to date"
+            except (Lost, Refused):
+                pass
+        except Lost:
+            self.state = "offline"
+        except (Full, Refused) as refused:
+            self.state = f"refused: {refused}"
+
+    def type(self):
+        session, dice = self.session, self.dice
+        if dice.random() < 0.2 and session.text and not self.is_of_words:
+            count = min(dice.randint(1, 4), len(session.text))
+            place = dice.randint(0, len(session.text) - count)
+            self.note("", session.text[place : place + count])
+            session.delete(place, count)
+            return
+        count = dice.randint(65, 130) if dice.random() < 0.02 else dice.randint(1, 5)
+        text = self.text[self.used : self.used + count]
+        place = dice.choice((len(session.text), dice.randint(0, len(session.text))))
+        self.used += count
+        left, right = session.text[max(0, place - 1) : place], session.text[place : place + 1]
+        is_full = False
+        try:
+            session.insert(place, text)
+        except Full:
+            is_full = True  # nothing was sent
+            raise
+        finally:
+            if not is_full:
+                self.note(text, "", "".join(left), "".join(right))
+
+    def note(self, put, taken, left="", right=""):
+        self.tally.note(self.who, put=put, taken="".join(taken), left=left, right=right)
+
+    def report(self):
+        session = getattr(self, "session", None)
+        is_ahead = session is None or bool(session.waiting or session.missing)
+        text = "".join(session.text) if session else ""
+        return {"state": self.state, "text": text, "isAhead": is_ahead, "asked": 0, "differs": 0}
+
+
+class PlainTypists:
+    """Some of them."""
+
+    ended = 0
+
+    def __init__(self, texts, port, tally, is_of_words):
+        self.who = [it["who"] for it in texts]
+        self.typists = [PlainTypist(it["who"], it["text"], port, tally, is_of_words) for it in texts]
+
+    @property
+    def faults(self):
+        return [(it.who, it.fault) for it in self.typists if it.fault]
+
+    def report(self):
+        self.reports = {it.who: it.report() for it in self.typists}
+        return self.reports
+
+    def end(self):
+        for it in self.typists:
+            it.is_typing = False
+
+    def close(self):
+        for it in self.typists:
+            it.is_open = False

@@ -1,0 +1,117 @@
+// What bin/merging.mjs plays of examples/vectors/rejoining.json with a session of the module.
+import assert from "node:assert/strict";
+import { Room, until } from "./room.mjs";
+import { deletedBy, end, textOf, typedBy, Way } from "./way.mjs";
+
+/** How many units so many characters of a text have from a place on. */
+const units = (text, at, count) => [...text].slice(at, at + count).join("").length;
+
+async function otherDoes(room, { t, k, x, c }) {
+  const text = await textOf(room);
+  const at = units(text, 0, k);
+  await (t === "ins" ? typedBy(room, at, x) : deletedBy(room, at, units(text, k, c)));
+}
+
+/** The run of a server at a site, which begins with operations, or which a site 0 has written with a text. */
+async function another(room, site, run) {
+  let written = null;
+  if (run === "renewed") {
+    written = new Room(0);
+    await typedBy(written, 0, await textOf(room));
+  }
+  const told = (await (written ?? room).operations()).flat();
+  const kept = new Room(site);
+  if (told.length > 0) await kept.refill([beginning(told, run.kept ?? Infinity)]);
+  room.close();
+  written?.close();
+  return kept;
+}
+
+/** So many operations, where one may be a run of many. */
+function beginning(told, count) {
+  const kept = [];
+  for (const it of told) {
+    const rest = count - kept.reduce((sum, { x }) => sum + [...(x ?? "d")].length, 0);
+    const chars = [...(it.x ?? "d")].slice(0, rest);
+    if (rest > 0) kept.push(it.x === undefined ? it : { ...it, k: chars.length === 1 ? "i" : "r", x: chars.join("") });
+  }
+  return kept;
+}
+
+class Player {
+  constructor({ name, text, steps }) {
+    Object.assign(this, { name, text, steps });
+  }
+
+  async play() {
+    this.room = new Room(0);
+    if (this.text !== "") await typedBy(this.room, 0, this.text);
+    this.way = new Way(this.room);
+    await this.way.comesTo("up to date", this.text);
+    let site = 0;
+    for (const step of this.steps) {
+      if (step.local) await this.change(step);
+      if (step.other) await otherDoes(this.room, step.other);
+      if (step.run) this.room = await another(this.room, (site += 1), step.run);
+      if (step.back) await this.comeBack(step.text);
+    }
+    await end(this.way);
+  }
+
+  async change({ local: { at, removed, text }, lost }) {
+    const { way } = this;
+    const { editor } = way;
+    if (way.isUp) await this.isSettled();
+    const isLost = lost && this.lose(lost, text === "" ? "del" : "ins");
+    editor.change(units(editor.shown, 0, at), units(editor.shown, at, removed), text);
+    if (isLost) await isLost;
+    else if (way.isUp) await this.isSettled();
+  }
+
+  async isSettled() {
+    const { editor } = this.way;
+    await until(() => editor.session.state === "up to date" && !editor.session.isAhead, () => this.name);
+    const text = await textOf(this.room);
+    await until(() => editor.shown === text, () => `${this.name}: "${text}", and not "${editor.shown}"`);
+  }
+
+  /** Loses the line with the next submission; settles once it is lost. */
+  async lose(what, kind) {
+    const { way } = this;
+    let isLost = false;
+    let isAccepted = false;
+    way.loses = (request) => {
+      if (isLost) return "";
+      if (request.t === kind) isAccepted = true;
+      if (what === "edits" ? request.t !== "pull" || !isAccepted : request.t !== kind) return "";
+      isLost = true;
+      way.isUp = false;
+      if (what === "late") this.late = request;
+      return what === "answer" ? "answer" : "request";
+    };
+    await until(() => isLost, () => this.name);
+  }
+
+  async comeBack(text) {
+    const { way, late } = this;
+    way.loses = async (request) => {
+      if (this.late && request.t === "leave") this.late = await this.room.ask(late).then(() => null);
+      return "";
+    };
+    way.cut(this.room);
+    await way.comesTo("up to date", text);
+    assert.deepEqual([way.editor.shown, await textOf(this.room)], [text, text], this.name);
+  }
+}
+
+/** Plays the cases, and gives how many there are. */
+export async function rejoin(cases) {
+  for (const it of cases) {
+    try {
+      await new Player(it).play();
+    } catch (fault) {
+      throw new Error(`${it.name}: ${fault.message}`);
+    }
+  }
+  return cases.length;
+}

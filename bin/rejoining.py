@@ -1,0 +1,86 @@
+"""Plays the cases of examples/vectors/rejoining.json with examples/client.py and the program, for bin/try_client."""
+from client import JoinAnew, Lost, Pipe, Session
+
+
+class Player:
+    """Plays a case of examples/vectors/rejoining.json with a session and the program."""
+
+    def __init__(self, case, program):
+        self.case, self.program, self.site, self.lines = case, program, 0, 0
+        self.room = self.run_at(0)
+        self.submits({"t": "ins", "k": 0, "x": case["text"]})
+        self.lost = None  # what is lost with the line, then whether it is
+        self.is_up, self.late, self.is_accepted = True, None, False
+        self.session = Session(self, tries=1)
+
+    def run_at(self, site):
+        return Pipe(self.program, "lines", "--site", str(site))
+
+    def __call__(self, request):
+        """The session's line."""
+        if not self.is_up:
+            self.lines += 1
+            raise Lost
+        if self.late and request["t"] == "leave":
+            self.late = self.room(self.late) and None
+        is_submission = request["t"] in ("ins", "del")
+        if self.lost == "edits" and self.is_accepted and request["t"] == "pull" or self.lost in ("request", "answer", "late") and is_submission:
+            self.is_up, self.late = False, request if self.lost == "late" else None
+            if self.lost == "answer":
+                self.room(request)
+            self.lines += 1
+            raise Lost
+        self.is_accepted = self.lost == "edits" and is_submission
+        return self.room(request)
+
+    def submits(self, request):
+        """Another session, at the newest version."""
+        joined = self.room({"t": "join"})
+        self.room({"s": joined["s"], "n": 1, "v": joined["v"], **request})
+        self.room({"t": "leave", "s": joined["s"]})
+
+    def is_another(self, run):
+        """Another run of the server."""
+        before, self.site = self.room, self.site + 1
+        if run == "renewed":
+            written, text = self.run_at(0), before({"t": "read"})["x"]
+            before.close()
+            before = written
+            before({"t": "join"})
+            before({"t": "ins", "s": 1, "n": 1, "v": 0, "k": 0, "x": text})
+        self.room = self.run_at(self.site)
+        self.room({"t": "put", "ops": before({"t": "ops", "after": 0, "max": 64 if run == "renewed" else run["kept"]})["ops"]})
+        before.close()
+
+    def change(self, at, removed, text):
+        try:
+            if removed:
+                self.session.delete(at, removed)
+            if text:
+                self.session.insert(at, text)
+        except Lost:
+            pass
+
+    def is_as_told(self):
+        for step in self.case["steps"]:
+            if "local" in step:
+                if self.is_up:
+                    self.session.pull()
+                self.lost = step.get("lost")
+                self.change(**step["local"])
+            if "other" in step:
+                self.submits(step["other"])
+            if "run" in step:
+                self.is_another(step["run"])
+            if "back" in step:
+                self.is_up, self.lost, self.session.tries = True, None, 2
+                try:
+                    self.session.pull()
+                except JoinAnew:
+                    self.session.join_anew()
+                    self.session.put_missing()
+        told = "".join(self.session.text), self.room({"t": "read"})["x"]
+        self.room.close()
+        if told != (step["text"], step["text"]):
+            print(f"{self.case['name']}: {told}, and not {step['text']}")
+        return told == (step["text"], step["text"])

@@ -1,0 +1,326 @@
+"""What a session of client.py remembers of its room: the text of some time ago, the edits since with whose they are, and the log's
+operations. By these it finds in another run of the server what that lacks of one's own, and carries there what is to be submitted."""
+import bisect
+import difflib
+from collections import namedtuple
+
+MOST = 64  # characters of a submission, edits of a pull, operations of a reply
+REMEMBERED = 8_192  # edits, at least
+PENDING = 1 << 32  # a version above all others
+COMPARED = 100_000  # pairs of characters, where two texts differ, that are looked at one by one, at most
+
+Operation = namedtuple("Operation", "stamp char place")  # no character where it deletes; the stamp that it stands behind or deletes
+Step = namedtuple("Step", "version edit is_own stamp")  # the version that an edit led to; its operation's stamp, where that is known
+
+
+def unfolded(objects):
+    """The operations that a reply to `ops` tells, one for each character."""
+    operations = []
+    for it in objects:
+        total, place = sum(count for _, count in it["c"]), it["t"] if it["k"] == "d" else it["p"]
+        for at, char in enumerate(it.get("x", [None])):
+            operations.append(Operation((total + at, it["s"]), char, place and tuple(place)))
+            place = operations[-1].stamp
+    return operations
+
+
+def operations(ask, first, end):
+    """A log's operations from a number on up to another, or where it ends."""
+    told = []
+    while (count := min(MOST, end - first - len(told))) > 0:
+        more = unfolded(ask({"t": "ops", "after": first + len(told), "max": count}).get("ops", []))  # none at 23: it is shorter
+        told += more
+        if len(more) < count:
+            break
+    return told
+
+
+def written(ask, version):
+    """The text as a renewed room's log begins with it: what site 0 put in, each character behind the one before."""
+    text, is_on = [], True
+    while is_on and (more := operations(ask, len(text), min(len(text) + MOST, version))):
+        for it in more:
+            before = (len(text), 0) if text else None
+            is_on = is_on and it.stamp == (len(text) + 1, 0) and it.char is not None and it.place == before
+            text += [it.char] * is_on
+    return text
+
+
+def is_of_site_0(ask, version):
+    """Whether the server's run is one of site 0: a room that isn't, refuses this deletion since what it deletes isn't there."""
+    clock = dict(ask({"t": "ops", "after": version - 1, "max": 1})["ops"][0]["c"])
+    clock[0] = clock.get(0, 0) + 1
+    deletion = {"c": sorted(map(list, clock.items())), "k": "d", "s": 0, "t": [sum(clock.values()), 0]}
+    return ask({"t": "put", "ops": [deletion]})["os"][0] in (["no", 16], ["no", 17])
+
+
+def play(text, edits):
+    """Plays edits on a text, a list of characters."""
+    for edit in edits:
+        if edit[0] == "i":
+            text.insert(edit[1], edit[2])
+        elif edit[0] == "d":
+            del text[edit[1] : edit[1] + 1]
+
+
+class Insertion:
+    """A text to be put in at a place of the session's text, right behind what stands before it."""
+
+    def __init__(self, place, text):
+        self.place, self.text = place, text
+
+    def __len__(self):
+        return len(self.text)
+
+    def edit(self):
+        """What its first character does to the text."""
+        return ["i", self.place, self.text[0]]
+
+    def request(self):
+        """Its first part."""
+        return {"t": "ins", "k": self.place, "x": self.text[:MOST]}
+
+    def came(self, edit):
+        """Its first character is in the text by this edit: the rest goes behind it."""
+        self.place, self.text = edit[1] + 1, self.text[1:]
+
+    def follow(self, edit, is_own):
+        """Another edit: what others put in at its place stands behind it, and what oneself put in before it."""
+        if edit[0] == "i" and edit[1] < self.place + is_own:
+            self.place += 1
+        elif edit[0] == "d" and edit[1] < self.place:
+            self.place -= 1
+
+
+
+class Deletion:
+    """The places of the session's text whose characters are to be deleted."""
+
+    def __init__(self, places):
+        self.places = list(places)
+
+    def __len__(self):
+        return len(self.places)
+
+    def edit(self):
+        return ["d", self.places[0]]
+
+    def request(self):
+        first = self.places[0]
+        count = next((at for at, it in enumerate(self.places[:MOST]) if it != first + at), min(MOST, len(self)))
+        return {"t": "del", "k": first, "c": count}
+
+    def came(self, edit):
+        self.follow(edit, True)
+
+    def follow(self, edit, _is_own):
+        if edit[0] == "i":
+            self.places = [it + (edit[1] <= it) for it in self.places]
+        elif edit[0] == "d":
+            self.places = [it - (edit[1] < it) for it in self.places if it != edit[1]]
+
+
+
+class Element:
+    """A character of the text, or one that was there and is gone."""
+
+    def __init__(self, char, put=0, is_own=False, stamp=None):
+        self.char, self.put, self.is_own, self.stamp = char, put, is_own, stamp
+        self.gone, self.is_gone_here = None, False  # the version at which it was deleted, and whether by oneself
+        self.next = None
+        self.place = None  # in the other run's text, where it is there
+
+    def is_at(self, version):
+        """Whether it is in the text of a version."""
+        return self.put <= version and (self.gone is None or self.gone > version)
+
+
+class Past:
+    """`version` and `text` are those of some time ago, `steps` lead on from there; `log` has the operations from number `first` on, up to
+    the version of now."""
+
+    def __init__(self, version, text, log):
+        self.version, self.text, self.steps = version, list(text), []
+        self.first, self.log = version - len(log), log
+
+    def note(self, edit, is_own, operation):
+        """The text's next edit, and its operation."""
+        self.log.append(operation)
+        self.step(self.first + len(self.log), edit, is_own, operation.stamp)
+        if len(self.steps) > 2 * REMEMBERED:
+            old, self.steps = self.steps[:REMEMBERED], self.steps[REMEMBERED:]
+            play(self.text, [it.edit for it in old])
+            self.version = old[-1].version
+            forgotten = max(0, self.version - MOST - self.first)
+            self.first, self.log = self.first + forgotten, self.log[forgotten:]
+
+    def elements(self):
+        """All in their order, those that are gone too, and those of the text of now."""
+        start = last = Element("")
+        shown = []
+        for char in self.text:
+            last.next = Element(char)
+            last = last.next
+            shown.append(last)
+        for version, edit, is_own, stamp in self.steps:
+            if edit[0] == "i":
+                left = shown[edit[1] - 1] if edit[1] else start
+                one = Element(edit[2], version, is_own, stamp)
+                one.next, left.next = left.next, one
+                shown.insert(edit[1], one)
+            elif edit[0] == "d":
+                one = shown.pop(edit[1])
+                one.gone, one.is_gone_here = version, is_own
+        order = [start]
+        while order[-1].next:
+            order.append(order[-1].next)
+        return order[1:], shown
+
+    def came_at(self, at, log, request):
+        """How many operations of another log, from its number `at` on, are what a request asked for in the text of now: all, or so many
+        as that run had kept of them when it ended."""
+        wanted = list(request["x"]) if request["t"] == "ins" else [None] * request["c"]
+        there = log[at : at + len(wanted)]
+        count = next((n for n, (one, char) in enumerate(zip(there, wanted)) if one.char != char), len(there))
+        end = log[at + count : at + count + 1]
+        if count == 0 or count < len(wanted) and any(it.stamp[1] == there[0].stamp[1] for it in end):
+            return 0
+        _, shown = self.elements()
+        known = {it.stamp for it in self.steps}
+        fits = lambda place, one: place == one.stamp if one.stamp else place is not None and place not in known
+        if request["t"] == "del":
+            return count if all(fits(it.place, one) for it, one in zip(there[:count], shown[request["k"] :])) else 0
+        is_chain = all(it.place == before.stamp for before, it in zip(there[: count - 1], there[1:count]))
+        return count if is_chain and (fits(there[0].place, shown[request["k"] - 1]) if request["k"] else there[0].place is None) else 0
+
+    def step(self, version, edit, is_own=False, stamp=None):
+        self.steps.append(Step(version, edit, is_own, stamp))
+
+    def version_of(self, text):
+        """The last version, of those that are remembered, with a text; none where there is none."""
+        now, found = list(self.text), self.version if self.text == text else None
+        for it in self.steps:
+            play(now, [it.edit])
+            if len(now) == len(text) and now == text:
+                found = it.version
+        return found
+
+    def move(self, version, text, common, kept, log, last):
+        """Goes over to another run's text of a version. What was done up to version `kept` it has, where that is known; and up to version
+        `common` it has the log which is known here, where that isn't none; then come those of `log`, and `last` are its last ones. Gives
+        the edits that lead there from the text of now, without what is pending, and what is lacking there of one's own, with it."""
+        order, _ = self.elements()
+        kept = version if common == self.first + len(self.log) else kept
+        if kept is None:
+            shown = [it for it in order if it.is_at(PENDING - 1)]
+            set_places(shown, text)
+            own = [it.place is not None for it in shown if it.is_own]
+            if 2 * sum(own) < len(own):
+                kept = self.version  # the room was written of a text before those that are remembered
+            else:
+                set_pending(order, text)
+        if kept is not None:
+            there = [it for it in order if it.is_at(kept)]
+            for it in order:
+                it.place = None
+            set_places(there, text)
+        lost = lacking(order, PENDING - 1 if kept is None else kept)
+        edits = edits_to([it for it in order if it.is_at(PENDING - 1)], text)
+        if common is None or common + len(log) < version:
+            self.__init__(version, text, last)
+        else:
+            self.steps = [it for it in self.steps if it.version <= kept]
+            for edit in edits_to(there, text):
+                self.step(version, edit)
+            self.log = self.log[: common - self.first] + log
+        return edits, lost
+
+
+def set_places(elements, text):
+    for at, place in in_common([it.char for it in elements], text):
+        elements[at].place = place
+
+
+def set_pending(order, text):
+    """Finds in a text what is pending, between those elements that have a place there."""
+    pending, start = [], 0
+    for it in (*order, None):
+        if it and it.place is None:
+            pending += [it] * (it.put == PENDING)
+            continue
+        end = it.place if it else len(text)
+        set_places(pending, text[start:end])
+        for one in pending:
+            one.place = None if one.place is None else start + one.place
+        pending, start = [], end + 1
+
+
+def lacking(order, version):
+    """What isn't where these elements are placed of what oneself put in behind a version, and what is there that oneself deleted."""
+    lost, back, place = [], [], 0
+    for it in order:
+        if it.place is not None:
+            place = it.place + 1
+            back += [it.place] * it.is_gone_here
+        elif it.is_own and it.gone is None and it.put > version:
+            if not lost or lost[-1].place != place:
+                lost.append(Insertion(place, ""))
+            lost[-1].text += it.char
+    return lost + [Deletion(back)] * bool(back)
+
+
+def in_common(one, other, width=32):
+    """The pairs of places of what two texts have in common: at their beginnings and ends, and between round each part of some characters
+    that is once in both; parts of fewer and fewer characters are looked for."""
+    least = min(len(one), len(other))
+    start = next((at for at in range(least) if one[at] != other[at]), least)
+    end = next((at for at in range(least - start) if one[-1 - at] != other[-1 - at]), least - start)
+    pairs = [(at, at) for at in range(start)] + [(len(one) - at, len(other) - at) for at in range(end, 0, -1)]
+    texts = one[start : len(one) - end], other[start : len(other) - end]
+    if not all(texts):
+        return pairs
+    if len(texts[0]) * len(texts[1]) <= COMPARED:
+        blocks = difflib.SequenceMatcher(None, *texts, autojunk=False).get_matching_blocks()
+        inner = [(at + n, to + n) for at, to, size in blocks for n in range(size)]
+    elif width == 0:
+        inner = []
+    else:
+        inner, before = [], (0, 0)
+        for at, to in [*alike(*texts, width), tuple(map(len, texts))]:
+            inner += ((before[0] + a, before[1] + b) for a, b in in_common(texts[0][before[0] : at], texts[1][before[1] : to], width // 2))
+            before = at, to
+    return pairs[:start] + [(start + at, start + to) for at, to in inner] + pairs[start:]
+
+
+def alike(one, other, width):
+    """The pairs of places of the parts of so many characters that are once in each of two texts, in the order of both: as many as can be."""
+    places = []
+    for text in (one, other):
+        once = {}
+        for at in range(len(text) - width + 1):
+            part = tuple(text[at : at + width])
+            once[part] = None if part in once else at
+        places.append(once)
+    pairs = sorted((at, places[1][part]) for part, at in places[0].items() if at is not None and places[1].get(part) is not None)
+    ends, heads, before = [], [], {}  # the least place in `other` by which so many pairs may end, and those pairs
+    for at, to in pairs:
+        count = bisect.bisect_left(ends, to)
+        ends[count : count + 1], heads[count : count + 1] = [to], [(at, to)]
+        before[at, to] = heads[count - 1] if count else None
+    chain, pair = [], heads[-1] if heads else None
+    while pair:
+        chain.append(pair)
+        pair = before[pair]
+    return chain[::-1]
+
+
+def edits_to(elements, text):
+    """The edits that lead from these elements' characters to a text in which `place` tells where they are."""
+    edits, at = [], 0
+    for it in elements:
+        if it.place is None:
+            edits.append(["d", at])
+        else:
+            edits += (["i", n, text[n]] for n in range(at, it.place))
+            at = it.place + 1
+    return edits + [["i", n, text[n]] for n in range(at, len(text))]

@@ -1,0 +1,125 @@
+/**
+ * What a document remembers of the edits that it played, until they are surely kept: the room's log may lose its end with a run of the
+ * server. Each entry tells what the log has at which versions, and how the edit is undone.
+ */
+
+/** Milliseconds until an edit is surely kept, and how many are remembered at most. */
+const SURE = 300_000;
+const EDITS = 32_768;
+
+/** So many operations tell one log from another. */
+export const SIGNS = 64;
+
+/**
+ * What is known of an operation: the character that it puts in, or an empty text of a deletion; and its site, where that is known.
+ * @typedef {{sign: string, site: number | null}} Known
+ *
+ * What took the room's text from a version to another: what was deleted at a place, each text with whether it was deleted here too, and
+ * what was put in there. `known` are its last operations.
+ * @typedef {{at: number, taken: {text: string, isMine: boolean}[], put: string}} Way
+ * @typedef {{from: number, to: number, known: Known[], isOwn: boolean, ways: Way[], when: number}} Entry
+ */
+
+export class Memory {
+  /** @type {Entry[]} */
+  #entries = [];
+  /** @type {Known[]} */
+  #before;
+
+  /**
+   * Remembers nothing but the version, and what the log has last up to there.
+   * @param {Known[]} last
+   */
+  constructor(version, last) {
+    /** The version that can be gone back to. */
+    this.base = version;
+    this.#before = last;
+    /** The sites of all operations that were known at some time. @type {Set<number>} */
+    this.sites = new Set();
+    this.#meet(last);
+  }
+
+  /** @param {Omit<Entry, "when">} entry */
+  add(entry) {
+    this.#entries.push({ ...entry, when: Date.now() });
+    this.#meet(entry.known);
+    if (this.#entries.length % SIGNS === 0) this.#forget();
+  }
+
+  #meet(known) {
+    for (const { site } of known) if (site !== null) this.sites.add(site);
+  }
+
+  #forget() {
+    const sure = Date.now() - SURE;
+    let count = Math.max(0, this.#entries.length - EDITS);
+    while (count < this.#entries.length && this.#entries[count].when < sure) count += 1;
+    for (const { to, known } of this.#entries.splice(0, count)) {
+      this.#before = (known.length < to - this.base ? known : [...this.#before, ...known]).slice(-SIGNS);
+      this.base = Math.max(this.base, to);
+    }
+  }
+
+  /** What is known of the operations from some number below the base on; of those in between nothing may be known. */
+  get known() {
+    const start = this.base - this.#before.length;
+    /** @type {(Known | undefined)[]} */
+    const known = [...this.#before];
+    for (const { to, known: last } of this.#entries) {
+      last.forEach((it, n) => (known[to - last.length + n - start] = it));
+      known.length = Math.max(known.length, to - start);
+    }
+    return { start, known };
+  }
+
+  /** What is known of the last operations up to a version, at most `SIGNS`. */
+  last(version) {
+    const { start, known } = this.known;
+    const last = [];
+    for (let n = version - start - 1; n >= 0 && known[n] !== undefined && last.length < SIGNS; n -= 1) last.unshift(known[n]);
+    return last;
+  }
+
+  /** How many entries lead to the document's version. */
+  get length() {
+    return this.#entries.length;
+  }
+
+  /** How many entries lead to a version; fewer where the entries don't tell it alone. */
+  lengthAt(version) {
+    let length = this.#entries.length;
+    while (length > 0 && this.#entries[length - 1].to > version) length -= 1;
+    return length;
+  }
+
+  /** Forgets all but so many entries, the last one first. */
+  *since(length) {
+    while (this.#entries.length > length) yield this.#entries.pop();
+  }
+
+  /** The room's texts that led to this one, the last first: how many entries lead to each, and whether others lie beside it. */
+  *texts(text) {
+    const isFar = (entry) => entry !== undefined && !entry.isOwn && entry.to > entry.from + 1;
+    for (let length = this.#entries.length; length >= 0; length -= 1) {
+      const [before, behind] = [this.#entries[length - 1], this.#entries[length]];
+      for (const { at, taken, put } of [...(behind?.ways ?? [])].reverse()) {
+        const old = taken.map((it) => it.text).join("");
+        text = text.slice(0, at) + old + text.slice(at + put.length);
+      }
+      yield { text, length, hasGap: behind === undefined || isFar(before) || isFar(behind) };
+    }
+  }
+
+  /** Each entry, the last first: how many lead to it, whether it is one's own, and which of the marks of the room's units are of its text. */
+  *marked(marks) {
+    for (let length = this.#entries.length - 1; length >= 0; length -= 1) {
+      const { isOwn, ways } = this.#entries[length];
+      const put = [];
+      for (const { at, taken, put: text } of [...ways].reverse()) {
+        const units = taken.reduce((sum, it) => sum + it.text.length, 0);
+        put.push(...marks.splice(at, text.length, ...Array(units).fill(null)));
+      }
+      yield { length, isOwn, put };
+    }
+  }
+}

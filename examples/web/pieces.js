@@ -1,0 +1,254 @@
+/**
+ * The list of pieces of a document: what is shown are those that aren't gone, and the room's text are those that are its own. A place is
+ * one of the shown text or one of the room's, and both count UTF-16 units.
+ */
+import { add } from "./changes.js";
+import { Piece } from "./piece.js";
+
+/** Milliseconds for which others are waited for to put in again what the room lost. */
+const RETURNED = 60_000;
+
+/** So many units of a text that was lost are surely the same where they come again. */
+const SAME = 3;
+
+export class Pieces {
+  /** @type {Piece[]} */
+  list = [];
+  #lostUntil = 0; // what others put in and the room lost is waited for till then
+
+  /** The text of some of them. */
+  text(isWanted) {
+    return this.list.map((piece) => (isWanted(piece) ? piece.text : "")).join("");
+  }
+
+  /** The number of the piece right behind what is shown before the place; a piece that the place is inside of is cut there. */
+  behind(at) {
+    if (at === 0) return 0;
+    let before = 0;
+    for (let index = 0; index < this.list.length; index += 1) {
+      const piece = this.list[index];
+      if (!piece.isShown) continue;
+      if (at <= before + piece.text.length) {
+        if (at < before + piece.text.length) this.cut(index, at - before);
+        return index + 1;
+      }
+      before += piece.text.length;
+    }
+    return this.list.length;
+  }
+
+  /** The number of the piece of the room's that begins at the place of its text: one that the place is inside of is cut there. */
+  atRooms(k) {
+    let before = 0;
+    for (const [index, piece] of this.list.entries()) {
+      if (!piece.isRooms) continue;
+      if (k === before) return index;
+      if (k < before + piece.text.length) {
+        this.cut(index, k - before);
+        return index + 1;
+      }
+      before += piece.text.length;
+    }
+    if (k !== before) throw new RangeError("beyond the room's text");
+    return this.list.length;
+  }
+
+  /** The room's pieces that are so many units of its text from a place on. They are cut at both ends. */
+  rooms(k, units) {
+    const found = [];
+    let rest = units;
+    for (let index = rest > 0 ? this.atRooms(k) : 0; rest > 0; index += 1) {
+      const piece = this.list[index];
+      if (!piece.isRooms) continue;
+      if (piece.text.length > rest) this.cut(index, rest);
+      rest -= piece.text.length;
+      found.push(piece);
+    }
+    return found;
+  }
+
+  /** How many units of the room's text stand before a piece. */
+  roomPlace(index) {
+    let units = 0;
+    for (let i = 0; i < index; i += 1) if (this.list[i].isRooms) units += this.list[i].text.length;
+    return units;
+  }
+
+  /** How many units that are shown stand before a piece. */
+  shownPlace(index) {
+    let units = 0;
+    for (let i = 0; i < index; i += 1) if (this.list[i].isShown) units += this.list[i].text.length;
+    return units;
+  }
+
+  /** Cuts a piece: what stands behind the place is the next one. */
+  cut(index, place) {
+    if (place < this.list[index].text.length) this.list.splice(index + 1, 0, this.list[index].cut(place));
+  }
+
+  /** Joins the pieces round a number that are of one kind, but for what is lost, which may be looked at. */
+  joinAt(index) {
+    for (let at = Math.min(index + 1, this.list.length - 1); at >= Math.max(1, index - 1); at -= 1) {
+      if (!this.list[at].isLost) this.#joinBefore(at);
+    }
+  }
+
+  /** Joins all neighbours of one kind. */
+  join() {
+    for (let at = this.list.length - 1; at > 0; at -= 1) this.#joinBefore(at);
+  }
+
+  /** Joins a piece to the one before it, where both are of one kind. */
+  #joinBefore(at) {
+    if (!this.list[at - 1].isLike(this.list[at])) return;
+    this.list[at - 1].text += this.list[at].text;
+    this.list.splice(at, 1);
+  }
+
+  get hasLost() {
+    return this.#lostUntil > 0;
+  }
+
+  /** Others are waited for, to put in again what is lost now. Of what was lost before only what was deleted here is waited for. */
+  awaitLost() {
+    this.#lostUntil = Date.now() + RETURNED;
+    this.list = this.list.filter(({ isLost, gone }) => !(isLost && gone === "others"));
+  }
+
+  /** Lets go of what others haven't put in again. */
+  forgetLost() {
+    if (!this.hasLost || Date.now() < this.#lostUntil) return;
+    this.#lostUntil = 0;
+    this.list = this.list.filter((piece) => !piece.isLost);
+    for (const piece of this.list) piece.order = Math.max(0, piece.order);
+    this.join();
+  }
+
+  /** Of what came since the room lost text. */
+  get #fresh() {
+    return this.hasLost ? -1 : 0;
+  }
+
+  /** The lost pieces at a place, and beside it as far as what stands between came since. */
+  #lostAt(k) {
+    const { list } = this;
+    const isOlder = ({ isRooms, order }) => isRooms && order >= 0;
+    let at = this.atRooms(k);
+    while (at > 0 && !isOlder(list[at - 1])) at -= 1;
+    const lost = [];
+    for (; at < list.length && !isOlder(list[at]); at += 1) if (list[at].isLost) lost.push(list[at]);
+    return lost;
+  }
+
+  /** Takes so many units of a lost piece off, and gives them as a piece of their own. */
+  #lostPart(piece, start, units) {
+    const rest = start > 0 ? piece.cut(start) : piece;
+    if (rest !== piece) this.list.splice(this.list.indexOf(piece) + 1, 0, rest);
+    this.cut(this.list.indexOf(rest), units);
+    return rest;
+  }
+
+  /**
+   * The parts of a text that others put in, each with the lost piece that it is where they put it in again. That is so where the text was
+   * lost there in one piece; but a letter or two may be anybody's, so they count where nothing else was lost there. Else it is so of a
+   * character that stands nowhere else.
+   */
+  #parts(k, text) {
+    let lost = this.#lostAt(k);
+    const all = lost.map((piece) => piece.text).join("");
+    let start = all.indexOf(text);
+    const parts = [];
+    if (start >= 0 && (text.length >= SAME || all === text)) {
+      for (let rest = text.length, n = 0; rest > 0; n += 1) {
+        if (start < lost[n].text.length) {
+          const piece = this.#lostPart(lost[n], start, rest);
+          parts.push({ text: piece.text, piece });
+          rest -= piece.text.length;
+        }
+        start = Math.max(0, start - lost[n].text.length);
+      }
+      return parts;
+    }
+    const others = this.text((piece) => !piece.isLost) + text;
+    for (const sign of text) {
+      const isOnce = all.includes(sign) && all.indexOf(sign) === all.lastIndexOf(sign) && others.indexOf(sign) === others.lastIndexOf(sign);
+      if (isOnce) {
+        const it = lost.find((piece) => piece.text.includes(sign));
+        const piece = this.#lostPart(it, it.text.indexOf(sign), sign.length);
+        lost = this.#lostAt(k);
+        parts.push({ text: sign, piece });
+      } else if (parts.length > 0 && parts.at(-1).piece === null) {
+        parts.at(-1).text += sign;
+      } else {
+        parts.push({ text: sign, piece: null });
+      }
+    }
+    return parts;
+  }
+
+  /**
+   * A text that others put in: behind what is pending at its place, which stands right behind what is before it. What they put in again
+   * stands where it stood, and what was deleted of it here is deleted again.
+   */
+  put(k, text, changes) {
+    for (const { text: part, piece } of this.hasLost ? this.#parts(k, text) : [{ text, piece: null }]) {
+      const index = this.list.indexOf(piece);
+      const isThere = piece !== null && this.roomPlace(index) === k;
+      if (piece !== null) this.list.splice(index, 1);
+      this.#place(isThere ? index : this.atRooms(k), part, piece === null || piece.gone === "others" ? null : "new", changes);
+      k += part.length;
+    }
+  }
+
+  #place(index, text, gone, changes) {
+    const { list } = this;
+    if (gone === null) add(changes, { at: this.shownPlace(index), removed: 0, text });
+    const piece = new Piece(text, "room", gone, this.#fresh);
+    const left = list[index - 1];
+    if (left?.isLike(piece)) left.text += text;
+    else list.splice(index, 0, piece);
+    this.joinAt(index);
+  }
+
+  /** Units of the room's text that are deleted, by whom ever. What was gone is gone for good. Gives the texts, and whether each was. */
+  take(k, units, changes) {
+    const { list } = this;
+    const taken = this.rooms(k, units);
+    let index = 0;
+    for (const piece of taken) {
+      index = list.indexOf(piece);
+      if (piece.isShown) add(changes, { at: this.shownPlace(index), removed: piece.text.length, text: "" });
+      list.splice(index, 1);
+    }
+    this.joinAt(index);
+    return taken.map(({ text, isShown }) => ({ text, isMine: !isShown }));
+  }
+
+  /** A character that was under way is the room's now. Where it stands elsewhere than it is shown, what is pending there moves. */
+  settle(k, ch, changes) {
+    const { list } = this;
+    let index = list.findIndex((piece) => piece.owner === "sent");
+    if (index < 0 || !list[index].text.startsWith(ch)) throw new Error("an edit of another submission");
+    if (this.roomPlace(index) !== k) index = this.#move(index, k, changes);
+    const piece = list[index];
+    this.cut(index, ch.length);
+    piece.owner = "room";
+    if (piece.isShown) piece.order = this.#fresh;
+    this.joinAt(index);
+  }
+
+  /** Moves what is pending from a piece on to a place of the room's text, and gives the number that the piece has there. */
+  #move(index, k, changes) {
+    const { list } = this;
+    let end = index;
+    while (end < list.length && !list[end].isRooms) end += 1;
+    const at = this.shownPlace(index);
+    const moved = list.splice(index, end - index);
+    const text = moved.map((piece) => (piece.isShown ? piece.text : "")).join("");
+    const there = this.atRooms(k);
+    const to = this.shownPlace(there);
+    if (text !== "" && to !== at) changes.push({ at, removed: text.length, text, to });
+    list.splice(there, 0, ...moved);
+    return there;
+  }
+}

@@ -1,0 +1,409 @@
+/**
+ * A session with a room: it connects, again and again, sends what is done here, and tells what others do. rgatext.js opens one.
+ */
+import { add } from "./changes.js";
+import { differences } from "./differences.js";
+import { Document, MOST } from "./document.js";
+import { Ended, Full, Lost, Refused } from "./faults.js";
+import { Pace, TYPING } from "./pace.js";
+import { wayTo } from "./rejoin.js";
+import { OPERATIONS, OutOfStep, pause, RETRY, Seat } from "./seat.js";
+import { turn } from "./turn.js";
+
+/**
+ * @typedef {import("./changes.js").Change} Change
+ * @typedef {import("./connection.js").Line} Line
+ * @typedef {"joining" | "up to date" | "sending" | "no answer" | "offline" | "refused" | "another text" | "closed"} State
+ * @typedef {{
+ *   addEventListener(name: "changes", listener: (event: CustomEvent<Change[]>) => void): void,
+ *   addEventListener(name: "state", listener: () => void): void,
+ * }} Tells
+ */
+
+/** Milliseconds: until a line is tried again at most, until a room is asked again that took nothing more, until a closed one is left. */
+const LONGEST = 5_000;
+const SHUT = 30_000;
+const CLOSING = 2_000;
+
+const ANOTHER = "the room has another text by now";
+
+/**
+ * A session. It tells of itself by events: `changes`, whose `detail` is a list of changes of the shown text, made by others or by the room;
+ * and `state`, when `state` or `why` has become another, or the other text that the user is to choose of.
+ */
+export class Session extends /** @type {{new (): Tells & EventTarget}} */ (EventTarget) {
+  #connect;
+  #seat = new Seat(() => this.#isClosed || this.state === "refused" || this.#tell("no answer"));
+  #pace = new Pace();
+  #other = null; // the document of another run of the server, until the user chooses
+  #compared = null; // its version where the user chose to put in what is shown
+  /** @type {(value?: any) => void} */
+  #wake = () => {};
+  #isServed = false; // the line is open, and the session is there
+  #isPaused = false;
+  #isClosing = false; // what is done here is sent, and nothing is taken any more
+  #isClosed = false;
+  #isShut = false; // the room takes nothing more for now
+  #isRefused = false; // for good: nothing is tried any more
+
+  /**
+   * `connect` gives an open line to the room, at each call a new one.
+   * @param {() => Promise<Line>} connect
+   */
+  constructor(connect) {
+    super();
+    this.#connect = connect;
+    this.document = new Document();
+    /** @type {State} */
+    this.state = "joining";
+    this.why = "";
+    /** Whether another run of the server has another text, of which the user is to choose. */
+    this.hasOther = false;
+    /** Settles when the session has ended; `state` and `why` tell how. */
+    this.ended = this.#run();
+    this.ended.catch(() => {});
+  }
+
+  /** The text that is shown. */
+  get text() {
+    return this.document.text;
+  }
+
+  /** The text of another run of the server, of which the user is to choose; else null. */
+  get otherText() {
+    return this.#other === null ? null : this.#other.roomText;
+  }
+
+  /** The changes that lead from the other text to the one that is shown, the last one in the text first. */
+  get difference() {
+    return this.#other === null ? [] : differences(this.#other.roomText, this.text);
+  }
+
+  /** What was changed here and the room isn't known to have: a list of texts that were put in or deleted, each with its `kind`. */
+  get unsent() {
+    return this.document.unsent;
+  }
+
+  /** How many more changes the room takes, as far as is known here: a character put in or deleted is one. */
+  get left() {
+    return OPERATIONS - this.document.version - this.document.pending;
+  }
+
+  /** Whether the session has something that the room isn't known to have. */
+  get isAhead() {
+    return this.document.pending > 0;
+  }
+
+  /** Whether nobody looks at the text: then news is asked for rarely. */
+  set isHidden(isHidden) {
+    this.#pace.isHidden = isHidden;
+    this.#wake();
+  }
+
+  /** @returns {Change} */
+  insert(at, text) {
+    return this.replace(at, 0, text);
+  }
+
+  /** @returns {Change} */
+  remove(at, removed) {
+    return this.replace(at, removed, "");
+  }
+
+  /** How many of the changes that the room takes are used up where the shown text is changed so; less than none where it undoes some. */
+  cost(at, removed, text) {
+    return this.document.cost(at, removed, text);
+  }
+
+  /**
+   * Removes so many units at a place of the shown text, and puts a text in there: shown at once, and sent when its turn comes. Throws
+   * `Full` where the room doesn't take as many changes, and `Ended` where the session is closed or refused; then nothing is done.
+   * Gives the change, which is told by no event.
+   * @param {number} at
+   * @param {number} removed
+   * @param {string} text
+   * @returns {Change}
+   */
+  replace(at, removed, text) {
+    if (this.#isClosing || this.#isShut || this.#isRefused) throw new Ended(this.why);
+    if (this.cost(at, removed, text) > this.left) throw new Full(this.left);
+    const change = this.document.replace(at, removed, text);
+    if (this.state === "up to date") this.#tell(this.#standing);
+    this.#pace.hasNews();
+    this.#wake();
+    return change;
+  }
+
+  /** Another run of the server has another text: shows that, and lets go of what was shown. */
+  takeTheirs() {
+    if (this.#other === null) return;
+    const changes = differences(this.text, this.#other.roomText);
+    this.document = this.#other;
+    this.#tellChanges(changes);
+    this.#goOn();
+  }
+
+  /** Another run of the server has another text: makes it the one that is shown, unless the room changes before. */
+  putMine() {
+    if (this.#other === null) return;
+    if (this.#isRefused) throw new Ended(this.why);
+    const cost = this.difference.reduce((sum, { at, removed, text }) => sum + this.#other.cost(at, removed, text), 0);
+    const left = OPERATIONS - this.#other.version;
+    if (cost > left) throw new Full(left);
+    this.#compared = this.#other.version;
+    this.#wake();
+  }
+
+  /** Leaves the room until it is gone on with, as a page that may come back. What is done meanwhile is kept. */
+  pause() {
+    this.#isPaused = true;
+    this.#end();
+  }
+
+  /** Goes on after a pause. */
+  resume() {
+    this.#isPaused = false;
+    this.#wake();
+  }
+
+  /**
+   * Ends the session: sends what is new, for some seconds, and leaves the room; where nothing is new at once. Where the line isn't there
+   * it tries to leave, once.
+   */
+  async close() {
+    this.#isClosing = true;
+    if (this.#isServed && this.#other === null && this.document.hasNew()) {
+      const timer = setTimeout(() => this.#close(), CLOSING);
+      this.#wake();
+      await this.ended;
+      clearTimeout(timer);
+    } else {
+      this.#close();
+      await this.ended;
+    }
+  }
+
+  #close() {
+    this.#isClosed = true;
+    this.#end();
+  }
+
+  /** Leaves the room at once. */
+  #end() {
+    if (this.#isServed) this.#seat.leave();
+    this.#wake();
+  }
+
+  /** Whether the session is closed or paused; it may be gone on with before the room has answered that it was left. */
+  get #isOver() {
+    return this.#isClosed || this.#isPaused || (this.#isServed && this.#seat.isLeaving);
+  }
+
+  /** What the state is while all goes well. */
+  get #standing() {
+    return this.isAhead ? "sending" : "up to date";
+  }
+
+  /** The user has chosen, or needn't. */
+  #goOn() {
+    this.#other = null;
+    this.#compared = null;
+    this.#tell(this.#isServed ? "sending" : this.state, this.#isServed ? "" : this.why);
+    this.#wake();
+  }
+
+  #tell(state, why = "") {
+    const hasOther = this.#other !== null;
+    if (state === this.state && why === this.why && hasOther === this.hasOther) return;
+    Object.assign(this, { state, why, hasOther });
+    this.dispatchEvent(new CustomEvent("state"));
+  }
+
+  #tellChanges(changes) {
+    const told = [];
+    for (const change of changes) if (change.removed > 0 || change.text !== "") add(told, change);
+    if (told.length === 0) return;
+    this.#pace.hasNews();
+    this.dispatchEvent(new CustomEvent("changes", { detail: told }));
+  }
+
+  /** Connects, again and again, and serves each line as long as it lasts. */
+  async #run() {
+    for (let wait = RETRY; !this.#isClosed && !this.#isRefused; wait = Math.min(2 * wait, LONGEST)) {
+      try {
+        this.#seat.line = await this.#connect();
+        if (this.#isShut) await this.#awaitRoom();
+        await this.#resume();
+        this.#isShut = false;
+        this.#isServed = true;
+        wait = RETRY;
+        await this.#serve();
+        await this.#seat.leave();
+      } catch (fault) {
+        this.#failed(fault);
+      }
+      this.#isServed = false;
+      this.#seat.line?.close();
+      while (this.#isPaused && !this.#isClosed) await this.#sleep(LONGEST);
+      if (!this.#isClosed && !this.#isRefused) await this.#sleep(wait);
+    }
+    if (!this.#isClosed) return;
+    await this.#leaveLate();
+    this.#tell("closed");
+  }
+
+  /** Says what went wrong, and whether it is for good. A fault that is none of the line's or the room's is thrown on. */
+  #failed(fault) {
+    if (this.#isOver && fault instanceof Lost) return;
+    const isFault = !(fault instanceof Lost || fault instanceof Refused || fault instanceof OutOfStep);
+    if (isFault || (fault instanceof Refused && fault.number !== 26)) {
+      this.#isShut ||= fault.number === 12 || fault.number === 13;
+      this.#isRefused = ![6, 12, 13].includes(fault.number);
+      this.#tell("refused", fault.message);
+    } else if (!this.#isShut) {
+      this.#tell("offline", fault.message);
+    }
+    if (isFault) this.#seat.line?.close();
+    if (isFault) throw fault;
+  }
+
+  /** Asks now and then whether the room takes calls again, and what is pending. */
+  async #awaitRoom() {
+    while (!(await this.#seat.takes(Math.max(1, this.document.pending)))) {
+      for (let until = Date.now() + SHUT; Date.now() < until; await this.#sleep(1_000)) {
+        if (!this.#seat.line.isOpen || this.#isOver) throw new Lost();
+      }
+    }
+  }
+
+  /** Leaves a session that was closed while the line wasn't there: once, and only where the run of the server is the same. */
+  async #leaveLate() {
+    if (await this.#seat.isLeft()) return;
+    try {
+      this.#seat.line = await this.#connect();
+      if (await this.#seat.isOwn(await this.#seat.findOut(this.#current), this.#current)) await this.#seat.giveUp();
+    } catch {
+      // the session stays
+    }
+    this.#seat.line?.close();
+  }
+
+  /** Waits, but not longer than until something is to be done. */
+  async #sleep(milliseconds) {
+    await Promise.race([pause(milliseconds), new Promise((resolve) => (this.#wake = resolve))]);
+    this.#wake = () => {};
+  }
+
+  /** The session on a new line: the same one where the run of the server is the same, else a new one. */
+  async #resume() {
+    if (!this.#seat.isTaken) return this.#joinAnew(false);
+    const found = await this.#seat.findOut(this.document);
+    if (found !== "same") await this.#joinAnew(await this.#seat.isOwn(found, this.#current));
+  }
+
+  /** The document that the session follows. */
+  get #current() {
+    return this.#other ?? this.document;
+  }
+
+  /**
+   * Joins, and goes on where the room's text follows from what is known. Else the text of the room stands beside that which is shown,
+   * until the user chooses. `isOwn`: the number is that of a session to leave.
+   */
+  async #joinAnew(isOwn) {
+    const edits = isOwn && this.#other === null ? await this.#seat.editsSince(this.document) : [];
+    if (isOwn) await this.#seat.giveUp();
+    const room = await this.#seat.join();
+    const go = await wayTo(this.document, room, this.#seat.log, edits);
+    if (go === null) {
+      this.#other = room;
+      this.#compared = null;
+      return this.#tell("another text", ANOTHER);
+    }
+    const changes = go();
+    this.document.site = null;
+    this.#tellChanges(changes);
+    this.#goOn();
+  }
+
+  /** Sends what is new and pulls what others did, until the session is closed. */
+  async #serve() {
+    for (let began = 0; !this.#isOver; ) {
+      if (this.document.pending <= MOST || this.#other !== null) await this.#rest(began + TYPING);
+      if (this.#isOver) return;
+      began = Date.now();
+      const isMore = await this.#step();
+      if (this.#other === null) this.#tell(this.#standing);
+      if (this.#isClosing && !this.isAhead) this.#close();
+      if (this.left <= 0 && !this.isAhead && this.#other === null) await this.#leaveFull();
+      const isIdle = this.#other === null ? !isMore && !this.isAhead : this.#compared === null;
+      if (!this.#isOver && isIdle) await this.#sleep(Math.max(0, began + this.#pace.next() - Date.now()));
+    }
+  }
+
+  /** Waits until a time, but not longer than until the session is closed. */
+  async #rest(until) {
+    while (!this.#isClosing && !this.#isOver && Date.now() < until) await this.#sleep(until - Date.now());
+  }
+
+  /** No more can come of a full room: it is left, for others to have the place. */
+  async #leaveFull() {
+    await this.#seat.giveUp();
+    throw new Refused(12);
+  }
+
+  #turn() {
+    return turn(this.document, this.#seat, () => !this.#isOver, (changes) => this.#tellChanges(changes));
+  }
+
+  /** Does what is next on the line. Whether there is more to pull. */
+  async #step() {
+    try {
+      if (this.#other === null) return await this.#turn();
+      await this.#watch();
+    } catch (fault) {
+      if (!(fault instanceof OutOfStep)) throw fault;
+      if (!this.#isOver) await this.#joinAnew(!fault.isGone);
+    }
+    return false;
+  }
+
+  /** Follows another run, as long as the user hasn't chosen; where it comes to read what is known here, it is gone on with. */
+  async #watch() {
+    const other = this.#other;
+    const { version } = other;
+    for (let isMore = true; isMore; ) {
+      const edits = await this.#seat.editsOf(await this.#seat.pull(other.version));
+      if (this.#other !== other) return;
+      if (edits !== null) other.play(edits);
+      isMore = edits === null || edits.length === MOST;
+    }
+    if (other.roomText === this.document.textToCome) {
+      this.document.came(this.document.version, Infinity);
+      this.#tellChanges(this.document.follow(other));
+      this.document.renew(other.version, other.memory.last(other.version));
+      this.document.site = other.site;
+      this.#goOn();
+    } else if (this.#compared !== null) {
+      if (this.#putIn(other)) await this.#turn(); // at once, before another does so too
+    } else {
+      this.#tell("another text", this.why || ANOTHER);
+      if (other.version !== version) this.dispatchEvent(new CustomEvent("state"));
+    }
+  }
+
+  /** Makes another run's text the one that is shown, where it is still the one that the user saw. Whether it is. */
+  #putIn(other) {
+    const isAsSeen = other.version === this.#compared;
+    this.#compared = null;
+    if (isAsSeen) {
+      const { difference } = this;
+      this.document = other;
+      for (const { at, removed, text } of difference) this.document.replace(at, removed, text);
+      this.#goOn();
+    } else {
+      this.#tell("another text", "the room has changed in the meantime: choose again");
+    }
+    return isAsSeen;
+  }
+}
