@@ -1,7 +1,7 @@
-"""typists.py PORT COUNT CLIENTS: edits a second at one room of `rgatext serve`, by clients that do as little as can be.
+"""typists.py PORT COUNT CLIENTS [FLIGHT]: edits a second at one room of `rgatext serve`, by clients that do as little as can be.
 
-So many processes put in COUNT characters together at place 0, and each keeps 64 pairs of an `ins` and a pull in flight. They
-write their frames by themselves and take an answer for one once they see its `r`. Alone a client knows the version that
+So many processes put in COUNT characters together at place 0, and each keeps FLIGHT pairs of an `ins` and a pull in flight, 64 unless
+given. They write their frames by themselves and take an answer for one once they see its `r`. Alone a client knows the version that
 the answer before will have sent it, and names it; of several each names the last one that it was told."""
 import multiprocessing
 import pathlib
@@ -14,9 +14,8 @@ import time
 sys.path.insert(0, str(pathlib.Path(__file__).resolve().parent.parent / "bin"))
 from serving import handshake
 
-PORT, COUNT, CLIENTS = map(int, sys.argv[1:])
+PORT, COUNT, CLIENTS, FLIGHT = map(int, [*sys.argv[1:], 64][:4])
 EACH = COUNT // CLIENTS
-FLIGHT = 64
 NEWS = re.compile(rb'\{"es":([^{}]*),"from":(\d+),"r":"edits"\}')
 
 

@@ -41,9 +41,10 @@ def new_folder(name):
 class Server:
     """A run of the server over a folder."""
 
-    def __init__(self, folder, *words, rooms=("notes",), most_bytes=None, **failing):
+    def __init__(self, folder, *words, rooms=("notes",), every=EVERY, most_bytes=None, **failing):
         port = free_port()
-        words = ["--port", str(port), "--keep", str(folder), "--every", str(EVERY), *words, *rooms]
+        words = ["--port", str(port), "--keep", str(folder), *(["--every", str(every)] if every else []), *words, *rooms]
+        self.folder = folder
         self.port = port
         self.run = subprocess.Popen(
             [BUILT if failing else PROGRAM, "serve", *words],
@@ -67,6 +68,13 @@ class Server:
     def kill(self):
         self.run.kill()
         self.run.communicate()
+
+    def stop(self):
+        """It is asked to end by the file for that: how long that took, the status, and what was printed and warned of."""
+        begun = time.monotonic()
+        (self.folder / "stop").touch()
+        printed, told = self.run.communicate(timeout=60)
+        return time.monotonic() - begun, self.run.returncode, printed, warned(told)
 
     def ends(self, title, *warnings):
         """It ends by itself with status 0, and warns of this."""

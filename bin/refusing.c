@@ -3,6 +3,10 @@
  *   FAIL_READ=N           the Nth read fails
  *   FAIL_WRITE=N          the Nth write fails; with WRITE_NOTHING set, it takes 0 bytes
  *   FAIL_SYNC=N           the Nth sync of a file or a folder fails
+ *   FAIL_SYNC_WHILE=FILE  every sync fails while this file is there
+ *   SLOW_SYNC=N           every sync takes N microseconds more
+ *   LATE_WRITES           what is written to a file of a room waits in memory for its next sync: a kill takes it away, as a power cut may,
+ *                         and so does a sync that fails
  *   FAIL_THREAD=N         the Nth thread can't be made
  *   REFUSE_ON             each later call of the same kind is refused, too
  *   SHORT_READS=N         every read that isn't refused gives at most N bytes
@@ -15,7 +19,9 @@
 #include <fcntl.h>
 #include <pthread.h>
 #include <stdatomic.h>
+#include <stdio.h>
 #include <stdlib.h>
+#include <string.h>
 #include <unistd.h>
 
 /* The C library's own function of this name. */
@@ -72,24 +78,86 @@ ssize_t read(int from, void *bytes, size_t size)
     return under(from, bytes, most && size > (size_t)atol(most) ? (size_t)atol(most) : size);
 }
 
+/* What was written late, by descriptor. One thread at a time writes to a file. */
+enum { FILES = 4096 };
+static struct {
+    char *bytes;
+    size_t size;
+} late[FILES];
+
+/* Whether what is written to the file waits: it is a room's. */
+static int is_late(int file)
+{
+    char link[64], path[4096];
+    if (!getenv("LATE_WRITES") || file < 0 || file >= FILES)
+        return 0;
+    snprintf(link, sizeof link, "/proc/self/fd/%d", file);
+    ssize_t length = readlink(link, path, sizeof path);
+    return length > 4 && !memcmp(path + length - 4, ".ops", 4);
+}
+
+/* Writes what waits to the file, or takes it away. */
+static int settle(int file, int is_written)
+{
+    UNDER(write);
+    if (file < 0 || file >= FILES)
+        return 0;
+    size_t size = late[file].size;
+    late[file].size = 0;
+    return is_written && size && under(file, late[file].bytes, size) != (ssize_t)size ? -1 : 0;
+}
+
 ssize_t write(int to, const void *bytes, size_t size)
 {
     UNDER(write);
+    if (is_late(to)) {
+        static __typeof__(&realloc) grow;
+        if (!grow)
+            grow = dlsym(RTLD_NEXT, "realloc");
+        char *grown = grow(late[to].bytes, late[to].size + size);
+        if (!grown)
+            return -1;
+        memcpy(grown + late[to].size, bytes, size);
+        late[to].bytes = grown;
+        late[to].size += size;
+        return size;
+    }
     if (to == 1 && is_refused(&writes, "FAIL_WRITE", EIO))
         return getenv("WRITE_NOTHING") ? 0 : -1;
     return under(to, bytes, to == 1 && size > 1 && getenv("SHORT_WRITES") ? 1 : size);
 }
 
+/* Whether the sync fails; if not, it is as slow as is wanted, and all that waits was written. */
+static int sync_fails(int file)
+{
+    const char *slow = getenv("SLOW_SYNC"), *fails = getenv("FAIL_SYNC_WHILE");
+    if (slow)
+        usleep(atol(slow));
+    if (is_refused(&syncs, "FAIL_SYNC", EIO) || (fails && !access(fails, F_OK))) {
+        settle(file, 0);
+        errno = EIO;
+        return 1;
+    }
+    return settle(file, 1);
+}
+
 int fsync(int file)
 {
     UNDER(fsync);
-    return is_refused(&syncs, "FAIL_SYNC", EIO) ? -1 : under(file);
+    return sync_fails(file) ? -1 : under(file);
 }
 
 int fdatasync(int file)
 {
     UNDER(fdatasync);
-    return is_refused(&syncs, "FAIL_SYNC", EIO) ? -1 : under(file);
+    return sync_fails(file) ? -1 : under(file);
+}
+
+int ftruncate(int file, off_t size)
+{
+    UNDER(ftruncate);
+    settle(file, 1);
+    return under(file, size);
 }
 
 int pthread_create(pthread_t *thread, const pthread_attr_t *how, void *(*run)(void *), void *with)

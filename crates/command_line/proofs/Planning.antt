@@ -1,6 +1,6 @@
 -- Which plan the rows of a subcommand ask for, and when they ask for none.
 use Rattle.std.proofs.Common.{◌≡◌, ℕ, ◌≤◌, List, Option, None, Some, refl, sym, ap}
-use Rattle.std.proofs.Common.{◌∙◌, arith, codes, slice_index}
+use Rattle.std.proofs.Common.{◌∙◌, arith, codes, slice_index, IfSome}
 use Rattle.clap.specs.Words.{Row, all_of, first_of}
 use Rattle.plans.specs.declared.plan.Plan.TheVariants.{Lines, Text as TextOf, Serve, World}
 use Rattle.command_line.specs.CommandLine.{AsksNothing, ReadsTo}
@@ -77,7 +77,7 @@ serve_no_conns rows none (TextOf version) h =
     absurd (two_names (codes "serve") (codes "serve") (codes "text") 115 116 refl refl (λ e. omega (arith, e)) refl h.0)
 
 -- with no number of seconds
-pub serve_no_every : (rows : List Row) → ((every : ℕ) → 1 ≤ every → ReadsTo 3600 (first_of (codes "every") rows) (Some every) → ⊥)
+pub serve_no_every : (rows : List Row) → ((every : Option ℕ) → IfSome every (λ n. 1 ≤ n) → ReadsTo 3600 (first_of (codes "every") rows) every → ⊥)
     → AsksNothing (Some (codes "serve", rows))
 serve_no_every rows none (Serve port site conns keep every names) (_, _, _, _, _, _, _, turn, wait, _) = none every turn wait
 serve_no_every rows none (Lines site resume snapshot) h =

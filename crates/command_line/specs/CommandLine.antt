@@ -1,7 +1,7 @@
 -- The command line, as `clap` reads it: `rgatext lines [--site N] [--resume] [--snapshot]`, `rgatext text [--version V]`,
 -- `rgatext world [--sites N]` and `rgatext serve --port P [--site N] [--conns C] [--keep FOLDER] [--every SECONDS] NAME...`.
 use Rattle.std.specs.Prelude.{◌≡◌, ◌≤◌, ◌⊎◌, ℕ, Bool, false, List, [], ◌∷◌, Option, Some, None, bytes_eq, codes, true, pos, map, option_map}
-use Rattle.std.specs.Prelude.{string_bytes}
+use Rattle.std.specs.Prelude.{string_bytes, IfSome}
 use Rattle.std.specs.Str.Parse.{IsNumeral, digits_value, without_leading_plus}
 use Rattle.clap.specs.Words.{App, IsAmong, Kinds, Row, Rule, Text, all_of, first_of, new_app, new_rule, with_rule, with_subcommand}
 use Rattle.clap.specs.declared.builder.action.ArgAction.TheVariants.{Append, SetTrue}
@@ -48,12 +48,9 @@ conns_option = record (valued_option (codes "conns")) {
 abbrev pub keep_option : Rule
 keep_option = valued_option (codes "keep")
 
--- `--every SECONDS`, a whole number from 1 to 3600, or 5
+-- `--every SECONDS`, a whole number from 1 to 3600
 abbrev pub every_option : Rule
-every_option = record (valued_option (codes "every")) {
-  parser = Some (vp.Signed (pos 1) (pos 3600));
-  defaults = codes "5" ∷ [];
-}
+every_option = record (valued_option (codes "every")) { parser = Some (vp.Signed (pos 1) (pos 3600)) }
 
 -- the names, of which there is at least one
 abbrev pub name_words : Rule
@@ -115,7 +112,7 @@ AsksIn name rows (Serve port site conns keep every names) = (name ≡ codes "ser
     × (1 ≤ port) × ReadsTo 65535 (first_of (codes "port") rows) (Some port) × ReadsTo 31 (first_of (codes "site") rows) site
     × (1 ≤ conns) × ReadsTo 65536 (first_of (codes "conns") rows) (Some conns)
     × (option_map string_bytes keep ≡ first_of (codes "keep") rows)
-    × (1 ≤ every) × ReadsTo 3600 (first_of (codes "every") rows) (Some every)
+    × IfSome every (λ seconds. 1 ≤ seconds) × ReadsTo 3600 (first_of (codes "every") rows) every
     × (all_of (codes "name") rows ≡ Some (map string_bytes names.items))
 
 -- the subcommand that was met asks for the plan

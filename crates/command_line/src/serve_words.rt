@@ -81,10 +81,9 @@ fn every_arg<'a>(alloc: Global) -> Arg<'a>
         alloc,
         "every",
         "SECONDS",
-        "How many seconds pass between two turns of keeping, 1 to 3600",
+        "Answers don't wait until they are kept: how many seconds pass between two turns of keeping, 1 to 3600",
     )
     .value_parser(value_parser!(u32).range(1..=3600))
-    .default_value("5")
 }
 
 fn name_arg<'a>(alloc: Global) -> Arg<'a>
@@ -112,7 +111,7 @@ pub(crate) fn serve_plan(alloc: Global, used: &ArgMatches<'_>) -> Result<Option<
     let Some(conns) = conns_in(used.get_str("conns")) else {
         return Ok(None);
     };
-    let Some(every) = every_in(used.get_str("every")) else {
+    let Some(every) = asked_every_in(used.get_str("every")) else {
         return Ok(None);
     };
     let Some(words) = used.get_strs("name") else {
@@ -181,6 +180,21 @@ fn conns_in(text: Option<&str>) -> Option<u32>
     match text?.parse::<u32>() {
         Ok(conns) if 1 <= conns && conns <= 65_536 => Some(conns),
         _ => None,
+    }
+}
+
+fn asked_every_in(text: Option<&str>) -> Option<Option<u32>>
+    ensures some { IfSome result (λ every. IfSome every (λ seconds. 1 ≤ seconds)
+        × ReadsTo 3600 (option_map (λ t. t.now) text.entry) every) }
+    ensures none { IfNone result ((every : Option ℕ) → IfSome every (λ seconds. 1 ≤ seconds)
+        → ReadsTo 3600 (option_map (λ t. t.now) text.entry) every → ⊥) }
+{
+    if text.is_none() {
+        return Some(None);
+    }
+    match every_in(text) {
+        Some(every) => Some(Some(every)),
+        None => None,
     }
 }
 

@@ -1,6 +1,7 @@
 mod Cutting
 mod Plain
 mod Telling
-mod ReadLines
-mod WrittenLines
+pub mod ReadLines
+pub mod WrittenLines
 mod Sites
+pub mod TornLines

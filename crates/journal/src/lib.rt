@@ -12,6 +12,6 @@ mod writing;
 
 pub use fault::JournalFault;
 pub use free::free_site;
-pub use mark::{Mark, append};
+pub use mark::Mark;
 pub use reading::{Journal, read_journal};
 pub use writing::write_lines;

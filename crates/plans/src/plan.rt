@@ -34,8 +34,9 @@ pub enum Plan {
         conns: u32,
         /// The folder in which the rooms' logs are kept, if they are.
         keep: Option<String>,
-        /// How many seconds pass between two turns of keeping, 1 to 3600.
-        every: u32,
+        /// How many seconds pass between two turns of keeping, 1 to 3600; where it isn't named, each answer waits until all that it rests
+        /// on is kept.
+        every: Option<u32>,
         /// The names of the rooms.
         names: Vec<String>,
     },

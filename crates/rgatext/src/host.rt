@@ -1,20 +1,25 @@
-//! Serves rooms over WebSockets on loopback: a thread for each connection, and one that looks at the rooms meanwhile.
-ghost use Rattle.std.specs.Prelude.{◌≡◌, ◌↔◌, false, Err, IfOk};
+//! Serves rooms over WebSockets on loopback: a thread for each connection, and one for each room that looks at it meanwhile.
+ghost use Rattle.std.specs.Prelude.{◌≡◌, ◌↔◌, true, false, length, Err, IfOk};
 ghost use Rattle.std.specs.Thread.{IsSync};
-ghost use Rattle.ws_server.specs.Halls.{IsHallPassOf};
+ghost use Rattle.ws_server.specs.Halls.{rooms_of, IsHallPassOf};
 ghost use Rattle.ws_server.specs.Names.{names_fit};
 
+use crate::ends::Connections;
 use crate::rooms::{Opened, open_rooms};
-use crate::watch::{Ended, watch};
+use crate::stop::{await_stop, remove_stop};
+use crate::watch::{Ended, Rhythm, Watched, watch};
 use commands::Stop;
+use keeper::Kept;
+use kept_rooms::{KeptConnection, Waiting, serve_kept};
 use line_engine::ServeFault;
 use log::{Log, warn};
 use opid::{Refusal, Site};
-use std::alloc::Global;
+use std::alloc::{AllocError, Global};
 use std::fs::{File, Files};
 use std::io::Print;
 use std::net::{Net, TcpListener, TcpStream};
-use std::sync::{Mutex, Wait};
+use std::sync::atomic::{AtomicBool, Ordering};
+use std::sync::{Arc, Wait};
 use std::thread::Threads;
 use std::time::{Clock, Duration};
 use std::{fmt, thread};
@@ -23,8 +28,11 @@ use ws_server::{Gate, Hall, HallPass, names_fit, serve_socket};
 // How many calls a connection may make in each room.
 const DRAWS: u64 = 2_097_152;
 
-// How often the rooms are looked at at most: each second for more than 30,000 years.
+// How often a room is looked at at most, by who watches it and where answers wait: each millisecond for more than 30 years.
 const LOOKS: u64 = 1 << 40;
+
+// How often rooms are looked at where no other number of seconds is named.
+const SECONDS: u32 = 5;
 
 /// What `serve` is to do, as the plan tells it.
 #[derive(Clone, Copy)]
@@ -33,8 +41,18 @@ pub(crate) struct Serving<'a> {
     pub(crate) site: Option<Site>,
     pub(crate) conns: u32,
     pub(crate) keep: Option<&'a str>,
-    pub(crate) every: u32,
+    pub(crate) every: Option<u32>,
     pub(crate) names: &'a [String],
+}
+
+impl Serving<'_> {
+    // When the rooms are looked at.
+    fn rhythm(&self) -> Rhythm {
+        Rhythm {
+            every: Duration::from_secs(self.every.unwrap_or(SECONDS) as u64),
+            do_answers_wait: self.keep.is_some() && self.every.is_none(),
+        }
+    }
 }
 
 // A gate that lets everything pass.
@@ -51,38 +69,78 @@ impl Gate for Open {
     fn after(&mut self, _n: u64) {}
 }
 
-// What became of the connections, in order of acceptance: the fault with which each ended, if one did.
-type Ends = Mutex<Vec<Option<ServeFault>>>;
+// What the threads of connections share.
+#[derive(Clone, Copy)]
+struct Shared<'a> {
+    hall: &'a Hall,
+    waiting: &'a [Waiting],
+    connections: &'a Connections,
+    is_ending: &'a AtomicBool,
+    rhythm: Rhythm,
+}
 
-// Serves one connection to its end, and notes the fault that it ends with at its place.
-fn serve<R: Wait>(
-    rt: &R,
-    alloc: Global,
-    hall: &Hall,
-    mut pass: HallPass,
-    stream: TcpStream,
-    ends: &Ends,
-    place: usize,
-)
-    requires { IsHallPassOf hall.now pass }
-{
-    if let Err(fault) = serve_socket(rt, alloc, hall, &mut pass, stream, &mut Open) {
-        if let Some(end) = ends.lock(rt).get_mut(place) {
-            *end = Some(fault);
+impl Shared<'_> {
+    // How many turns a connection may take in each room. Where its answers wait each look takes one.
+    fn draws(&self) -> u64 {
+        if self.rhythm.do_answers_wait {
+            LOOKS
+        } else {
+            DRAWS
         }
     }
 }
 
+// Serves one connection to its end, and notes how that was. Where the server ends, it is no fault that a connection is hung up.
+fn serve<R: Wait + Clock>(
+    rt: &R,
+    alloc: Global,
+    shared: Shared<'_>,
+    mut pass: HallPass,
+    stream: Arc<TcpStream, Global>,
+    place: usize,
+)
+    requires pass { IsHallPassOf shared.hall.now pass }
+    requires counted { length shared.waiting.now ≡ length (rooms_of shared.hall.now) }
+{
+    let Shared {
+        hall,
+        waiting,
+        connections,
+        is_ending,
+        rhythm,
+    } = shared;
+    let served = if rhythm.do_answers_wait {
+        match KeptConnection::open(alloc, hall, pass, &*stream) {
+            Ok(mut it) => serve_kept(rt, alloc, waiting, &mut it, &mut Open, is_ending),
+            Err(why) => Err(why),
+        }
+    } else {
+        serve_socket(rt, alloc, hall, &mut pass, &*stream, &mut Open)
+    };
+    let end = match served {
+        Err(why) if !is_ending.load(Ordering::SeqCst) => Some(why),
+        _ => None,
+    };
+    connections.end(rt, place, end);
+}
+
 // The next connection, which sends what it has at once: a reply that waits to be longer would hold up a client that
 // sends many requests before it reads. One that can't be had is warned of.
-fn accept<R: Log>(rt: &R, listener: &TcpListener) -> Result<TcpStream, Stop>
+fn accept<R: Log>(
+    rt: &R,
+    alloc: Global,
+    listener: &TcpListener,
+) -> Result<Arc<TcpStream, Global>, Stop>
     ensures fits { (result ≡ Err (Stop.Refused Refusal.BadField)) → ⊥ }
 {
     match listener.accept() {
         Ok((stream, _)) => {
             // No answer waits for another (docs/decisions, P15). Where this fails the other side has gone, as the first read will tell.
             let _ = stream.set_nodelay(true);
-            Ok(stream)
+            match Arc::new(alloc, stream) {
+                Ok(stream) => Ok(stream),
+                Err(_) => Err(closed(rt, Stop::Fault(ServeFault::Memory))),
+            }
         }
         Err(why) => {
             warn_closed(rt, &why);
@@ -134,40 +192,50 @@ fn tell_site<R: Print>(rt: &R, serving: &Serving<'_>, site: Site) -> Result<(), 
 }
 
 // Serves so many connections, each by a thread, until all have ended. Once the last is accepted, or one can't be had,
-// nobody listens any more (docs/decisions, P17), which is warned of. A thread's handle is given up at once, so that a thread that has
-// ended leaves nothing behind (docs/decisions, P16).
-fn serve_all<R: Net<Listener = TcpListener, Stream = TcpStream> + Threads + Wait + Log + Sync>(
+// nobody listens any more (docs/decisions, P17), which is warned of; or once the server is to end. A thread's handle is given up at once,
+// so that a thread that has ended leaves nothing behind (docs/decisions, P16).
+fn serve_all<R: Clock + Threads + Wait + Log + Sync>(
     rt: &R,
     alloc: Global,
-    hall: &Hall,
+    shared: Shared<'_>,
     mut pass: HallPass,
     listener: TcpListener,
-    conns: u32,
-    ends: &Ends,
+    serving: &Serving<'_>,
 ) -> Result<(), Stop>
-    requires { IsHallPassOf hall.now pass }
+    requires pass { IsHallPassOf shared.hall.now pass }
+    requires counted { length shared.waiting.now ≡ length (rooms_of shared.hall.now) }
     ensures fits { (result ≡ Err (Stop.Refused Refusal.BadField)) → ⊥ }
 {
-    thread::scope(
+    let (conns, may_be_hung_up) = (serving.conns, serving.keep.is_some());
+    let draws = shared.draws();
+    let served = thread::scope(
         thread::scope_env(),
         rt,
         move |scope| -> Result<(), Stop>
-            requires { IsSync R.row × IsHallPassOf hall.now pass }
+            requires { IsSync R.row × IsHallPassOf shared.hall.now pass
+                × (length shared.waiting.now ≡ length (rooms_of shared.hall.now)) }
             ensures { (result ≡ Err (Stop.Refused Refusal.BadField)) → ⊥ }
         {
             for n in 0..conns {
-                let stream = accept(rt, &listener)?;
-                let given = match hall.split(alloc, &mut pass, DRAWS) {
+                let stream = accept(rt, alloc, &listener)?;
+                if shared.is_ending.load(Ordering::SeqCst) {
+                    return Ok(());
+                }
+                let given = match shared.hall.split(alloc, &mut pass, draws) {
                     Ok(given) => given,
                     Err(why) => return Err(closed(rt, Stop::of(why))),
                 };
-                if ends.lock(rt).push(None).is_err() {
+                let Ok(kept) = handle_of(&stream, may_be_hung_up) else {
+                    return Err(closed(rt, Stop::Fault(ServeFault::Memory)));
+                };
+                if shared.connections.add(rt, kept).is_err() {
                     return Err(closed(rt, Stop::Fault(ServeFault::Memory)));
                 }
                 let worker = scope.spawn(
                     move ||
-                        requires { IsSync R.row × IsHallPassOf hall.now given }
-                    { serve(rt, alloc, hall, given, stream, ends, n as usize) },
+                        requires { IsSync R.row × IsHallPassOf shared.hall.now given
+                            × (length shared.waiting.now ≡ length (rooms_of shared.hall.now)) }
+                    { serve(rt, alloc, shared, given, stream, n as usize) },
                 );
                 if worker.is_err() {
                     return Err(closed(rt, Stop::Socket));
@@ -176,20 +244,55 @@ fn serve_all<R: Net<Listener = TcpListener, Stream = TcpStream> + Threads + Wait
             warn!(rt; "the last of {conns} connections is accepted: nobody listens any more");
             Ok(())
         },
-    )
+    );
+    fitting(served)
+}
+
+// Another handle of the stream, if there is to be one.
+fn handle_of(
+    stream: &Arc<TcpStream, Global>,
+    is_wanted: bool,
+) -> Result<Option<Arc<TcpStream, Global>>, AllocError> {
+    if is_wanted {
+        Ok(Some(Arc::try_clone(stream)?))
+    } else {
+        Ok(None)
+    }
+}
+
+// How far each room of the hall is kept, for those who wait.
+fn waiting_of(alloc: Global, hall: &Hall, watched: &[Watched]) -> Result<Vec<Waiting>, AllocError>
+    ensures { IfOk result (λ waiting. length waiting.items ≡ length (rooms_of hall.now)) }
+{
+    let mut waiting = Vec::new(alloc);
+    for place in 0..hall.len() {
+        let kept = match watched.get(place) {
+            Some(room) => room.kept(place),
+            None => Kept::nothing(place),
+        };
+        waiting.push(Waiting::new(kept))?;
+    }
+    Ok(waiting)
 }
 
 // Serves connections until all have ended, and looks at the rooms meanwhile and once more then. Where no thread can be had that looks, no
-// connection is accepted.
+// connection is accepted. Where a file may end the server, connections are accepted by a thread of its own, since files are for this one.
 fn serve_watched<
-    R: Net<Listener = TcpListener, Stream = TcpStream> + Clock + Threads + Wait + Log + Sync,
+    R: Net<Listener = TcpListener, Stream = TcpStream>
+        + Files<File = File>
+        + Clock
+        + Threads
+        + Wait
+        + Log
+        + Sync,
 >(
     rt: &R,
     alloc: Global,
     opened: Opened,
     listener: TcpListener,
     serving: &Serving<'_>,
-    ends: &Ends,
+    stop: Option<&str>,
+    connections: &Connections,
 ) -> Result<(), Stop>
     requires { IsHallPassOf opened.hall opened.pass }
     ensures fits { (result ≡ Err (Stop.Refused Refusal.BadField)) → ⊥ }
@@ -201,35 +304,105 @@ fn serve_watched<
         site: _,
         lock,
     } = opened;
-    let watching = match hall.split(alloc, &mut pass, LOOKS) {
-        Ok(watching) => watching,
-        Err(why) => return Err(Stop::of(why)),
+    let Ok(waiting) = waiting_of(alloc, &hall, watched.as_slice()) else {
+        return Err(Stop::Fault(ServeFault::Memory));
     };
-    let every = Duration::from_secs(serving.every as u64);
-    let conns = serving.conns;
-    let (hall, ended) = (&hall, &Ended::new());
+    let (ended, is_lost) = (&Ended::new(), &AtomicBool::new(false));
+    let shared = Shared {
+        hall: &hall,
+        waiting: waiting.as_slice(),
+        connections,
+        is_ending: &AtomicBool::new(false),
+        rhythm: serving.rhythm(),
+    };
     let served = thread::scope(
         thread::scope_env(),
         rt,
         move |scope| -> Result<(), Stop>
-            requires { IsSync R.row × IsHallPassOf hall.now watching × IsHallPassOf hall.now pass }
+            requires { IsSync R.row × IsHallPassOf shared.hall.now pass
+                × (length shared.waiting.now ≡ length (rooms_of shared.hall.now)) }
             ensures { (result ≡ Err (Stop.Refused Refusal.BadField)) → ⊥ }
         {
-            let watcher = scope.spawn(
-                move || -> bool
-                    requires { IsSync R.row × IsHallPassOf hall.now watching }
-                { watch(rt, alloc, hall, watching, watched, every, ended) },
-            );
-            let Ok(watcher) = watcher else {
-                return Err(closed(rt, Stop::Socket));
+            let mut rest = watched.into_iter();
+            let mut is_watched = true;
+            for place in 0..shared.hall.len() {
+                let (Some(room), Some(told)) = (rest.next(), shared.waiting.get(place)) else {
+                    is_watched = false;
+                    break;
+                };
+                let Ok(watching) = shared.hall.split(alloc, &mut pass, LOOKS) else {
+                    is_watched = false;
+                    break;
+                };
+                let watcher = scope.spawn(
+                    move ||
+                        requires { IsSync R.row × IsHallPassOf shared.hall.now watching }
+                    {
+                        if !watch(
+                            rt,
+                            alloc,
+                            shared.hall,
+                            watching,
+                            room,
+                            place,
+                            told,
+                            shared.rhythm,
+                        ) {
+                            is_lost.store(true, Ordering::SeqCst);
+                        }
+                    },
+                );
+                is_watched &= watcher.is_ok();
+            }
+            let served = match stop {
+                _ if !is_watched => Err(closed(rt, Stop::Socket)),
+                None => serve_all(rt, alloc, shared, pass, listener, serving),
+                Some(path) => {
+                    let door = scope.spawn(
+                        move || -> Result<(), Stop>
+                            requires { IsSync R.row × IsHallPassOf shared.hall.now pass
+                                × (length shared.waiting.now ≡ length (rooms_of shared.hall.now)) }
+                        {
+                            let served = serve_all(rt, alloc, shared, pass, listener, serving);
+                            ended.tell(rt);
+                            served
+                        },
+                    );
+                    match door {
+                        Ok(door) => {
+                            await_stop(
+                                rt,
+                                path,
+                                serving.port,
+                                shared.connections,
+                                shared.is_ending,
+                                ended,
+                            );
+                            fitting(door.join(rt))
+                        }
+                        Err(_) => Err(closed(rt, Stop::Socket)),
+                    }
+                }
             };
-            let served = serve_all(rt, alloc, hall, pass, listener, conns, ends);
-            ended.tell(rt);
-            whole(watcher.join(rt), served)
+            for it in shared.waiting {
+                it.end(rt);
+            }
+            served
         },
     );
+    remove_stop(rt, stop);
     drop(lock);
-    served
+    whole(!is_lost.load(Ordering::SeqCst), fitting(served))
+}
+
+// How threads served connections, of which no contract tells. The rooms' names fit, as was looked at before, so that isn't why they ended.
+fn fitting(served: Result<(), Stop>) -> Result<(), Stop>
+    ensures fits { (result ≡ Err (Stop.Refused Refusal.BadField)) → ⊥ }
+{
+    match served {
+        Err(Stop::Refused(Refusal::BadField)) => Err(Stop::Socket),
+        served => served,
+    }
 }
 
 // How it ends where all connections have ended so, and all that was to be kept is, or isn't.
@@ -247,8 +420,9 @@ fn whole(is_whole: bool, served: Result<(), Stop>) -> Result<(), Stop>
 
 /// Serves a room for each name on the port of 127.0.0.1, prints `listening` and the port once it listens, accepts so many
 /// connections, waits for all and ends. With a folder, each room opens over what its file there stands for, `site` and its number are
-/// printed next, and what a room's log gains goes to its file each `every` seconds and at the end. Takes a thread for each connection
-/// that is there and one more, and a few bytes for each connection that has ended.
+/// printed next, what a room's log gains goes to its file, which answers wait for unless turns are taken each `every` seconds, and the
+/// file `stop` in the folder ends the server. Takes a thread for each connection that is there, one for each room and one more, and a few
+/// bytes for each connection that has ended.
 ///
 /// A connection's fault ends it alone, and is warned of at the end, in order of acceptance; a limit that comes near, a last connection,
 /// and a file that can't be written are warned of when they are met. Names that don't fit are refused with `BadField`, a kept log that
@@ -270,22 +444,55 @@ pub(crate) fn host<
     if !names_fit(serving.names) {
         return Err(Stop::Refused(Refusal::BadField));
     }
+    serve_rooms(rt, alloc, serving)
+}
+
+// The same, where the names fit.
+fn serve_rooms<
+    R: Net<Listener = TcpListener, Stream = TcpStream>
+        + Files<File = File>
+        + Clock
+        + Threads
+        + Wait
+        + Print
+        + Log
+        + Sync,
+>(rt: &R, alloc: Global, serving: &Serving<'_>) -> Result<(), Stop>
+    requires { names_fit serving.now.names.now ≡ true }
+    ensures fits { (result ≡ Err (Stop.Refused Refusal.BadField)) → ⊥ }
+{
+    let path = stop_path(alloc, serving.keep)?;
+    let stop = path.as_ref().map(|path| path.as_str());
     let opened = open_rooms(rt, alloc, serving.keep, serving.site, serving.names)?;
+    remove_stop(rt, stop);
     let listener = listen(rt, serving.port)?;
     tell_site(rt, serving, opened.site)?;
-    let ends = Mutex::new(Vec::new(alloc));
-    serve_watched(rt, alloc, opened, listener, serving, &ends)?;
-    tell_ends(rt, ends);
+    let connections = Connections::new(alloc);
+    serve_watched(rt, alloc, opened, listener, serving, stop, &connections)?;
+    tell_ends(rt, connections);
     Ok(())
 }
 
 // Warns of each connection that ended with a fault.
-fn tell_ends<R: Log>(rt: &R, ends: Ends) {
+fn tell_ends<R: Log>(rt: &R, connections: Connections) {
     let mut n = 0u32;
-    for end in ends.into_inner() {
+    for it in connections.into_all() {
         n = n.saturating_add(1);
-        if let Some(fault) = end {
+        if let Some(fault) = it.end {
             warn!(rt; "connection {n} {fault}");
         }
+    }
+}
+
+// The path of the file that ends the server, where rooms are kept.
+fn stop_path(alloc: Global, folder: Option<&str>) -> Result<Option<String>, Stop>
+    ensures fits { (result ≡ Err (Stop.Refused Refusal.BadField)) → ⊥ }
+{
+    let Some(folder) = folder else {
+        return Ok(None);
+    };
+    match format!(in alloc; "{folder}/stop") {
+        Ok(path) => Ok(Some(path)),
+        Err(_) => Err(Stop::Fault(ServeFault::Memory)),
     }
 }

@@ -3,9 +3,11 @@
 
 ghost use Rattle.commands.specs.Plays.{IsPlayed};
 
+mod ends;
 mod host;
 mod kept;
 mod rooms;
+mod stop;
 mod watch;
 
 use command_line::plan;

@@ -1,17 +1,16 @@
 //! The rooms before the first connection: over what the files of a folder stand for, or empty where nothing is kept.
-ghost use Rattle.std.specs.Prelude.{◌≡◌, [], length, true, All, Err, IfOk};
+ghost use Rattle.std.specs.Prelude.{◌≡◌, true, Err, IfOk};
 ghost use Rattle.ws_server.specs.Halls.{IsHallPassOf};
 ghost use Rattle.ws_server.specs.Names.{names_fit};
 
-use crate::kept::{KeptFile, lock_folder, open_file, sync_folder};
+use crate::kept::{lock_folder, open_file, sync_folder};
 use crate::watch::Watched;
 use commands::Stop;
 use journal::free_site;
+use kept_rooms::open_hall;
 use line_engine::ServeFault;
 use log::{Log, warn};
 use opid::{Refusal, Site};
-use replica::Replica;
-use snapshot::open_over;
 use std::alloc::Global;
 use std::fs::{File, Files};
 use versions::Doc;
@@ -51,7 +50,7 @@ pub(crate) fn open_rooms<R: Files<File = File> + Log>(
     let mut watched = Vec::new(alloc);
     let mut docs = Vec::new(alloc);
     for name in names {
-        let (room, doc) = open_room(rt, alloc, folder, name)?;
+        let (room, doc) = open_room(rt, alloc, folder, name, watched.len())?;
         if watched.push(room).is_err() {
             return Err(Stop::Fault(ServeFault::Memory));
         }
@@ -63,8 +62,7 @@ pub(crate) fn open_rooms<R: Files<File = File> + Log>(
         sync_folder(rt, folder)?;
     }
     let site = choose_site(rt, docs.as_slice(), site)?;
-    let replicas = over_logs(rt, alloc, site, watched.as_slice(), docs)?;
-    match Hall::over(alloc, names, replicas) {
+    match open_hall(alloc, names, site, docs) {
         Ok((hall, pass)) => Ok(Opened {
             hall,
             pass,
@@ -72,16 +70,22 @@ pub(crate) fn open_rooms<R: Files<File = File> + Log>(
             site,
             lock,
         }),
-        Err(why) => Err(Stop::of(why)),
+        Err(unopened) => {
+            if let (Refusal::SiteUsed, Some(room)) = (unopened.why, watched.get(unopened.place)) {
+                room.tell_used(rt, site);
+            }
+            Err(Stop::of(unopened.why))
+        }
     }
 }
 
-// What is watched of the room with this name, and the document of what is kept of it.
+// What is watched of the room with this name, whose place is told, and the document of what is kept of it.
 fn open_room<R: Files<File = File> + Log>(
     rt: &R,
     alloc: Global,
     folder: Option<&str>,
     name: &String,
+    place: usize,
 ) -> Result<(Watched, Doc), Stop>
     ensures unreserved { IfOk result (λ room. room.1.room ≡ 0) }
     ensures fits { (result ≡ Err (Stop.Refused Refusal.BadField)) → ⊥ }
@@ -91,7 +95,7 @@ fn open_room<R: Files<File = File> + Log>(
     };
     match folder {
         Some(folder) => {
-            let (file, doc) = open_file(rt, alloc, folder, name.as_str())?;
+            let (file, doc) = open_file(rt, alloc, folder, name.as_str(), place)?;
             Ok((Watched::new(title, Some(file)), doc))
         }
         None => Ok((Watched::new(title, None), Doc::new(alloc))),
@@ -110,56 +114,6 @@ fn choose_site<R: Log>(rt: &R, docs: &[Doc], site: Option<Site>) -> Result<Site,
         None => {
             warn!(rt; "each of the 32 sites has operations in a kept log: go on in new documents with the same texts (examples/renew.py)");
             Err(Stop::Refused(Refusal::SiteUsed))
-        }
-    }
-}
-
-// The replicas of the site over the logs.
-fn over_logs<R: Log>(
-    rt: &R,
-    alloc: Global,
-    site: Site,
-    watched: &[Watched],
-    docs: Vec<Doc>,
-) -> Result<Vec<Replica>, Stop>
-    requires unreserved { All (λ doc. doc.room ≡ 0) docs.items }
-    ensures counted { IfOk result (λ replicas. length replicas.items ≡ length docs.items) }
-    ensures none_held { IfOk result (λ replicas. All (λ r. r.held ≡ []) replicas.items) }
-    ensures fits { (result ≡ Err (Stop.Refused Refusal.BadField)) → ⊥ }
-{
-    let count = docs.len();
-    let mut replicas = Vec::new(alloc);
-    let mut rest = docs.into_iter();
-    for at in 0..count {
-        let Some(doc) = rest.next() else {
-            unreachable!()
-        };
-        let replica = over_log(rt, alloc, site, watched.get(at), doc)?;
-        let Ok(()) = replicas.push(replica) else {
-            return Err(Stop::Fault(ServeFault::Memory));
-        };
-    }
-    Ok(replicas)
-}
-
-fn over_log<R: Log>(
-    rt: &R,
-    alloc: Global,
-    site: Site,
-    room: Option<&Watched>,
-    doc: Doc,
-) -> Result<Replica, Stop>
-    requires unreserved { doc.room ≡ 0 }
-    ensures none_held { IfOk result (λ replica. replica.held ≡ []) }
-    ensures fits { (result ≡ Err (Stop.Refused Refusal.BadField)) → ⊥ }
-{
-    match open_over(alloc, site, doc) {
-        Ok(replica) => Ok(replica),
-        Err(why) => {
-            if let (Refusal::SiteUsed, Some(room)) = (why, room) {
-                room.tell_used(rt, site);
-            }
-            Err(Stop::of(why))
         }
     }
 }

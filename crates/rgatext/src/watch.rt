@@ -1,15 +1,15 @@
-//! Looks at the rooms every few seconds while connections are served: it keeps what their logs have gained, and warns of what comes to
-//! an end.
+//! A thread for each room looks at it while connections are served: it keeps what the room's log has gained, and warns of what comes to an
+//! end.
 ghost use Rattle.std.specs.Prelude.{◌≡◌};
 ghost use Rattle.ws_server.specs.Halls.{IsHallPassOf};
 
-use crate::kept::KeptFile;
+use crate::kept::RoomFile;
+use keeper::Kept;
+use kept_rooms::{TurnFault, Waiting, keep_turn};
 use log::{Log, warn};
-use opid::Site;
+use opid::{Refusal, Site};
 use shared_room::Look;
 use std::alloc::Global;
-use std::io;
-use std::io::ErrorKind;
 use std::sync::{Condvar, CondvarTimeouts, Mutex, Wait};
 use std::time::{Clock, Duration};
 use ws_server::{Hall, HallPass};
@@ -20,6 +20,9 @@ const MANY_CALLS: u32 = 917_504;
 const MANY_OPERATIONS: u32 = 114_688;
 
 const MANY_SESSIONS: u32 = 56;
+
+// So many milliseconds pass before a turn that failed is tried again, while answers wait for it; then the last of them.
+const PAUSES: [u64; 7] = [100, 200, 400, 800, 1_600, 3_200, 5_000];
 
 /// Whether all connections have ended, which one thread tells another.
 #[derive(Drop)]
@@ -43,8 +46,8 @@ impl Ended {
         self.told.notify_all();
     }
 
-    // Waits until it is told, or the time is over: whether it is told.
-    fn wait<R: Wait + Clock>(&self, rt: &R, time: Duration) -> bool {
+    /// Waits until it is told, or the time is over: whether it is told.
+    pub(crate) fn wait<R: Wait + Clock>(&self, rt: &R, time: Duration) -> bool {
         let guard = self.has_come.lock(rt);
         let (guard, _) = self
             .told
@@ -53,11 +56,31 @@ impl Ended {
     }
 }
 
-/// A room as it is watched: its name, the file in which it is kept, if it is, and what was warned of.
+/// When the turns of a room are taken: each so often, and sooner where answers wait for them.
+#[derive(Clone, Copy)]
+pub(crate) struct Rhythm {
+    pub(crate) every: Duration,
+    pub(crate) do_answers_wait: bool,
+}
+
+impl Rhythm {
+    // How long it is until the next turn, after so many that failed one behind the other.
+    fn pause(self, failures: usize) -> Duration {
+        if self.do_answers_wait {
+            Duration::from_millis(PAUSES[failures.min(PAUSES.len() - 1)])
+        } else {
+            self.every
+        }
+    }
+}
+
+/// A room as it is watched: its name, the file in which it is kept, if it is, how many turns have failed since the last one that didn't,
+/// and what was warned of.
 #[derive(Drop)]
 pub(crate) struct Watched {
     name: String,
-    kept: Option<KeptFile>,
+    kept: Option<RoomFile>,
+    failures: usize,
     has_many_calls: bool,
     has_many_operations: bool,
     has_many_sessions: bool,
@@ -65,45 +88,63 @@ pub(crate) struct Watched {
 
 impl Watched {
     /// A room of which nothing was warned yet.
-    pub(crate) fn new(name: String, kept: Option<KeptFile>) -> Watched {
+    pub(crate) fn new(name: String, kept: Option<RoomFile>) -> Watched {
         Watched {
             name,
             kept,
+            failures: 0,
             has_many_calls: false,
             has_many_operations: false,
             has_many_sessions: false,
         }
     }
 
+    /// How far it is kept, at this place.
+    pub(crate) fn kept(&self, place: usize) -> Kept {
+        match &self.kept {
+            Some(it) => it.file.kept(),
+            None => Kept::nothing(place),
+        }
+    }
+
     /// Warns that its log has operations of the site that it was to be opened at.
     pub(crate) fn tell_used<R: Log>(&self, rt: &R, site: Site) {
-        if let Some(kept) = &self.kept {
-            warn!(rt; "{}: its log has operations of site {}", kept.path(), site.number());
+        if let Some(it) = &self.kept {
+            warn!(rt; "{}: its log has operations of site {}", it.path, site.number());
         }
     }
 
-    // How many operations of its log are kept: where none are to be, as many as a log may have.
-    fn kept_version(&self) -> u32 {
-        match &self.kept {
-            Some(kept) => kept.version(),
-            None => u32::MAX,
+    // One turn: looks at the room, keeps what its log has gained, if it is kept, and warns.
+    fn turn<R: Wait + Log>(
+        &mut self,
+        rt: &R,
+        alloc: Global,
+        hall: &Hall,
+        pass: &mut HallPass,
+        place: usize,
+        do_answers_wait: bool,
+    )
+        requires { IsHallPassOf hall.now pass.old }
+        ensures { IsHallPassOf hall.now pass.new }
+    {
+        match look_at(rt, alloc, hall, pass, place, &mut self.kept) {
+            Ok(look) => {
+                self.failures = 0;
+                self.warn(rt, &look);
+            }
+            Err(why) => self.fail(rt, &why, do_answers_wait),
         }
     }
 
-    // Whether all that was to be kept is.
-    fn is_whole(&self) -> bool {
-        match &self.kept {
-            Some(kept) => kept.is_whole(),
-            None => true,
+    // A turn that kept nothing, where something was to be kept, is warned of once, until one succeeds again.
+    fn fail<R: Log>(&mut self, rt: &R, why: &TurnFault, do_answers_wait: bool) {
+        let Some(it) = &self.kept else {
+            return;
+        };
+        if self.failures == 0 {
+            it.tell_failure(rt, why, do_answers_wait);
         }
-    }
-
-    // Keeps and warns by what a turn found.
-    fn take<R: Log>(&mut self, rt: &R, alloc: Global, look: &Look) {
-        if let Some(kept) = &mut self.kept {
-            kept.keep(rt, alloc, &look.ops);
-        }
-        self.warn(rt, look);
+        self.failures = self.failures.saturating_add(1);
     }
 
     // Warns once of each limit that comes near.
@@ -121,54 +162,58 @@ impl Watched {
             warn!(rt; "room {}: {} of 64 sessions are there", self.name, look.sessions);
         }
     }
+}
 
-    // A turn found nothing, since there was no memory, or no draw was left.
-    fn miss<R: Log>(&mut self, rt: &R) {
-        if let Some(kept) = &mut self.kept {
-            kept.fail(rt, &io::Error::from(ErrorKind::OutOfMemory));
-        }
+// Looks at the room at a place, and keeps what its log has gained, if it is kept in this file.
+fn look_at<R: Wait>(
+    rt: &R,
+    alloc: Global,
+    hall: &Hall,
+    pass: &mut HallPass,
+    place: usize,
+    kept: &mut Option<RoomFile>,
+) -> Result<Look, TurnFault>
+    requires { IsHallPassOf hall.now pass.old }
+    ensures { IsHallPassOf hall.now pass.new }
+{
+    let is_other = kept.as_ref().is_some_and(|it| it.file.room() != place);
+    if place >= hall.len() || is_other {
+        return Err(TurnFault::Look(Refusal::NoRoom));
+    }
+    if let Some(it) = kept {
+        return keep_turn(rt, alloc, hall, pass, &mut it.file);
+    }
+    match hall.look(rt, pass, place, u32::MAX) {
+        Ok(look) => Ok(look),
+        Err(why) => Err(TurnFault::Look(why)),
     }
 }
 
-/// Looks at each room once in so much time, and a last time once all connections have ended: whether all that was to be kept is.
+/// Takes the turns of the room at a place, and tells how far it is kept; a last one once all connections have ended: whether all that was
+/// to be kept is.
 pub(crate) fn watch<R: Wait + Clock + Log>(
     rt: &R,
     alloc: Global,
     hall: &Hall,
     mut pass: HallPass,
-    mut rooms: Vec<Watched>,
-    every: Duration,
-    ended: &Ended,
+    mut room: Watched,
+    place: usize,
+    waiting: &Waiting,
+    rhythm: Rhythm,
 ) -> bool
     requires { IsHallPassOf hall.now pass }
 {
     for _ in rt.forever() {
-        let is_last = ended.wait(rt, every);
-        look_at_all(rt, alloc, hall, &mut pass, rooms.as_mut_slice());
+        let is_last = if room.failures > 0 {
+            waiting.pause(rt, rhythm.pause(room.failures - 1))
+        } else {
+            waiting.next_turn(rt, rhythm.every)
+        };
+        room.turn(rt, alloc, hall, &mut pass, place, rhythm.do_answers_wait);
+        waiting.tell(rt, room.kept(place));
         if is_last {
-            return rooms.iter().all(|room| room.is_whole());
+            return room.failures == 0;
         }
     }
     unreachable!()
-}
-
-// One turn at each room.
-fn look_at_all<R: Wait + Log>(
-    rt: &R,
-    alloc: Global,
-    hall: &Hall,
-    pass: &mut HallPass,
-    rooms: &mut [Watched],
-)
-    requires { IsHallPassOf hall.now pass.old }
-    ensures { IsHallPassOf hall.now pass.new }
-{
-    for at in 0..hall.len() {
-        if let Some(room) = rooms.get_mut(at) {
-            match hall.look(rt, pass, at, room.kept_version()) {
-                Ok(look) => room.take(rt, alloc, &look),
-                Err(_) => room.miss(rt),
-            }
-        }
-    }
 }

@@ -19,4 +19,4 @@ pub use gate::{Gate, Witness};
 pub use hall::{Hall, HallPass};
 pub use line_engine::{Counted, ServeFault, carry, serve_lines};
 pub use names::names_fit;
-pub use socket::{serve_one, serve_socket};
+pub use socket::{serve_one, serve_socket, shake_hands};

@@ -21,8 +21,8 @@ returns-clause-some c =
       c.in-Some-conns_in.ensures.some.0,
       subst (λ (t : Option (List ℕ)). ReadsTo 65536 t (Some c.in-Some-conns_in.conns)) conns c.in-Some-conns_in.ensures.some.1,
       c.in_ok-keep.ensures ∙ keep,
-      c.in-Some-every_in.ensures.some.0,
-      subst (λ (t : Option (List ℕ)). ReadsTo 3600 t (Some c.in-Some-every_in.every)) every c.in-Some-every_in.ensures.some.1,
+      c.in-Some-asked_every_in.ensures.some.0,
+      subst (λ (t : Option (List ℕ)). ReadsTo 3600 t c.in-Some-asked_every_in.every) every c.in-Some-asked_every_in.ensures.some.1,
       sym names ∙ ap Some (sym c.in_ok-names.ensures),
     )
 
@@ -31,12 +31,12 @@ returns-in_default-get_strs-clause-none c =
     serve_no_names (rows_of (found_of c.args.used.now)) (sym
     (c.in_default-get_strs.ensures ∙ raw_values-rows (found_of c.args.used.now) (codes "name")))
 
-pub returns-in_default-every_in-clause-none : goal.returns-in_default-every_in-clause-none
-returns-in_default-every_in-clause-none c =
+pub returns-in_default-asked_every_in-clause-none : goal.returns-in_default-asked_every_in-clause-none
+returns-in_default-asked_every_in-clause-none c =
     let at = c.get_str-4.ensures ∙ first_value-rows (found_of c.args.used.now) (codes "every") in
     serve_no_every (rows_of (found_of c.args.used.now))
-    (λ every some h. c.in_default-every_in.ensures.none every some
-    (subst (λ (t : Option (List ℕ)). ReadsTo 3600 t (Some every)) (sym at) h))
+    (λ every some h. c.in_default-asked_every_in.ensures.none every some
+    (subst (λ (t : Option (List ℕ)). ReadsTo 3600 t every) (sym at) h))
 
 pub returns-in_default-conns_in-clause-none : goal.returns-in_default-conns_in-clause-none
 returns-in_default-conns_in-clause-none c =

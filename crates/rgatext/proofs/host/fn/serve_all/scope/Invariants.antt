@@ -3,4 +3,4 @@ use Rattle.ws_server.specs.Halls.{IsHallPassOf}
 use Rattle.rgatext.proofs.host.fn.serve_all.scope.Given as goal
 
 abbrev pub invariant-loop-n : goal.invariant-loop-n
-invariant-loop-n g l = IsHallPassOf l.hall l.pass
+invariant-loop-n g l = IsHallPassOf l.shared.hall.now l.pass

@@ -1,0 +1,4 @@
+mod TornFiles
+mod Moments
+mod Replays
+mod Steps

@@ -1,0 +1,5 @@
+pub mod Disk
+pub mod Kept
+pub mod Turn
+pub mod Memory
+pub mod Internal

@@ -1,0 +1,2 @@
+mod SeenGrow
+mod Turned

@@ -1,0 +1,43 @@
+-- What a turn of keeping does to a room's file. The rules are the server's own.
+use Rattle.std.specs.Prelude.{◌≡◌, ◌<◌, ◌≤◌, ◌⊎◌, ℕ, List, length, Some, slice_get}
+use Rattle.opid.specs.Operations.{Operation}
+use Rattle.opid.specs.Lawful.{IsLawful}
+use Rattle.room.specs.Machine.{room_over}
+use Rattle.shared_room.specs.declared.shared.SharedRoom.{SharedRoom}
+use Rattle.shared_room.specs.Views.{opening}
+use Rattle.ws_server.specs.declared.hall.Hall.{Hall}
+use Rattle.ws_server.specs.declared.hall.HallPass.{HallPass}
+use Rattle.ws_server.specs.Halls.{rooms_of}
+use Rattle.keeper.specs.Disk.{LeavesOnly}
+use Rattle.keeper.specs.Kept.{Keeps}
+use Rattle.keeper.specs.Turn.{OpensAs}
+use Rattle.keeper.specs.declared.kept.KeptFile.{KeptFile}
+use Rattle.kept_rooms.specs.SeenLogs.{seen_log}
+
+-- the room at this place was opened over a log that is lawful and within its limit
+pub record IsOverLog (hall : Hall) (at : ℕ) : Type 0 where
+  pub room : SharedRoom
+  pub there : slice_get (rooms_of hall) at ≡ Some room
+  pub site : ℕ
+  pub log : List Operation
+  pub one : site < 32
+  pub opened : opening room ≡ room_over site log
+  pub lawful : IsLawful log
+  pub few : length log ≤ 131072
+
+-- A turn of the file's room. Where the file kept the log that the pass had seen, it keeps the log that the pass has seen since: all of
+-- it, or with the mark where it was. A crash at any moment left a beginning of that log, with what stood in the file.
+abbrev pub TurnsRoom : {D : Type 0} → (D → Type 0) → (D → List ℕ) → (D → List ℕ → Type 0) → (D → ℕ) → (D → ℕ)
+    → (D → ℕ → List ℕ → Type 0) → Hall → HallPass → HallPass → KeptFile D → KeptFile D → Type 0
+TurnsRoom honest seen may_leave fresh moment left_since hall pass pass' old new =
+    IsOverLog hall old.room → Keeps honest seen may_leave fresh old (seen_log hall old.room pass)
+    → Keeps honest seen may_leave fresh new (seen_log hall old.room pass')
+    × ((new.mark.version ≡ length (seen_log hall old.room pass')) ⊎ (new.mark ≡ old.mark))
+    × LeavesOnly moment left_since old.disk new.disk (OpensAs old.mark.version (seen_log hall old.room pass'))
+
+-- where the file kept the log that the pass had seen, all is kept that it has seen since
+abbrev pub KeepsRoom : {D : Type 0} → (D → Type 0) → (D → List ℕ) → (D → List ℕ → Type 0) → (D → ℕ)
+    → Hall → HallPass → HallPass → KeptFile D → KeptFile D → Type 0
+KeepsRoom honest seen may_leave fresh hall pass pass' old new =
+    IsOverLog hall old.room → Keeps honest seen may_leave fresh old (seen_log hall old.room pass)
+    → new.mark.version ≡ length (seen_log hall old.room pass')

@@ -1,0 +1,4 @@
+pub mod SeenLogs
+pub mod Keeping
+pub mod Covered
+pub mod Opening

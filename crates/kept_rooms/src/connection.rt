@@ -1,0 +1,121 @@
+//! A connection whose output waits: it goes out once what the connection was answered is kept.
+ghost use Rattle.std.specs.Prelude.{◌≡◌, ◌<◌, ◌≤◌, length, IfOk};
+ghost use Rattle.ws_server.specs.Halls.{rooms_of, IsHallPassOf, IsConnOf};
+ghost use Rattle.kept_rooms.specs.Covered.{AreCovered};
+
+use crate::held::HeldStream;
+use crate::waiting::{Waiting, wait_until_kept};
+use keeper::Kept;
+use line_engine::ServeFault;
+use std::alloc::Global;
+use std::io::{Read, Write};
+use std::sync::Wait;
+use std::time::Clock;
+use tungstenite::{NoMask, WebSocket};
+use ws_server::{Conn, Hall, HallPass, Witness, serve_one, shake_hands};
+
+/// A connection to the rooms of a hall, with its stream and its pass, which nothing else has. Its output waits until it is released.
+#[derive(Drop)]
+pub struct KeptConnection<'a, S: Read + Write + Drop> {
+    hall: &'a Hall,
+    pass: HallPass,
+    conn: Conn,
+    socket: WebSocket<HeldStream<S>, NoMask>,
+}
+
+impl<'a, S: Read + Write + Drop> KeptConnection<'a, S> {
+    /// Takes the handshake of a stream, and has opened no room. Its faults are those of `shake_hands`.
+    pub fn open(
+        alloc: Global,
+        hall: &'a Hall,
+        pass: HallPass,
+        stream: S,
+    ) -> Result<KeptConnection<'a, S>, ServeFault>
+        requires { IsHallPassOf hall.now pass }
+        ensures hall { IfOk result (λ it. it.hall ≡ hall.entry) }
+        ensures pass { IfOk result (λ it. IsHallPassOf it.hall.now it.pass) }
+        ensures conn { IfOk result (λ it. IsConnOf it.hall.now it.conn) }
+    {
+        match shake_hands(alloc, HeldStream::new(alloc, stream)) {
+            Ok(socket) => Ok(KeptConnection {
+                hall,
+                pass,
+                conn: Conn::new(alloc),
+                socket,
+            }),
+            Err(why) => Err(why),
+        }
+    }
+
+    /// How many bytes of output wait. Constant time.
+    pub fn waiting(&self) -> usize {
+        self.socket.get_ref().waiting()
+    }
+
+    /// Whether a read was put off since output waits. Constant time.
+    pub fn is_put_off(&self) -> bool {
+        self.socket.get_ref().is_put_off()
+    }
+
+    /// Serves one message, as `serve_one` does: its answer waits with the other output. `Read` also where the read was put off.
+    pub fn serve<R: Wait, G: Witness>(
+        &mut self,
+        rt: &R,
+        alloc: Global,
+        gate: &mut G,
+    ) -> Result<bool, ServeFault>
+        requires pass { IsHallPassOf self.old.hall.now self.old.pass }
+        requires conn { IsConnOf self.old.hall.now self.old.conn }
+        ensures hall { self.new.hall ≡ self.old.hall }
+        ensures pass { IsHallPassOf self.new.hall.now self.new.pass }
+        ensures conn { IsConnOf self.new.hall.now self.new.conn }
+    {
+        serve_one(
+            rt,
+            alloc,
+            self.hall,
+            &mut self.pass,
+            &mut self.conn,
+            &mut self.socket,
+            gate,
+        )
+    }
+
+    /// Waits until what the connection was answered is kept: the log of the room that it has opened, as far as its pass has seen it.
+    ///
+    /// Its faults are those of `wait_until_kept`.
+    pub fn wait<R: Wait + Clock>(
+        &mut self,
+        rt: &R,
+        waiting: &[Waiting],
+    ) -> Result<Option<Kept>, ServeFault>
+        requires pass { IsHallPassOf self.old.hall.now self.old.pass }
+        requires conn { IsConnOf self.old.hall.now self.old.conn }
+        requires counted { length waiting.now ≡ length (rooms_of self.old.hall.now) }
+        ensures hall { self.new.hall ≡ self.old.hall }
+        ensures pass { IsHallPassOf self.new.hall.now self.new.pass }
+        ensures conn { self.new.conn ≡ self.old.conn }
+        ensures covered { IfOk result (λ kept. AreCovered self.new.hall.now self.new.conn.opened self.new.pass kept) }
+    {
+        let kept = match self.conn.opened() {
+            Some(at) => Some(wait_until_kept(rt, self.hall, &mut self.pass, at, &waiting[at])?),
+            None => None,
+        };
+        Ok(kept)
+    }
+
+    /// Sends all output that waits, in its order. What the connection was answered has to be kept, as the receipt tells.
+    ///
+    /// `Write` where the stream failed; then some of it may be sent. Takes the stream's time.
+    pub fn release(&mut self, kept: Option<Kept>) -> Result<(), ServeFault>
+        requires covered { AreCovered self.old.hall.now self.old.conn.opened self.old.pass kept }
+        ensures hall { self.new.hall ≡ self.old.hall }
+        ensures pass { self.new.pass ≡ self.old.pass }
+        ensures conn { self.new.conn ≡ self.old.conn }
+    {
+        match self.socket.get_mut().write_out() {
+            Ok(()) => Ok(()),
+            Err(_) => Err(ServeFault::Write),
+        }
+    }
+}

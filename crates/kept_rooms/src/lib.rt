@@ -1,0 +1,19 @@
+//! Rooms whose logs are kept in files: turns of keeping, and answers that wait until they are kept.
+//!
+//! What a pass has seen of a log stands in `specs/SeenLogs.antt`; what a turn does in `specs/Keeping.antt`; which bytes may go out in
+//! `specs/Covered.antt`.
+#![tactic(auto)]
+
+mod connection;
+mod held;
+mod opening;
+mod serving;
+mod turn;
+mod waiting;
+
+pub use connection::KeptConnection;
+pub use held::HeldStream;
+pub use opening::{Unopened, open_hall};
+pub use serving::serve_kept;
+pub use turn::{TurnFault, keep_turn};
+pub use waiting::{Waiting, wait_until_kept};

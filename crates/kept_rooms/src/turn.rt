@@ -1,0 +1,56 @@
+//! A turn of keeping a room's log.
+ghost use Rattle.std.specs.Prelude.{◌≡◌, ◌<◌, length, OnOk};
+ghost use Rattle.ws_server.specs.Halls.{rooms_of, IsHallPassOf};
+ghost use Rattle.kept_rooms.specs.Keeping.{TurnsRoom, KeepsRoom};
+
+use keeper::laws::{grows_with_its_log, turns_follow};
+use keeper::{Disk, KeepFault, KeptFile};
+use opid::Refusal;
+use shared_room::Look;
+use std::alloc::Global;
+use std::sync::Wait;
+use thiserror::Error;
+use ws_server::{Hall, HallPass};
+
+/// Why a turn kept nothing.
+#[derive(Debug, Drop, Error)]
+pub enum TurnFault {
+    /// The room couldn't be looked at.
+    #[error("the room can't be looked at: {0:?}")]
+    Look(Refusal),
+    /// The file couldn't be written.
+    #[error("{0}")]
+    Keep(KeepFault),
+}
+
+/// Looks at the file's room, and keeps what its log has gained: at `Ok` all that the look has seen. After an error the file's mark is where
+/// it was, and the next turn can begin there.
+///
+/// `Look` where the pass is worn, or there was no memory for what the log has gained; `Keep` as `KeptFile::keep` tells. Takes a turn of the
+/// room, and the steps of `keep`.
+pub fn keep_turn<R: Wait, D: Disk>(
+    rt: &R,
+    alloc: Global,
+    hall: &Hall,
+    pass: &mut HallPass,
+    file: &mut KeptFile<D>,
+) -> Result<Look, TurnFault>
+    requires pass { IsHallPassOf hall.now pass.old }
+    requires within { file.old.room < length (rooms_of hall.now) }
+    ensures pass { IsHallPassOf hall.now pass.new }
+    ensures room { file.new.room ≡ file.old.room }
+    ensures turned { TurnsRoom D.honest D.seen D.may_leave D.fresh D.moment D.left_since hall.now pass.old pass.new file.old file.new }
+    ensures kept { OnOk result (KeepsRoom D.honest D.seen D.may_leave D.fresh hall.now pass.old pass.new file.old file.new) }
+{
+    grows_with_its_log::<D>();
+    turns_follow::<D>();
+    let at = file.room();
+    let look = match hall.look(rt, pass, at, file.version()) {
+        Ok(look) => look,
+        Err(why) => return Err(TurnFault::Look(why)),
+    };
+    match file.keep(alloc, look.ops.as_slice()) {
+        Ok(()) => Ok(look),
+        Err(why) => Err(TurnFault::Keep(why)),
+    }
+}
