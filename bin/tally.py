@@ -26,16 +26,18 @@ class Tally:
 
     def judge(self, text):
         """Lists of the characters that are wrong in a text, each by what is wrong. `displaced` has those that stand otherwise beside
-        another's, which two may have typed at once; `unclear`, of which two took out or put in again, is no fault."""
+        another's, which two may have typed at once; `unclear` is no fault: of those two took out or put in again, or they stand twice where another than
+        who typed them put them in again by undoing, so that they are two people's text."""
         count = collections.Counter(text)
         wrong = {it: [] for it in ("lost", "doubled", "come back", "out of order", "displaced", "unclear")}
         for it in self.owner:
             touched = self.touched[it]
             is_taken = bool(touched) and touched[-1][1] == "taken"
-            if any(what == "put" for _, what in touched) and len({who for who, _ in touched}) > 1:
+            again = {who for who, what in touched if what == "put"}
+            if again and len({who for who, _ in touched}) > 1:
                 wrong["unclear"].append(it)
             elif count[it] > 1:
-                wrong["doubled"].append(it)
+                wrong["unclear" if again - {self.owner[it]} else "doubled"].append(it)
             elif count[it] and is_taken:
                 wrong["come back"].append(it)
             elif not count[it] and not is_taken:

@@ -1,149 +1,28 @@
 // Editors that type by sessions of a module like examples/web, for bin/soak_clients. The arguments are the module's folder and the
 // address; a line of input tells what to do, and each line of output is what one did.
 import { createInterface } from "node:readline";
-import { pathToFileURL } from "node:url";
+import { moduleOf, Typist } from "./typist.mjs";
 
 const [folder, address, words] = process.argv.slice(2);
-const load = (name) => import(new URL(name, pathToFileURL(`${folder}/`)).href);
-const { carried, Ended, Full, open, played } = await load("rgatext.js");
-const { Undo } = await load("undo.js");
-const isOfWords = words === "words";
-const pause = (milliseconds) => new Promise((resolve) => setTimeout(resolve, milliseconds));
-const roll = (below) => Math.floor(Math.random() * below);
-const isInside = (text, at) => /[\ud800-\udbff]/.test(text[at - 1] ?? "") && /[\udc00-\udfff]/.test(text[at] ?? "");
-let isTyping = true;
+const module = await moduleOf(folder);
+const tell = (what) => console.log(JSON.stringify(what));
+const open = () => module.open(address, "notes");
+const typists = [];
 
-class Typist {
-  constructor(who, text, answer) {
-    Object.assign(this, { who, answer, supply: [...text], used: 0, asked: 0, differs: 0 });
-    this.begin();
-    setInterval(() => this.choose(this.session), 1_000);
-    this.type().catch((fault) => this.tell({ fault: `${fault.stack}` }));
-  }
-
-  begin() {
-    Object.assign(this, { shown: "", caret: 0, last: "", isOver: false, undo: new Undo(), session: open(address, "notes") });
-    const { session } = this;
-    session.ended.catch((fault) => this.tell({ fault: `${fault.stack}` })).then(() => (this.isOver = true));
-    session.addEventListener("changes", ({ detail }) => {
-      this.caret = carried(this.caret, detail);
-      this.shown = played(this.shown, detail);
-      this.undo.follow(detail);
-      if (this.shown !== session.text) this.differs += 1;
-    });
-    let state = "";
-    session.addEventListener("state", () => {
-      if (session.state === "another text" && state !== "another text") this.asked += 1;
-      state = session.state;
-    });
-  }
-
-  tell(what) {
-    console.log(JSON.stringify({ who: this.who, ...what }));
-  }
-
-  choose(session) {
-    if (!session.hasOther) return;
-    try {
-      if (this.answer === "mine") session.putMine();
-      else session.takeTheirs();
-    } catch (fault) {
-      if (!(fault instanceof Full || fault instanceof Ended)) throw fault;
-    }
-  }
-
-  /** A change of the shown text, told with its neighbours; whether the session took it. */
-  change(at, removed, text, isNoted = true) {
-    const { shown } = this;
-    try {
-      this.session.replace(at, removed, text);
-    } catch (fault) {
-      if (fault instanceof Full || fault instanceof Ended) return false;
-      throw fault;
-    }
-    const taken = shown.slice(at, at + removed);
-    if (isNoted) this.undo.note({ at, removed, text }, taken);
-    this.shown = played(shown, [{ at, removed, text }]);
-    this.caret = at + text.length;
-    const left = [...shown.slice(Math.max(0, at - 2), at)].at(-1) ?? "";
-    const right = [...shown.slice(at + removed, at + removed + 2)][0] ?? "";
-    this.tell({ put: text, taken, left, right, undone: !isNoted });
-    return true;
-  }
-
-  outside(at) {
-    return isInside(this.shown, at) ? at - 1 : at;
-  }
-
-  async put() {
-    if (roll(10) < 3) this.caret = this.outside(roll(this.shown.length + 1));
-    const count = roll(50) === 0 ? 65 + roll(70) : 1 + roll(5);
-    const text = this.supply.slice(this.used, this.used + count);
-    const parts = count > 5 || roll(2) === 0 ? [text.join("")] : text;
-    this.last = "";
-    for (const part of parts) {
-      if (!isTyping || !this.change(this.caret, 0, part)) return;
-      this.used += [...part].length;
-      this.last += part;
-      if (parts.length > 1) await pause(10 + roll(40));
-    }
-  }
-
-  take() {
-    if (isOfWords) {
-      const last = [...this.last].slice(-1 - roll(3)).join(""); // one's own alone, as backspaces: others' letters are alike
-      if (last === "" || !this.shown.slice(0, this.caret).endsWith(last)) return;
-      if (this.change(this.caret - last.length, last.length, "")) this.last = this.last.slice(0, -last.length);
-      return;
-    }
-    const at = this.outside(roll(3) > 0 ? Math.max(0, this.caret - 1 - roll(4)) : roll(this.shown.length));
-    let end = Math.min(this.shown.length, at + 1 + roll(4));
-    if (isInside(this.shown, end)) end += 1;
-    if (end > at) this.change(at, end - at, "");
-  }
-
-  turn(isRedo) {
-    try {
-      this.undo.turn(isRedo, this.session, (at, removed, text) => this.change(at, removed, text, false));
-    } catch (fault) {
-      if (!(fault instanceof Full)) throw fault;
-    }
-  }
-
-  async type() {
-    while (isTyping) {
-      await pause(50 + roll(300));
-      if (this.isOver) {
-        this.tell({ ended: this.session.why, unsent: this.session.unsent });
-        this.begin();
-        await pause(2_000);
-        continue;
-      }
-      if (this.session.state === "joining" || this.session.state === "another text") continue;
-      const does = roll(40);
-      if (does < 8) this.take();
-      else if (does === 8 && !isOfWords) this.turn(roll(3) === 0);
-      else await this.put();
-    }
-  }
-
-  report() {
-    const { state, why, text, isAhead, unsent } = this.session;
-    const { asked, differs, shown } = this;
-    this.tell({ report: { state, why, text, isAhead, asked, unsent, differs: differs + Number(shown !== text) } });
-  }
+async function close() {
+  const closed = Promise.all(typists.map(({ session }) => session.close().catch(() => {})));
+  await Promise.race([closed, new Promise((resolve) => setTimeout(resolve, 5_000))]);
+  process.exit();
 }
 
-const typists = [];
 createInterface({ input: process.stdin })
-  .on("line", async (line) => {
-    const { begin, end, report, close } = JSON.parse(line);
-    if (begin) for (const { who, text, answer } of begin) typists.push(new Typist(who, text, answer));
-    if (end) isTyping = false;
-    if (report) for (const it of typists) it.report();
-    if (close) {
-      await Promise.race([Promise.all(typists.map(({ session }) => session.close().catch(() => {}))), pause(5_000)]);
-      process.exit();
+  .on("line", (line) => {
+    const { begin, end, report, close: isOver } = JSON.parse(line);
+    for (const it of begin ?? []) typists.push(new Typist({ module, open, tell, isOfWords: words === "words" }, it));
+    for (const it of typists) {
+      if (end) it.isTyping = false;
+      if (report) it.tell({ report: it.report });
     }
+    if (isOver) close();
   })
   .on("close", () => process.exit());

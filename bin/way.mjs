@@ -3,6 +3,7 @@ import assert from "node:assert/strict";
 import { MOST } from "../examples/web/document.js";
 import { Lost } from "../examples/web/rgatext.js";
 import { pause } from "../examples/web/seat.js";
+import { beginning, characters } from "../examples/web/text.js";
 import { editorOf, Line, Room, until } from "./room.mjs";
 
 /**
@@ -119,11 +120,16 @@ function singles({ k, c, s, p, x, t }) {
   return [...x].map((sign, n) => ({ k: "i", c: clock(n), s, p: n === 0 ? p : [sum + n - 1, s], x: sign }));
 }
 
+/** The single operations of a room, but for the last ones. */
+export async function singlesOf(room, without = 0) {
+  const told = (await room.operations()).flat().flatMap(singles);
+  return told.slice(0, told.length - without);
+}
+
 /** Another run at a site, with the log of a room but for the last operations. */
 export async function keptRun(room, without = 0, site = 2) {
   const kept = new Room(site);
-  const told = (await room.operations()).flat().flatMap(singles);
-  told.splice(told.length - without);
+  const told = await singlesOf(room, without);
   while (told.length > 0) await kept.refill([told.splice(0, MOST)]);
   room.close();
   return kept;
@@ -136,9 +142,12 @@ export async function renewedRun(room, without = 0) {
   kept.close();
   const typist = new Room(0);
   const { s } = await typist.ask({ t: "join", u: 16 });
-  for (let at = 0, n = 1; at < text.length; at += MOST, n += 1) {
-    await typist.ask({ t: "ins", s, n, v: at, k: at, x: text.slice(at, at + MOST) });
-    await typist.ask({ t: "pull", s, have: at, max: MOST });
+  for (let k = 0, v = 0, n = 1; k < text.length; n += 1) {
+    const x = beginning(text.slice(k), MOST);
+    await typist.ask({ t: "ins", s, n, v, k, x });
+    await typist.ask({ t: "pull", s, have: v, max: MOST });
+    k += x.length;
+    v += characters(x);
   }
   const renewed = new Room(1);
   await renewed.refill(await typist.operations());

@@ -32,6 +32,9 @@ export const MOST = 64;
 
 const NONE = [];
 
+/** What is remembered of a piece of the room's that is deleted: also whether it was deleted here. */
+const remembered = ({ text, isShown, since }) => ({ text, isMine: !isShown, since });
+
 /** What is known of operations, one object for those that are alike: many thousands are remembered. */
 const alike = new Map();
 function knownAs(sign, site) {
@@ -272,10 +275,10 @@ export class Document {
       rest -= characters(piece.text);
       const at = this.#pieces.roomPlace(index);
       const isPut = piece.owner === "sent";
-      if (isPut) piece.owner = "room";
+      if (isPut) this.#pieces.comes(piece);
       else list.splice(index--, 1);
       this.#remember(from, [...piece.text].map((sign) => (isPut ? sign : "")), true, [
-        isPut ? { at, taken: [], put: piece.text } : { at, taken: [{ text: piece.text, isMine: true }], put: "" },
+        isPut ? { at, taken: [], put: piece.text } : { at, taken: [remembered(piece)], put: "" },
       ]);
       from += characters(piece.text);
     }
@@ -308,7 +311,7 @@ export class Document {
         else if (put > 0) put -= 1;
         else put = this.#putRun(edits, index, changes);
       } else if (edit[0] === "d") {
-        way.taken = this.#pieces.take(edit[1], edit[2], changes);
+        way.taken = this.#pieces.take(edit[1], edit[2], changes).map(remembered);
       }
       this.#remember(this.version, [way.put], isOwn, [way]);
       this.version += 1;
@@ -342,7 +345,7 @@ export class Document {
     const changes = [];
     const ways = [];
     for (const { at, removed, text } of differences(this.roomText, roomText)) {
-      ways.push({ at, taken: this.#pieces.take(at, removed, changes), put: text });
+      ways.push({ at, taken: this.#pieces.take(at, removed, changes).map(remembered), put: text });
       if (text !== "") this.#pieces.put(at, text, changes);
     }
     const known = memory.last(version);
@@ -386,7 +389,7 @@ export class Document {
         piece.gone ??= "others";
       }
     }
-    const old = taken.map(({ text, isMine }) => new Piece(text, "room", isMine ? "new" : "others"));
+    const old = taken.map(({ text, isMine, since }) => new Piece(text, "room", isMine ? "new" : "others", 0, since));
     list.splice(this.#pieces.atRooms(at), 0, ...old);
   }
 

@@ -15,8 +15,8 @@ export const SIGNS = 64;
  * @typedef {{sign: string, site: number | null}} Known
  *
  * What took the room's text from a version to another: what was deleted at a place, each text with whether it was deleted here too, and
- * what was put in there. `known` are its last operations.
- * @typedef {{at: number, taken: {text: string, isMine: boolean}[], put: string}} Way
+ * the number of the wait in which it came; and what was put in there. `known` are its last operations.
+ * @typedef {{at: number, taken: {text: string, isMine: boolean, since: number}[], put: string}} Way
  * @typedef {{from: number, to: number, known: Known[], isOwn: boolean, ways: Way[], when: number}} Entry
  */
 
@@ -97,29 +97,28 @@ export class Memory {
     while (this.#entries.length > length) yield this.#entries.pop();
   }
 
-  /** The room's texts that led to this one, the last first: how many entries lead to each, and whether others lie beside it. */
+  /** The room's texts that led to this one, the last first, and how many entries lead to each. */
   *texts(text) {
-    const isFar = (entry) => entry !== undefined && !entry.isOwn && entry.to > entry.from + 1;
-    for (let length = this.#entries.length; length >= 0; length -= 1) {
-      const [before, behind] = [this.#entries[length - 1], this.#entries[length]];
-      for (const { at, taken, put } of [...(behind?.ways ?? [])].reverse()) {
+    yield { text, length: this.#entries.length };
+    for (let length = this.#entries.length - 1; length >= 0; length -= 1) {
+      for (const { at, taken, put } of [...this.#entries[length].ways].reverse()) {
         const old = taken.map((it) => it.text).join("");
         text = text.slice(0, at) + old + text.slice(at + put.length);
       }
-      yield { text, length, hasGap: behind === undefined || isFar(before) || isFar(behind) };
+      yield { text, length };
     }
   }
 
-  /** Each entry, the last first: how many lead to it, whether it is one's own, and which of the marks of the room's units are of its text. */
-  *marked(marks) {
+  /** How many entries came before the one that put each of the room's units in here; -1 of others', and of what was there before all. */
+  origins(units) {
+    const origins = Array(units).fill(-1);
+    const places = [...origins.keys()];
     for (let length = this.#entries.length - 1; length >= 0; length -= 1) {
-      const { isOwn, ways } = this.#entries[length];
-      const put = [];
-      for (const { at, taken, put: text } of [...ways].reverse()) {
-        const units = taken.reduce((sum, it) => sum + it.text.length, 0);
-        put.push(...marks.splice(at, text.length, ...Array(units).fill(null)));
+      for (const { at, taken, put } of [...this.#entries[length].ways].reverse()) {
+        const old = taken.reduce((sum, it) => sum + it.text.length, 0);
+        for (const place of places.splice(at, put.length, ...Array(old).fill(-1))) if (place >= 0 && this.#entries[length].isOwn) origins[place] = length;
       }
-      yield { length, isOwn, put };
     }
+    return origins;
   }
 }

@@ -3,11 +3,12 @@
  * the room lost stays where it stood, unseen, for when they put it in again.
  */
 export class Piece {
-  constructor(text, owner, gone = null, order = 0) {
+  constructor(text, owner, gone = null, order = 0, since = 0) {
     this.text = text;
     this.owner = owner; // "room", "new", "sent" or "lost"
     this.gone = gone; // null, "new" or "sent"; "others" of what they put in again, or delete again
     this.order = order;
+    this.since = since; // the number of the wait for lost text in which it came, or 0
   }
 
   get isShown() {
@@ -29,13 +30,13 @@ export class Piece {
 
   /** Takes what stands behind the place off, and gives it as a piece of its own. */
   cut(place) {
-    const rest = new Piece(this.text.slice(place), this.owner, this.gone, this.order);
+    const rest = new Piece(this.text.slice(place), this.owner, this.gone, this.order, this.since);
     this.text = this.text.slice(0, place);
     return rest;
   }
 
   /** Whether both are of one kind, so that they may be one piece. */
   isLike(other) {
-    return this.owner === other.owner && this.gone === other.gone && this.order === other.order;
+    return ["owner", "gone", "order", "since"].every((it) => this[it] === other[it]);
   }
 }

@@ -15,6 +15,7 @@ export class Pieces {
   /** @type {Piece[]} */
   list = [];
   #lostUntil = 0; // what others put in and the room lost is waited for till then
+  #waits = 0; // how often it was waited so
 
   /** The text of some of them. */
   text(isWanted) {
@@ -109,8 +110,14 @@ export class Pieces {
     return this.#lostUntil > 0;
   }
 
+  /** The number of the wait for lost text, or 0. */
+  get #now() {
+    return this.hasLost ? this.#waits : 0;
+  }
+
   /** Others are waited for, to put in again what is lost now. Of what was lost before only what was deleted here is waited for. */
   awaitLost() {
+    if (!this.hasLost) this.#waits += 1;
     this.#lostUntil = Date.now() + RETURNED;
     this.list = this.list.filter(({ isLost, gone }) => !(isLost && gone === "others"));
   }
@@ -120,19 +127,14 @@ export class Pieces {
     if (!this.hasLost || Date.now() < this.#lostUntil) return;
     this.#lostUntil = 0;
     this.list = this.list.filter((piece) => !piece.isLost);
-    for (const piece of this.list) piece.order = Math.max(0, piece.order);
+    for (const piece of this.list) piece.since = 0;
     this.join();
-  }
-
-  /** Of what came since the room lost text. */
-  get #fresh() {
-    return this.hasLost ? -1 : 0;
   }
 
   /** The lost pieces at a place, and beside it as far as what stands between came since. */
   #lostAt(k) {
     const { list } = this;
-    const isOlder = ({ isRooms, order }) => isRooms && order >= 0;
+    const isOlder = ({ isRooms, since }) => isRooms && since !== this.#now;
     let at = this.atRooms(k);
     while (at > 0 && !isOlder(list[at - 1])) at -= 1;
     const lost = [];
@@ -203,14 +205,14 @@ export class Pieces {
   #place(index, text, gone, changes) {
     const { list } = this;
     if (gone === null) add(changes, { at: this.shownPlace(index), removed: 0, text });
-    const piece = new Piece(text, "room", gone, this.#fresh);
+    const piece = new Piece(text, "room", gone, 0, this.#now);
     const left = list[index - 1];
     if (left?.isLike(piece)) left.text += text;
     else list.splice(index, 0, piece);
     this.joinAt(index);
   }
 
-  /** Units of the room's text that are deleted, by whom ever. What was gone is gone for good. Gives the texts, and whether each was. */
+  /** Units of the room's text that are deleted, by whom ever. What was gone is gone for good. Gives the pieces. */
   take(k, units, changes) {
     const { list } = this;
     const taken = this.rooms(k, units);
@@ -221,34 +223,55 @@ export class Pieces {
       list.splice(index, 1);
     }
     this.joinAt(index);
-    return taken.map(({ text, isShown }) => ({ text, isMine: !isShown }));
+    return taken;
   }
 
   /** A character that was under way is the room's now. Where it stands elsewhere than it is shown, what is pending there moves. */
   settle(k, ch, changes) {
     const { list } = this;
-    let index = list.findIndex((piece) => piece.owner === "sent");
-    if (index < 0 || !list[index].text.startsWith(ch)) throw new Error("an edit of another submission");
-    if (this.roomPlace(index) !== k) index = this.#move(index, k, changes);
-    const piece = list[index];
+    const piece = list.find(({ owner }) => owner === "sent");
+    if (piece === undefined || !piece.text.startsWith(ch)) throw new Error("an edit of another submission");
+    if (this.roomPlace(list.indexOf(piece)) !== k) this.#move(piece, k, changes);
+    const index = list.indexOf(piece);
     this.cut(index, ch.length);
-    piece.owner = "room";
-    if (piece.isShown) piece.order = this.#fresh;
+    this.comes(piece);
     this.joinAt(index);
   }
 
-  /** Moves what is pending from a piece on to a place of the room's text, and gives the number that the piece has there. */
-  #move(index, k, changes) {
+  /** What was under way is the room's now. */
+  comes(piece) {
+    piece.owner = "room";
+    piece.since = this.#now;
+    if (piece.isShown) piece.order = 0;
+  }
+
+  /**
+   * Moves a piece that is under way to a place of the room's text, and with it what is pending behind it up to the room's next piece. What
+   * is pending on the way moves along, so that all that was typed here keeps its order.
+   */
+  #move(piece, k, changes) {
     const { list } = this;
-    let end = index;
-    while (end < list.length && !list[end].isRooms) end += 1;
-    const at = this.shownPlace(index);
-    const moved = list.splice(index, end - index);
-    const text = moved.map((piece) => (piece.isShown ? piece.text : "")).join("");
-    const there = this.atRooms(k);
-    const to = this.shownPlace(there);
-    if (text !== "" && to !== at) changes.push({ at, removed: text.length, text, to });
-    list.splice(there, 0, ...moved);
-    return there;
+    const place = this.atRooms(k);
+    const from = list.indexOf(piece);
+    const isLeft = place < from;
+    let end = isLeft ? from : place;
+    if (isLeft) while (end < list.length && !list[end].isRooms) end += 1;
+    else while (!list[end - 1].isRooms) end -= 1;
+    const moved = list.slice(isLeft ? place : from, end).filter(({ isRooms, isLost }) => !isRooms && !isLost);
+    let before = list[(isLeft ? place : end) - 1];
+    while (moved.length > 0) {
+      const first = list.indexOf(moved[0]);
+      let count = 1;
+      while (count < moved.length && list[first + count] === moved[count]) count += 1;
+      const at = this.shownPlace(first);
+      const run = list.splice(first, count);
+      const text = run.map((it) => (it.isShown ? it.text : "")).join("");
+      const next = list.indexOf(before) + 1;
+      const to = this.shownPlace(next);
+      if (text !== "" && to !== at) changes.push({ at, removed: text.length, text, to });
+      list.splice(next, 0, ...run);
+      before = run.at(-1);
+      moved.splice(0, count);
+    }
   }
 }

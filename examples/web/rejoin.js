@@ -10,6 +10,9 @@ import { Document } from "./document.js";
  * @typedef {import("./document.js").Edit} Edit
  */
 
+/** A text of so few units may have become any other. */
+const SHORT = 64;
+
 /**
  * How a document comes to a room's text, as far as the room is known: a call that does so, and gives the changes of what is shown. Null
  * where the room has another text. `edits` are such as lead from the document's version on.
@@ -32,15 +35,17 @@ export async function wayTo(document, room, log, edits) {
 /** How a document comes to what its log has in common with the room's. */
 async function wayWithin(document, log, edits) {
   const { memory } = document;
-  if (await log.goesOn(document)) {
-    const found = document.isWaiting ? await log.find(document) : null;
-    return () => settle(document, found, edits);
-  }
+  const goesOn = await log.goesOn(document);
+  const found = goesOn && document.isWaiting ? await log.find(document) : null;
+  const knows = document.version > 0 || found !== null || !document.isWaiting; // any log goes on from nothing, a new document's too
+  if (goesOn && knows) return () => settle(document, found, edits);
   const lost = await log.upTo(document);
   const goBack = () => document.goBack(memory.lengthAt(lost.kept));
   if (lost?.isSure) return goBack;
   const first = await log.firstText();
-  if (first !== null && (first.text === document.roomText || (first.isNew && isLike(document, first.text)))) return () => renew(document, first);
+  const before = first === null ? null : textBefore(document, first.text);
+  if (first?.text === document.roomText || (first?.isNew && isLike(before.text, first.text))) return () => renew(document, first, before);
+  if (goesOn) return () => settle(document, found, edits);
   return lost === null ? null : goBack;
 }
 
@@ -64,50 +69,47 @@ function inCommon(from, to) {
   return differences(from, to).reduce((units, { removed }) => units - removed, from.length);
 }
 
-/**
- * Which of the texts that a document had is a new document's, or leads to it: the last one that is the same; else the nearest of those
- * from which on not all are known.
- */
-function textBefore({ memory, roomText }, wanted) {
-  let nearest = { away: Infinity, length: 0, text: "" };
-  for (const { text, length, hasGap } of memory.texts(roomText)) {
-    if (text === wanted) return { away: 0, length, text };
-    const away = hasGap ? distance(text, wanted) : Infinity;
-    if (away < nearest.away) nearest = { away, length, text };
-  }
-  return nearest;
+/** Whether a text has what is under way. */
+function hasCome({ isWaiting, roomText, textToCome }, text) {
+  return isWaiting && distance(textToCome, text) < distance(roomText, text);
 }
 
 /**
- * How many entries lead to where the last that was typed here begins to be missing in a text: as far as all of it is missing it was lost,
- * in a run that wasn't seen.
+ * The text that a new document was made of, and how many entries lead there: the last one that is the same. Else it was made by changes that
+ * weren't seen, of a later one; but as far as all is missing that was put in here last, that was lost. Others put theirs in again.
  */
-function beforeMissing({ memory, roomText }, text) {
-  const marks = Array(roomText.length).fill(true);
-  for (const { at, removed } of differences(roomText, text)) marks.fill(false, at, at + removed);
-  let missing = memory.length;
-  for (const { length, isOwn, put } of memory.marked(marks)) {
-    if (isOwn && put.includes(true)) break;
-    if (isOwn && put.includes(false)) missing = length;
+function textBefore(document, wanted) {
+  const { memory, roomText } = document;
+  for (const it of memory.texts(roomText)) if (it.text === wanted) return it;
+  if (hasCome(document, wanted)) return { length: memory.length, text: roomText };
+  const origins = memory.origins(roomText.length);
+  const upTo = (length) => roomText.split("").filter((_, at) => origins[at] < length).join("");
+  const away = distance(roomText, wanted);
+  const isBehindMissing = (length) => {
+    const text = upTo(length);
+    return distance(text, wanted) + roomText.length - text.length <= away;
+  };
+  const lengths = [...new Set(origins)].filter((it) => it >= 0).sort((one, other) => one - other);
+  let [low, high] = [0, lengths.length];
+  while (low < high) {
+    const middle = (low + high) >> 1;
+    if (isBehindMissing(lengths[middle])) high = middle;
+    else low = middle + 1;
   }
-  return missing;
+  const length = lengths[high] ?? memory.length;
+  return { length, text: upTo(length) };
 }
 
-/** Whether a text is one that the document had, or may have become of it: it has at least half of that. */
-function isLike(document, text) {
-  const before = textBefore(document, text);
-  const units = inCommon(before.text, text);
-  return before.away === 0 || document.roomText === "" || (units > 0 && 2 * units >= before.text.length);
+/** Whether a new document's text may have become of the one before: it has at least half of that, or that is too short to tell. */
+function isLike(before, text) {
+  return before.length < SHORT || 2 * inCommon(before, text) >= before.length;
 }
 
 /** Takes a new document's text for the one that was known at some time, or for what became of it. */
-function renew(document, { text, version, last }) {
-  const { memory, roomText, textToCome } = document;
-  const before = textBefore(document, text);
-  const length = before.length < memory.length || before.away === 0 ? before.length : beforeMissing(document, text);
+function renew(document, { text, version, last }, before) {
   let changes = [];
-  if (length < memory.length) changes = document.goBack(length);
-  else if (document.isWaiting && distance(textToCome, text) < distance(roomText, text)) document.came(document.version, Infinity);
+  if (before.length < document.memory.length) changes = document.goBack(before.length);
+  else if (hasCome(document, text)) document.came(document.version, Infinity);
   else document.takeBack();
   changes.push(...document.follow(new Document(text, version, last)));
   document.renew(version, last);

@@ -164,6 +164,13 @@ export class Seat {
     return reply.es ?? null;
   }
 
+  /** Finds out a site of the log behind a document, where none is known: it tells the run again where nothing of that was kept. */
+  async meet({ version, memory }) {
+    if (memory.sites.size > 0) return;
+    const site = await this.log.siteOf(version);
+    if (site !== null) memory.sites.add(site);
+  }
+
   /** The edits since a document's version; none where they aren't to be had. */
   async editsSince({ roomText, version }) {
     const edits = [];

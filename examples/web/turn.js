@@ -23,6 +23,7 @@ export async function turn(document, seat, mayGoOn, tell) {
     if (asked !== null) await seat.answered(document, await asked);
     const more = seat.isUnanswered ? null : await seat.editsOf(await pulled); // which edits are its own isn't known
     if (more !== null) edits.push(...more);
+    if (edits.length > 0) await seat.meet(document);
     const isMore = more === null || more.length === MOST;
     const hasCome = document.isWaiting && seat.hasCome(document.version + edits.length);
     const isEarly = mayGoOn() && Date.now() < until;

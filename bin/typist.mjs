@@ -1,0 +1,140 @@
+// An editor that types at random by a session of a module like examples/web, for bin/typing.mjs and bin/rehearsing.mjs.
+import { pathToFileURL } from "node:url";
+
+const pause = (milliseconds) => new Promise((resolve) => setTimeout(resolve, milliseconds));
+const roll = (below) => Math.floor(Math.random() * below);
+const isInside = (text, at) => /[\ud800-\udbff]/.test(text[at - 1] ?? "") && /[\udc00-\udfff]/.test(text[at] ?? "");
+
+/** What a typist asks of the module in a folder. */
+export async function moduleOf(folder) {
+  const load = (name) => import(new URL(name, pathToFileURL(`${folder}/`)).href);
+  return { ...(await load("rgatext.js")), ...(await load("undo.js")) };
+}
+
+export class Typist {
+  /** `open` gives a session, and `tell` takes what was done, a line each. */
+  constructor({ module, open, tell, isOfWords }, { who, text, answer }) {
+    Object.assign(this, { module, open, isOfWords, who, answer, supply: [...text], used: 0, asked: 0, differs: 0, isTyping: true });
+    this.tell = (what) => tell({ who, ...what });
+    this.begin();
+    this.type().catch((fault) => this.tell({ fault: `${fault.stack}` }));
+  }
+
+  begin() {
+    Object.assign(this, { shown: "", caret: 0, last: "", isOver: false, undo: new this.module.Undo(), session: this.open() });
+    const { session } = this;
+    const { carried, played } = this.module;
+    session.ended.catch((fault) => this.tell({ fault: `${fault.stack}` })).then(() => (this.isOver = true));
+    session.addEventListener("changes", ({ detail }) => {
+      this.caret = carried(this.caret, detail);
+      this.shown = played(this.shown, detail);
+      this.undo.follow(detail);
+      if (this.shown !== session.text) this.differs += 1;
+    });
+    let state = "";
+    session.addEventListener("state", () => {
+      if (session.state === "another text" && state !== "another text") {
+        this.asked += 1;
+        setTimeout(() => this.choose(session), 1_000);
+      }
+      state = session.state;
+    });
+  }
+
+  choose(session) {
+    if (!session.hasOther) return;
+    try {
+      if (this.answer === "mine") session.putMine();
+      else session.takeTheirs();
+    } catch (fault) {
+      if (!this.isRefusal(fault)) throw fault;
+    }
+    setTimeout(() => this.choose(session), 1_000); // where the room has changed in the meantime
+  }
+
+  isRefusal(fault) {
+    return fault instanceof this.module.Full || fault instanceof this.module.Ended;
+  }
+
+  /** A change of the shown text, told with its neighbours; whether the session took it. */
+  change(at, removed, text, isNoted = true) {
+    const { shown } = this;
+    try {
+      this.session.replace(at, removed, text);
+    } catch (fault) {
+      if (this.isRefusal(fault)) return false;
+      throw fault;
+    }
+    const taken = shown.slice(at, at + removed);
+    if (isNoted) this.undo.note({ at, removed, text }, taken);
+    this.shown = this.module.played(shown, [{ at, removed, text }]);
+    this.caret = at + text.length;
+    const left = [...shown.slice(Math.max(0, at - 2), at)].at(-1) ?? "";
+    const right = [...shown.slice(at + removed, at + removed + 2)][0] ?? "";
+    this.tell({ put: text, taken, left, right, undone: !isNoted });
+    return true;
+  }
+
+  outside(at) {
+    return isInside(this.shown, at) ? at - 1 : at;
+  }
+
+  async put() {
+    if (roll(10) < 3) this.caret = this.outside(roll(this.shown.length + 1));
+    const count = roll(50) === 0 ? 65 + roll(70) : 1 + roll(5);
+    const text = this.supply.slice(this.used, this.used + count);
+    const parts = count > 5 || roll(2) === 0 ? [text.join("")] : text;
+    this.last = "";
+    for (const part of parts) {
+      if (!this.isTyping || !this.change(this.caret, 0, part)) return;
+      this.used += [...part].length;
+      this.last += part;
+      if (parts.length > 1) await pause(10 + roll(40));
+    }
+  }
+
+  take() {
+    if (this.isOfWords) {
+      const last = [...this.last].slice(-1 - roll(3)).join(""); // one's own alone, as backspaces: others' letters are alike
+      if (last === "" || !this.shown.slice(0, this.caret).endsWith(last)) return;
+      if (this.change(this.caret - last.length, last.length, "")) this.last = this.last.slice(0, -last.length);
+      return;
+    }
+    const at = this.outside(roll(3) > 0 ? Math.max(0, this.caret - 1 - roll(4)) : roll(this.shown.length));
+    let end = Math.min(this.shown.length, at + 1 + roll(4));
+    if (isInside(this.shown, end)) end += 1;
+    if (end > at) this.change(at, end - at, "");
+  }
+
+  turn(isRedo) {
+    try {
+      this.undo.turn(isRedo, this.session, (at, removed, text) => this.change(at, removed, text, false));
+    } catch (fault) {
+      if (!(fault instanceof this.module.Full)) throw fault;
+    }
+  }
+
+  async type() {
+    while (this.isTyping) {
+      await pause(50 + roll(300));
+      if (this.isOver) {
+        this.tell({ ended: this.session.why, unsent: this.session.unsent });
+        this.begin();
+        await pause(2_000);
+        continue;
+      }
+      if (this.session.state === "joining" || this.session.state === "another text") continue;
+      const does = roll(40);
+      if (does < 8) this.take();
+      else if (does === 8 && !this.isOfWords) this.turn(roll(3) === 0);
+      else await this.put();
+    }
+  }
+
+  /** What it shows now, and how it stands. */
+  get report() {
+    const { state, why, text, isAhead, unsent } = this.session;
+    const { asked, differs, shown } = this;
+    return { state, why, text, isAhead, asked, unsent, differs: differs + Number(shown !== text) };
+  }
+}
