@@ -78,9 +78,10 @@ export class Document {
   }
 
   /**
-   * What is under way and wasn't played yet: where it was put in or deleted in the room's text, and its characters.
+   * What is under way and wasn't played yet, or null: where it was put in or deleted in the room's text, and its characters.
    */
   get underWay() {
+    if (this.#sent === null) return null;
     const isUnderWay = (piece) => piece.owner === "sent" || piece.gone === "sent";
     const first = this.#pieces.list.findIndex(isUnderWay);
     const isPut = this.#sent.submission.t === "ins";

@@ -8,8 +8,8 @@ import { Piece } from "./piece.js";
 /** Milliseconds for which others are waited for to put in again what the room lost. */
 const RETURNED = 60_000;
 
-/** So many units of a text that was lost are surely the same where they come again. */
-const SAME = 3;
+/** So many units of a text are surely the same where they come again. */
+export const SAME = 3;
 
 export class Pieces {
   /** @type {Piece[]} */

@@ -4,6 +4,7 @@
  */
 import { differences, distance } from "./differences.js";
 import { Document } from "./document.js";
+import { SAME } from "./pieces.js";
 
 /**
  * @typedef {import("./changes.js").Change} Change
@@ -69,9 +70,12 @@ function inCommon(from, to) {
   return differences(from, to).reduce((units, { removed }) => units - removed, from.length);
 }
 
-/** Whether a text has what is under way. */
-function hasCome({ isWaiting, roomText, textToCome }, text) {
-  return isWaiting && distance(textToCome, text) < distance(roomText, text);
+/** Whether a text has what is under way, where it is shown or, in one piece, elsewhere. */
+function hasCome({ isWaiting, roomText, textToCome, underWay }, text) {
+  if (!isWaiting) return false;
+  const put = underWay.isPut ? underWay.signs.join("") : "";
+  const isElsewhere = put.length >= SAME && text.split(put).length > roomText.split(put).length;
+  return isElsewhere || distance(textToCome, text) < distance(roomText, text);
 }
 
 /**

@@ -15,21 +15,25 @@ export async function turn(document, seat, mayGoOn, tell) {
   const until = Date.now() + TYPING;
   const before = document.order;
   const edits = [];
-  for (;;) {
-    const request = seat.submission(document, before);
-    const asked = request === null ? null : seat.send(request);
-    const pulled = seat.pull(document.version + edits.length);
-    pulled.catch(() => {}); // an answer counts also where the pull behind it is lost
-    if (asked !== null) await seat.answered(document, await asked);
-    const more = seat.isUnanswered ? null : await seat.editsOf(await pulled); // which edits are its own isn't known
-    if (more !== null) edits.push(...more);
-    if (edits.length > 0) await seat.meet(document);
-    const isMore = more === null || more.length === MOST;
-    const hasCome = document.isWaiting && seat.hasCome(document.version + edits.length);
-    const isEarly = mayGoOn() && Date.now() < until;
-    if (isMore && !hasCome && isEarly) continue;
-    tell(document.play(edits.splice(0)));
-    if (hasCome && isEarly && document.hasNew(before)) continue;
-    return isMore;
+  try {
+    for (;;) {
+      const request = seat.submission(document, before);
+      const asked = request === null ? null : seat.send(request);
+      const pulled = seat.pull(document.version + edits.length);
+      pulled.catch(() => {}); // an answer counts also where the pull behind it is lost
+      if (asked !== null) await seat.answered(document, await asked);
+      const more = seat.isUnanswered ? null : await seat.editsOf(await pulled); // which edits are its own isn't known
+      if (more !== null) edits.push(...more);
+      if (edits.length > 0) await seat.meet(document);
+      const isMore = more === null || more.length === MOST;
+      const hasCome = document.isWaiting && seat.hasCome(document.version + edits.length);
+      const isEarly = mayGoOn() && Date.now() < until;
+      if (isMore && !hasCome && isEarly) continue;
+      tell(document.play(edits.splice(0)));
+      if (hasCome && isEarly && document.hasNew(before)) continue;
+      return isMore;
+    }
+  } finally {
+    tell(document.play(edits)); // what was pulled counts also where the line was lost then
   }
 }
