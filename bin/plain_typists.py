@@ -87,26 +87,27 @@ class PlainTypist(threading.Thread):
         if dice.random() < 0.2 and session.text and not self.is_of_words:
             count = min(dice.randint(1, 4), len(session.text))
             place = dice.randint(0, len(session.text) - count)
-            self.note("", session.text[place : place + count])
-            session.delete(place, count)
+            taken = session.text[place : place + count]
+            self.noted(lambda: session.delete(place, count), "", taken)
             return
         count = dice.randint(65, 130) if dice.random() < 0.02 else dice.randint(1, 5)
         text = self.text[self.used : self.used + count]
         place = dice.choice((len(session.text), dice.randint(0, len(session.text))))
         self.used += count
         left, right = session.text[max(0, place - 1) : place], session.text[place : place + 1]
+        self.noted(lambda: session.insert(place, text), text, "", left, right)
+
+    def noted(self, does, put, taken, left="", right=""):
+        """Does something and tells it, whatever comes of it, but where nothing was sent."""
         is_full = False
         try:
-            session.insert(place, text)
+            does()
         except Full:
-            is_full = True  # nothing was sent
+            is_full = True
             raise
         finally:
             if not is_full:
-                self.note(text, "", "".join(left), "".join(right))
-
-    def note(self, put, taken, left="", right=""):
-        self.tally.note(self.who, put=put, taken="".join(taken), left=left, right=right)
+                self.tally.note(self.who, put=put, taken="".join(taken), left="".join(left), right="".join(right))
 
     def report(self):
         session = getattr(self, "session", None)

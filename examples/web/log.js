@@ -144,8 +144,10 @@ export class Log {
       clock.set(site, (clock.get(site) ?? 0) + 1);
       const c = [...clock].sort(([one], [other]) => one - other);
       const sum = c.reduce((total, [, count]) => total + count, 0);
-      const { os } = await this.#ask({ t: "put", ops: [{ c, k: "d", s: site, t: [sum, site] }] });
-      if (os?.[0][1] !== 17) return os?.[0][1] === 16;
+      const reply = await this.#ask({ t: "put", ops: [{ c, k: "d", s: site, t: [sum, site] }] });
+      if (reply.r === "no") throw new Refused(reply.n);
+      const [[, why]] = reply.os;
+      if (why !== 17) return why === 16;
     }
     return true; // the site's operations come faster than they are asked for
   }

@@ -5,8 +5,9 @@
 import { add } from "./changes.js";
 import { Piece } from "./piece.js";
 
-/** Milliseconds for which others are waited for to put in again what the room lost. */
+/** Milliseconds for which others are waited for to put in again what the room lost; and for a letter or two, which anybody may type. */
 const RETURNED = 60_000;
+const SOON = 10_000;
 
 /** So many units of a text are surely the same where they come again. */
 export const SAME = 3;
@@ -152,15 +153,16 @@ export class Pieces {
 
   /**
    * The parts of a text that others put in, each with the lost piece that it is where they put it in again. That is so where the text was
-   * lost there in one piece; but a letter or two may be anybody's, so they count where nothing else was lost there. Else it is so of a
-   * character that stands nowhere else.
+   * lost there in one piece; but a letter or two may be anybody's, so they count soon, and where nothing else was lost there. Else it is so
+   * of a character that stands nowhere else.
    */
   #parts(k, text) {
     let lost = this.#lostAt(k);
     const all = lost.map((piece) => piece.text).join("");
     let start = all.indexOf(text);
     const parts = [];
-    if (start >= 0 && (text.length >= SAME || all === text)) {
+    const isSoon = Date.now() < this.#lostUntil - RETURNED + SOON;
+    if (start >= 0 && (text.length >= SAME || (all === text && isSoon))) {
       for (let rest = text.length, n = 0; rest > 0; n += 1) {
         if (start < lost[n].text.length) {
           const piece = this.#lostPart(lost[n], start, rest);

@@ -29,5 +29,7 @@ export function open(address, room, Socket = globalThis.WebSocket) {
   if (!/^wss?:\/\/[^/]/.test(address)) throw new TypeError("an address is ws://HOST:PORT");
   const isThere = typeof Socket === "function";
   if (!isThere) throw new TypeError("there is no WebSocket: start Node 20 with --experimental-websocket, or name a class");
-  return new Session(() => Connection.open(address, room, Socket));
+  const session = new Session(() => Connection.open(address, room, Socket));
+  session.isHidden = globalThis.document?.hidden ?? false;
+  return session;
 }
