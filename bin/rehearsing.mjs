@@ -1,7 +1,7 @@
 // Editors that type by sessions of a module like examples/web, in a time of their own, over lines that go wrong and at a room that is
-// ended and comes back, for bin/rehearse. The arguments are the program, the module's folder and the seed; the
-// input is what else is asked for.
-import { readFileSync } from "node:fs";
+// ended and comes back, for bin/rehearse. The arguments are the program, the module's folder and the seed,
+// the input is what else is asked for.
+import { readFileSync, writeFileSync } from "node:fs";
 import { LIMITS } from "../examples/web/connection.js";
 import { Clock } from "./clock.mjs";
 import { Room } from "./room.mjs";
@@ -16,7 +16,7 @@ const { Lost, Session } = module;
 const roll = (below) => Math.floor(Math.random() * below);
 const pause = (milliseconds) => new Promise((resolve) => setTimeout(resolve, milliseconds));
 const began = clock.now;
-const tell = (what) => console.log(JSON.stringify({ when: clock.now - began, ...what }));
+const tell = (what) => writeFileSync(1, `${JSON.stringify({ when: clock.now - began, ...what })}\n`); // (the end waits for all of it)
 const { ask } = Room.prototype;
 Room.prototype.ask = function (request) {
   return clock.during(ask.call(this, request));
