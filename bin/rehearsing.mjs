@@ -29,7 +29,7 @@ const SILENT = 10_000;
 
 /** A room, where it is there, and how much of its log is kept. */
 class Server {
-  room = new Room(1);
+  room = new Room(0);
   lines = new Set();
   kept = 0;
   copied = null;
@@ -53,7 +53,7 @@ class Server {
     for (const line of this.lines) line.close();
     await pause(milliseconds);
     const kept = { back: this.copied ?? this.kept, empty: 0 }[how] ?? this.kept;
-    const site = 1 + Math.max(0, ...(await singlesOf(old, version - kept)).map(({ s }) => s));
+    const site = 1 + Math.max(-1, ...(await singlesOf(old, version - kept)).map(({ s }) => s));
     const isRenewed = how === "renew" || site > LAST_SITE;
     this.room = isRenewed ? await renewedRun(old, version - kept) : await keptRun(old, version - kept, site);
     this.kept = await this.version();

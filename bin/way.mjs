@@ -149,7 +149,7 @@ export async function renewedRun(room, without = 0) {
     k += x.length;
     v += characters(x);
   }
-  const renewed = new Room(1);
+  const renewed = new Room(text === "" ? 0 : 1); // a log takes the least site that it lacks
   await renewed.refill(await typist.operations());
   typist.close();
   return renewed;

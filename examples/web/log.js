@@ -118,7 +118,7 @@ export class Log {
     }
     if (kept > 0) return { kept, isSure: isSame || next === null || next.sequence === 1 };
     const sites = [...memory.sites].filter((site) => next === null || site === next.site);
-    if (sites.length > 0 && next?.site > 0 && next.sequence === 1) return { kept, isSure: true }; // its number came again
+    if (sites.length > 0 && next?.sequence === 1) return { kept, isSure: false }; // its number came again, or a new document has it
     for (const site of sites) if (await this.isOfRun(site)) return { kept, isSure: true };
     return null;
   }

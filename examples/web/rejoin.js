@@ -46,6 +46,7 @@ async function wayWithin(document, log, edits) {
   const first = await log.firstText();
   const before = first === null ? null : textBefore(document, first.text);
   if (first?.text === document.roomText || (first?.isNew && isLike(before.text, first.text))) return () => renew(document, first, before);
+  if (first?.isNew) return null;
   if (goesOn) return () => settle(document, found, edits);
   return lost === null ? null : goBack;
 }
@@ -70,10 +71,10 @@ function inCommon(from, to) {
   return differences(from, to).reduce((units, { removed }) => units - removed, from.length);
 }
 
-/** Whether a text has what is under way, where it is shown or, in one piece, elsewhere. */
-function hasCome({ isWaiting, roomText, textToCome, underWay }, text) {
-  if (!isWaiting) return false;
-  const put = underWay.isPut ? underWay.signs.join("") : "";
+/** Whether a text has what was put in and is under way, where it is shown or, in one piece, elsewhere. */
+function hasCome({ roomText, textToCome, underWay }, text) {
+  if (!underWay?.isPut) return false;
+  const put = underWay.signs.join("");
   const isElsewhere = put.length >= SAME && text.split(put).length > roomText.split(put).length;
   return isElsewhere || distance(textToCome, text) < distance(roomText, text);
 }
