@@ -24,7 +24,7 @@ const SHORT = 64;
  * @returns {Promise<(() => Change[]) | null>}
  */
 export async function wayTo(document, room, log, edits) {
-  const way = await wayWithin(document, log, edits);
+  const way = await wayWithin(document, room, log, edits);
   if (way !== null) return () => [...way(), ...document.follow(room)];
   if (room.roomText !== document.textToCome) return null;
   return () => {
@@ -34,7 +34,7 @@ export async function wayTo(document, room, log, edits) {
 }
 
 /** How a document comes to what its log has in common with the room's. */
-async function wayWithin(document, log, edits) {
+async function wayWithin(document, room, log, edits) {
   const { memory } = document;
   const goesOn = await log.goesOn(document);
   const found = goesOn && document.isWaiting ? await log.find(document) : null;
@@ -48,7 +48,7 @@ async function wayWithin(document, log, edits) {
   if (first?.text === document.roomText || (first?.isNew && isLike(before.text, first.text))) return () => renew(document, first, before);
   if (first?.isNew) return null;
   if (goesOn) return () => settle(document, found, edits);
-  return lost === null ? null : goBack;
+  return lost !== null && room.version > 0 && isLike(document.roomText, room.roomText) ? goBack : null;
 }
 
 /** Takes what is under way as what the log has of it, and plays the edits. */
@@ -105,7 +105,7 @@ function textBefore(document, wanted) {
   return { length, text: upTo(length) };
 }
 
-/** Whether a new document's text may have become of the one before: it has at least half of that, or that is too short to tell. */
+/** Whether a text may have become of one before: it has at least half of that, or that is too short to tell. */
 function isLike(before, text) {
   return before.length < SHORT || 2 * inCommon(before, text) >= before.length;
 }
