@@ -100,7 +100,8 @@ export class Log {
       if (kept === 0 || (last.length > 0 && (await this.#isAt(kept - last.length, last)))) break;
       if (kept === memory.base) return this.#wasBefore(memory);
     }
-    if (known[kept - start] === undefined) return { kept, isSure: false }; // of a log before a joined text only the end is known
+    const isKnown = known[kept - start] !== undefined; // of a log before a joined text only the end is known
+    if (!isKnown && (await this.#singles(kept, 1)).length > 0) return { kept, isSure: false };
     let isSame = memory.last(kept).some(({ site }) => site > 0); // no new document has operations of these
 
     const firsts = new Map(); // where each site begins among what is as it was known
@@ -118,9 +119,9 @@ export class Log {
     }
     if (kept > 0) return { kept, isSure: isSame || next === null || next.sequence === 1 };
     const sites = [...memory.sites].filter((site) => next === null || site === next.site);
-    if (sites.length > 0 && next?.sequence === 1) return { kept, isSure: false }; // its number came again, or a new document has it
     for (const site of sites) if (await this.isOfRun(site)) return { kept, isSure: true };
-    return null;
+    const isAgain = sites.length > 0 && next?.sequence === 1; // its number came again, or a new document has it
+    return isAgain ? { kept, isSure: false } : null;
   }
 
   /** Whether the log lost its end soon before what is remembered: no further back can be gone. */

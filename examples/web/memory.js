@@ -109,16 +109,17 @@ export class Memory {
     }
   }
 
-  /** How many entries came before the one that put each of the room's units in here; -1 of others', and of what was there before all. */
-  origins(units) {
-    const origins = Array(units).fill(-1);
-    const places = [...origins.keys()];
+  /** The entries that put in something here that the room's text of so many units still has, the last first: how many lead to each, and where. */
+  *own(units) {
+    const now = [...Array(units).keys()];
     for (let length = this.#entries.length - 1; length >= 0; length -= 1) {
-      for (const { at, taken, put } of [...this.#entries[length].ways].reverse()) {
+      const { isOwn, ways } = this.#entries[length];
+      const places = [];
+      for (const { at, taken, put } of [...ways].reverse()) {
         const old = taken.reduce((sum, it) => sum + it.text.length, 0);
-        for (const place of places.splice(at, put.length, ...Array(old).fill(-1))) if (place >= 0 && this.#entries[length].isOwn) origins[place] = length;
+        places.push(...now.splice(at, put.length, ...Array(old).fill(-1)).filter((place) => place >= 0));
       }
+      if (isOwn && places.length > 0) yield { length, places };
     }
-    return origins;
   }
 }

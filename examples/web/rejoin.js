@@ -48,7 +48,7 @@ async function wayWithin(document, room, log, edits) {
   if (first?.text === document.roomText || (first?.isNew && isLike(before.text, first.text))) return () => renew(document, first, before);
   if (first?.isNew) return null;
   if (goesOn) return () => settle(document, found, edits);
-  return lost !== null && room.version > 0 && isLike(document.roomText, room.roomText) ? goBack : null;
+  return lost !== null && isLike(document.roomText, room.roomText) ? goBack : null;
 }
 
 /** Takes what is under way as what the log has of it, and plays the edits. */
@@ -87,22 +87,24 @@ function textBefore(document, wanted) {
   const { memory, roomText } = document;
   for (const it of memory.texts(roomText)) if (it.text === wanted) return it;
   if (hasCome(document, wanted)) return { length: memory.length, text: roomText };
-  const origins = memory.origins(roomText.length);
-  const upTo = (length) => roomText.split("").filter((_, at) => origins[at] < length).join("");
   const away = distance(roomText, wanted);
-  const isBehindMissing = (length) => {
-    const text = upTo(length);
+  const own = [...memory.own(roomText.length)];
+  const upTo = (entry) => {
+    const places = new Set(own.slice(0, entry).flatMap((it) => it.places));
+    return roomText.split("").filter((_, place) => !places.has(place)).join("");
+  };
+  const isMissing = (entry) => {
+    const text = upTo(entry);
     return distance(text, wanted) + roomText.length - text.length <= away;
   };
-  const lengths = [...new Set(origins)].filter((it) => it >= 0).sort((one, other) => one - other);
-  let [low, high] = [0, lengths.length];
-  while (low < high) {
+  let [low, high] = [0, 1]; // all is missing of the last `low` entries, and not of the last `high`
+  for (; high <= own.length && isMissing(high); high *= 2) low = high;
+  for (high = Math.min(high, own.length + 1); high - low > 1; ) {
     const middle = (low + high) >> 1;
-    if (isBehindMissing(lengths[middle])) high = middle;
-    else low = middle + 1;
+    if (isMissing(middle)) low = middle;
+    else high = middle;
   }
-  const length = lengths[high] ?? memory.length;
-  return { length, text: upTo(length) };
+  return { length: own[low - 1]?.length ?? memory.length, text: upTo(low) };
 }
 
 /** Whether a text may have become of one before: it has at least half of that, or that is too short to tell. */
