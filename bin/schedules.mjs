@@ -277,6 +277,21 @@ async function isAcceptedAndDeleted() {
   await endsAs(way, "text d");
 }
 
+/** An editor that joined a text types more than that, and the log loses most of it: what was kept doesn't come twice. */
+async function losesMuchOfItsOwn() {
+  const room = new Room(1);
+  const [joined, typed] = ["joined ".repeat(36), "0123456789".repeat(30)];
+  for (let at = 0; at < joined.length; at += 63) await typedBy(room, 0, joined.slice(0, 63));
+  const way = new Way(room);
+  await way.comesTo("up to date", joined);
+  way.editor.change(joined.length, 0, typed);
+  await way.comesTo("up to date", joined + typed);
+  const kept = await keptRun(room, 270);
+  way.cut(kept);
+  await way.joins(kept);
+  await endsAs(way, joined + typed);
+}
+
 /** A socket that is open at once, and answers each message by a text. */
 class Socket extends EventTarget {
   static answer = "hello";
@@ -337,6 +352,7 @@ await Promise.all([
   comesLate("leave"),
   comesLate("pull"),
   isAcceptedAndDeleted(),
+  losesMuchOfItsOwn(),
   losesJoin("join"),
   losesJoin("leave"),
   leavesAtOnce(),

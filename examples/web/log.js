@@ -93,9 +93,18 @@ export class Log {
    */
   async upTo({ version, memory }) {
     const { start, known } = memory.known;
+    const isKnown = (at) => at <= memory.base || known[at - start - 1] !== undefined;
     let kept = version;
     for (let back = SIGNS; ; back *= 2) {
+      const before = kept;
       kept = Math.max(memory.base, version - back);
+      if (!isKnown(kept)) {
+        let end = kept; // of a text that was joined nothing is known but its end, which is looked at once
+        while (!isKnown(end)) end += 1;
+        end += SIGNS - 1;
+        if (end < before) kept = end;
+        else while (!isKnown(kept)) kept -= 1;
+      }
       const last = memory.last(kept);
       if (kept === 0 || (last.length > 0 && (await this.#isAt(kept - last.length, last)))) break;
       if (kept === memory.base) return this.#wasBefore(memory);
