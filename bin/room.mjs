@@ -56,9 +56,12 @@ export class Room {
     return told;
   }
 
-  /** Takes operations in, as a bridge hands them over. */
+  /** Takes operations in, as a bridge hands them over: all of them. */
   async refill(told) {
-    for (const ops of told) assert.equal((await this.ask({ t: "put", ops })).r, "put");
+    for (const ops of told) {
+      const { r, os } = await this.ask({ t: "put", ops });
+      assert.ok(r === "put" && os.every(([outcome]) => outcome !== "no"), JSON.stringify(os));
+    }
   }
 
   close() {

@@ -86,6 +86,9 @@ export class Way {
   }
 }
 
+/** A site that no run has. */
+const READER = 31;
+
 export const textOf = async (room) => (await room.ask({ t: "read" })).x;
 
 /** A room with a text of a session, and an editor that has it as its own or others' text. */
@@ -137,7 +140,7 @@ export async function keptRun(room, without = 0, site = 2) {
 
 /** A room that was renewed: with the text of another one, as site 0 typed it, but for the last operations. */
 export async function renewedRun(room, without = 0) {
-  const kept = await keptRun(room, without);
+  const kept = await keptRun(room, without, READER); // (a run of a site in the log would refuse what that did)
   const text = await textOf(kept);
   kept.close();
   const typist = new Room(0);
