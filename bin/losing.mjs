@@ -194,6 +194,24 @@ async function knowsThatItLeft() {
   await endsAs(way, "abcde");
   assert.ok(!way.states.includes("another text"), "it is the same run");
 }
+/** What was lost and is typed anew, some time after another deleted it, is wanted: it stays. */
+async function keepsWhatIsTypedAnew() {
+  const [one, other] = await two("Sum: ", "7 apples");
+  one.editor.change(5, 1, "");
+  for (const way of [one, other]) await way.comesTo("up to date", "Sum:  apples");
+  const kept = await keptRun(one.room, 9);
+  for (const way of [one, other]) way.cut(kept);
+  for (const way of [one, other]) await way.joins(kept);
+  for (const way of [one, other]) await way.comesTo("up to date", "Sum:  apples");
+  const { now } = Date;
+  Date.now = () => now() + 20_000;
+  other.editor.change(5, 0, "7");
+  await until(() => one.editor.shown.includes("7"));
+  await until(() => !other.editor.session.isAhead);
+  Date.now = now;
+  assert.equal(await textOf(kept), "Sum: 7 apples");
+  await end(one, other);
+}
 
 await Promise.all([
   losesItsEnd(3),
@@ -218,4 +236,5 @@ await Promise.all([
   isPlayedInParts(3),
   knowsThatItLeft(),
 ]);
+await keepsWhatIsTypedAnew();
 console.log("bin/try_merging: logs that lost their end, renewed rooms, and what came of what was under way");

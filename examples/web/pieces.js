@@ -5,7 +5,10 @@
 import { add } from "./changes.js";
 import { Piece } from "./piece.js";
 
-/** Milliseconds for which others are waited for to put in again what the room lost; and for a letter or two, which anybody may type. */
+/**
+ * Milliseconds for which others are waited for to put in again what the room lost; and for a letter or two, which anybody may type, and
+ * what was deleted here, since whoever types that anew wants it.
+ */
 const RETURNED = 60_000;
 const SOON = 10_000;
 
@@ -111,6 +114,11 @@ export class Pieces {
     return this.#lostUntil > 0;
   }
 
+  /** Whether the wait for lost text has just begun. */
+  get #isSoon() {
+    return Date.now() < this.#lostUntil - RETURNED + SOON;
+  }
+
   /** The number of the wait for lost text, or 0. */
   get #now() {
     return this.hasLost ? this.#waits : 0;
@@ -139,7 +147,9 @@ export class Pieces {
     let at = this.atRooms(k);
     while (at > 0 && !isOlder(list[at - 1])) at -= 1;
     const lost = [];
-    for (; at < list.length && !isOlder(list[at]); at += 1) if (list[at].isLost) lost.push(list[at]);
+    for (; at < list.length && !isOlder(list[at]); at += 1) {
+      if (list[at].isLost && (this.#isSoon || list[at].gone === "others")) lost.push(list[at]);
+    }
     return lost;
   }
 
@@ -161,8 +171,7 @@ export class Pieces {
     const all = lost.map((piece) => piece.text).join("");
     let start = all.indexOf(text);
     const parts = [];
-    const isSoon = Date.now() < this.#lostUntil - RETURNED + SOON;
-    if (start >= 0 && (text.length >= SAME || (all === text && isSoon))) {
+    if (start >= 0 && (text.length >= SAME || (all === text && this.#isSoon))) {
       for (let rest = text.length, n = 0; rest > 0; n += 1) {
         if (start < lost[n].text.length) {
           const piece = this.#lostPart(lost[n], start, rest);
