@@ -194,6 +194,20 @@ async function knowsThatItLeft() {
   await endsAs(way, "abcde");
   assert.ok(!way.states.includes("another text"), "it is the same run");
 }
+/** A word didn't come, and another typed the same elsewhere before the room was renewed: both are there. */
+async function typesAWordToo() {
+  const way = await begin("one two three four five six");
+  const isLost = way.loseOnce("request", "ins");
+  way.editor.change(4, 0, "the ");
+  await isLost;
+  await typedBy(way.room, 24, "the ");
+  const renewed = await renewedRun(way.room);
+  way.isUp = true;
+  way.cut(renewed);
+  await way.joins(renewed);
+  await endsAs(way, "one the two three four five the six");
+}
+
 /** What was lost and is typed anew, some time after another deleted it, is wanted: it stays. */
 async function keepsWhatIsTypedAnew() {
   const [one, other] = await two("Sum: ", "7 apples");
@@ -235,6 +249,7 @@ await Promise.all([
   isPlayedInParts(0),
   isPlayedInParts(3),
   knowsThatItLeft(),
+  typesAWordToo(),
 ]);
 await keepsWhatIsTypedAnew();
 console.log("bin/try_merging: logs that lost their end, renewed rooms, and what came of what was under way");

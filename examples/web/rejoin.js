@@ -14,6 +14,9 @@ import { SAME } from "./pieces.js";
 /** A text of so few units may have become any other. */
 const SHORT = 64;
 
+/** Two don't put in the same so many units at one time. */
+const LONG = 16;
+
 /**
  * How a document comes to a room's text, as far as the room is known: a call that does so, and gives the changes of what is shown. Null
  * where the room has another text. `edits` are such as lead from the document's version on.
@@ -71,11 +74,12 @@ function inCommon(from, to) {
   return differences(from, to).reduce((units, { removed }) => units - removed, from.length);
 }
 
-/** Whether a text has what was put in and is under way, where it is shown or, in one piece, elsewhere. */
+/** Whether a text has what was put in and is under way, where it is shown or, in one piece and as nobody else types it, elsewhere. */
 function hasCome({ roomText, textToCome, underWay }, text) {
   if (!underWay?.isPut) return false;
   const put = underWay.signs.join("");
-  const isElsewhere = put.length >= SAME && text.split(put).length > roomText.split(put).length;
+  const isRare = put.length >= LONG || (put.length >= SAME && underWay.signs.some((sign) => !roomText.includes(sign)));
+  const isElsewhere = isRare && text.split(put).length > roomText.split(put).length;
   return isElsewhere || distance(textToCome, text) < distance(roomText, text);
 }
 
