@@ -109,8 +109,7 @@ export class Log {
       if (kept === 0 || (last.length > 0 && (await this.#isAt(kept - last.length, last)))) break;
       if (kept === memory.base) return this.#wasBefore(memory);
     }
-    const isKnown = known[kept - start] !== undefined; // of a log before a joined text only the end is known
-    if (!isKnown && (await this.#singles(kept, 1)).length > 0) return { kept, isSure: false };
+    if (!isKnown(kept + 1) && (await this.#singles(kept, 1)).length > 0) return { kept, isSure: false };
     let isSame = memory.last(kept).some(({ site }) => site > 0); // no new document has operations of these
 
     const firsts = new Map(); // where each site begins among what is as it was known
