@@ -1,2 +1,3 @@
 mod SeenGrow
 mod Turned
+mod Opened

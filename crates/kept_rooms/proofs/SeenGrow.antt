@@ -3,7 +3,6 @@ use Rattle.std.proofs.Common.{◌≡◌, ℕ, ◌≤◌, zero, suc, List, [], �
 use Rattle.std.proofs.Common.{refl, ap, ap₂, sym, subst, ◌∙◌, ⊎_elim}
 use Rattle.opid.specs.declared.refusal.Refusal.{Refusal}
 use Rattle.opid.specs.declared.refusal.Refusal.TheVariants.{Worn, Memory}
-use Rattle.opid.specs.Operations.{Operation}
 use Rattle.opid.specs.Lawful.{IsLawful}
 use Rattle.room_calls.specs.declared.call.Call.{Call}
 use Rattle.room.specs.Machine.{State, room_over, next}
@@ -12,9 +11,7 @@ use Rattle.room.proofs.Handing.{Extends, Extends-refl}
 use Rattle.room.proofs.Known.{state_of-extends}
 use Rattle.room.proofs.Replayed.{legal_history}
 use Rattle.shared_room.specs.declared.look.Look.{Look}
-use Rattle.shared_room.specs.declared.pass.Pass.{Pass}
-use Rattle.shared_room.specs.declared.shared.SharedRoom.{SharedRoom}
-use Rattle.shared_room.specs.Views.{View, view, opening, IsPassOf}
+use Rattle.shared_room.specs.Views.{View, view, opening}
 use Rattle.shared_room.specs.Turns.{Visits}
 use Rattle.shared_room.specs.Looks.{LooksAt}
 use Rattle.ws_server.specs.declared.hall.Hall.{Hall}

@@ -1,5 +1,5 @@
 -- What a turn of a file does, by the look that it took.
-use Rattle.std.proofs.Common.{◌≡◌, ◌≤◌, ℕ, List, ◌++◌, length, drop, Result, Ok, ap, subst, sym, ◌∙◌}
+use Rattle.std.proofs.Common.{◌≡◌, ◌≤◌, ◌<◌, ◌⊎◌, ℕ, List, ◌++◌, length, drop, Result, Ok, ap, subst, sym, ◌∙◌}
 use Rattle.opid.specs.declared.refusal.Refusal.{Refusal}
 use Rattle.opid.specs.Operations.{Operation}
 use Rattle.opid.specs.Lawful.{IsLawful}
@@ -7,12 +7,14 @@ use Rattle.room.proofs.Handing.{Extends}
 use Rattle.shared_room.specs.declared.look.Look.{Look}
 use Rattle.ws_server.specs.declared.hall.Hall.{Hall}
 use Rattle.ws_server.specs.declared.hall.HallPass.{HallPass}
-use Rattle.ws_server.specs.Halls.{IsHallPassOf}
+use Rattle.ws_server.specs.Halls.{rooms_of, IsHallPassOf}
 use Rattle.ws_server.specs.Keeping.{LooksInto}
+use Rattle.keeper.specs.Disk.{LeavesOnly}
 use Rattle.keeper.specs.Kept.{Keeps}
+use Rattle.keeper.specs.Turn.{OpensAs}
 use Rattle.keeper.specs.declared.kept.KeptFile.{KeptFile}
 use Rattle.kept_rooms.specs.SeenLogs.{seen_log}
-use Rattle.kept_rooms.specs.Keeping.{IsOverLog}
+use Rattle.kept_rooms.specs.Keeping.{IsOverLog, IsFileOf}
 use Rattle.kept_rooms.proofs.SeenGrow.{grown, sound, shown}
 
 -- what was kept of a log is kept of the longer one
@@ -47,3 +49,23 @@ pub lacking : (hall : Hall) (at room after version : ℕ) (pass pass' : HallPass
 lacking hall at room after version pass pass' look ops looked here from is =
     let there = subst (λ n. LooksInto hall n pass.passes.items after (Ok look) pass'.passes.items) here looked in
     is ∙ (shown hall room after pass pass' look there).0 ∙ ap (λ n. drop n (seen_log hall room pass')) from
+
+-- so the file stays that of its room
+pub turned : {D : Type 0} (honest : D → Type 0) (seen : D → List ℕ) (may_leave : D → List ℕ → Type 0) (fresh : D → ℕ) (moment : D → ℕ)
+    (left_since : D → ℕ → List ℕ → Type 0) (hall : Hall) (pass' : HallPass) (old new : KeptFile D)
+    → new.room ≡ old.room → old.room < length (rooms_of hall) → IsOverLog hall old.room
+    → Keeps honest seen may_leave fresh new (seen_log hall old.room pass')
+    × ((new.mark.version ≡ length (seen_log hall old.room pass')) ⊎ (new.mark ≡ old.mark))
+    × LeavesOnly moment left_since old.disk new.disk (OpensAs old.mark.version (seen_log hall old.room pass'))
+    → IsFileOf honest seen may_leave fresh hall pass' new
+    × ((new.mark.version ≡ length (seen_log hall old.room pass')) ⊎ (new.mark ≡ old.mark))
+    × LeavesOnly moment left_since old.disk new.disk (OpensAs old.mark.version (seen_log hall old.room pass'))
+turned honest seen may_leave fresh moment left_since hall pass' old new same within over (keeps, mark, left) = (
+  record {
+    within = subst (λ at. at < length (rooms_of hall)) (sym same) within;
+    over = subst (IsOverLog hall) (sym same) over;
+    keeps = subst (λ at. Keeps honest seen may_leave fresh new (seen_log hall at pass')) (sym same) keeps;
+  },
+  mark,
+  left,
+)

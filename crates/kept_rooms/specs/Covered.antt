@@ -1,7 +1,6 @@
 -- What may go out of a connection whose room is kept. The rules are the server's own.
 use Rattle.std.specs.Prelude.{◌≡◌, ◌≤◌, ℕ, length, Option, Some, None}
 use Rattle.keeper.specs.declared.kept.Kept.{Kept}
-use Rattle.ws_server.specs.declared.conn.Conn.{Conn}
 use Rattle.ws_server.specs.declared.hall.Hall.{Hall}
 use Rattle.ws_server.specs.declared.hall.HallPass.{HallPass}
 use Rattle.kept_rooms.specs.SeenLogs.{seen_log}

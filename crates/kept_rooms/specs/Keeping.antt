@@ -25,13 +25,20 @@ pub record IsOverLog (hall : Hall) (at : ℕ) : Type 0 where
   pub lawful : IsLawful log
   pub few : length log ≤ 131072
 
+-- The file's room is one of the hall's, which was opened over a log, and the file keeps the log that the pass has seen of it.
+pub record IsFileOf {D : Type 0} (honest : D → Type 0) (seen : D → List ℕ) (may_leave : D → List ℕ → Type 0) (fresh : D → ℕ)
+    (hall : Hall) (pass : HallPass) (file : KeptFile D) : Type 0 where
+  pub within : file.room < length (rooms_of hall)
+  pub over : IsOverLog hall file.room
+  pub keeps : Keeps honest seen may_leave fresh file (seen_log hall file.room pass)
+
 -- A turn of the file's room. Where the file kept the log that the pass had seen, it keeps the log that the pass has seen since: all of
 -- it, or with the mark where it was. A crash at any moment left a beginning of that log, with what stood in the file.
 abbrev pub TurnsRoom : {D : Type 0} → (D → Type 0) → (D → List ℕ) → (D → List ℕ → Type 0) → (D → ℕ) → (D → ℕ)
     → (D → ℕ → List ℕ → Type 0) → Hall → HallPass → HallPass → KeptFile D → KeptFile D → Type 0
 TurnsRoom honest seen may_leave fresh moment left_since hall pass pass' old new =
-    IsOverLog hall old.room → Keeps honest seen may_leave fresh old (seen_log hall old.room pass)
-    → Keeps honest seen may_leave fresh new (seen_log hall old.room pass')
+    IsFileOf honest seen may_leave fresh hall pass old
+    → IsFileOf honest seen may_leave fresh hall pass' new
     × ((new.mark.version ≡ length (seen_log hall old.room pass')) ⊎ (new.mark ≡ old.mark))
     × LeavesOnly moment left_since old.disk new.disk (OpensAs old.mark.version (seen_log hall old.room pass'))
 
@@ -39,5 +46,4 @@ TurnsRoom honest seen may_leave fresh moment left_since hall pass pass' old new 
 abbrev pub KeepsRoom : {D : Type 0} → (D → Type 0) → (D → List ℕ) → (D → List ℕ → Type 0) → (D → ℕ)
     → Hall → HallPass → HallPass → KeptFile D → KeptFile D → Type 0
 KeepsRoom honest seen may_leave fresh hall pass pass' old new =
-    IsOverLog hall old.room → Keeps honest seen may_leave fresh old (seen_log hall old.room pass)
-    → new.mark.version ≡ length (seen_log hall old.room pass')
+    IsFileOf honest seen may_leave fresh hall pass old → new.mark.version ≡ length (seen_log hall old.room pass')

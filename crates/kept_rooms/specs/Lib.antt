@@ -2,3 +2,4 @@ pub mod SeenLogs
 pub mod Keeping
 pub mod Covered
 pub mod Opening
+pub mod Outputs

@@ -1,7 +1,11 @@
 //! A connection whose output waits: it goes out once what the connection was answered is kept.
 ghost use Rattle.std.specs.Prelude.{◌≡◌, ◌<◌, ◌≤◌, length, IfOk};
+ghost use Rattle.tungstenite.specs.Socket.{Reads};
 ghost use Rattle.ws_server.specs.Halls.{rooms_of, IsHallPassOf, IsConnOf};
+ghost use Rattle.ws_server.specs.Serving.{IsNew, ServesTurn};
+ghost use Rattle.ws_server.specs.Sockets.{IsOfHandshake, Sends};
 ghost use Rattle.kept_rooms.specs.Covered.{AreCovered};
+ghost use Rattle.kept_rooms.specs.Outputs.{output_of};
 
 use crate::held::HeldStream;
 use crate::waiting::{Waiting, wait_until_kept};
@@ -35,6 +39,8 @@ impl<'a, S: Read + Write + Drop> KeptConnection<'a, S> {
         ensures hall { IfOk result (λ it. it.hall ≡ hall.entry) }
         ensures pass { IfOk result (λ it. IsHallPassOf it.hall.now it.pass) }
         ensures conn { IfOk result (λ it. IsConnOf it.hall.now it.conn) }
+        ensures given { IfOk result (λ it. it.pass ≡ pass) }
+        ensures taken { IfOk result (λ it. IsOfHandshake it.socket × IsNew it.conn) }
     {
         match shake_hands(alloc, HeldStream::new(alloc, stream)) {
             Ok(socket) => Ok(KeptConnection {
@@ -69,6 +75,10 @@ impl<'a, S: Read + Write + Drop> KeptConnection<'a, S> {
         ensures hall { self.new.hall ≡ self.old.hall }
         ensures pass { IsHallPassOf self.new.hall.now self.new.pass }
         ensures conn { IsConnOf self.new.hall.now self.new.conn }
+        ensures served { ServesTurn (λ old result new. Reads (λ it. S.remaining it.stream) old new result) (Sends (output_of S.contents))
+            G.told_before G.told_after self.old.hall.now
+            self.old.socket (record { conn = self.old.conn; passes = self.old.pass.passes.items; gate = gate.old })
+            self.new.socket (record { conn = self.new.conn; passes = self.new.pass.passes.items; gate = gate.new }) result }
     {
         serve_one(
             rt,

@@ -6,6 +6,7 @@
 
 mod connection;
 mod held;
+pub mod laws;
 mod opening;
 mod serving;
 mod turn;

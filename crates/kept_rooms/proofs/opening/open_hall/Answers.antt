@@ -1,9 +1,9 @@
 -- Each document that is taken becomes the next replica.
-use Rattle.std.proofs.Common.{◌≡◌, ◌+◌, ℕ, List, ◌∷◌, ◌++◌, ◌∙◌, [], map, take, All, ap, sym, refl, arith}
-use Rattle.std.proofs.lemmas.List.{take_all, take_more}
+use Rattle.std.proofs.Common.{◌≡◌, ◌+◌, List, ◌∷◌, ◌++◌, ◌∙◌, [], map, take, All, ap, sym, refl, arith}
+use Rattle.std.proofs.lemmas.List.{take_more}
 use Rattle.std.proofs.lemmas.Option.{slice_get_within, get_or_from_slice_get}
 use Rattle.std.proofs.lemmas.List.Elements.{All-same, All-push, All-head, All-drop, All-map}
-use Rattle.std.specs.Vec.Iter.{into_iter_items, into_iter_len}
+use Rattle.std.specs.Vec.Iter.{into_iter_len}
 use Rattle.versions.specs.Document.{Document}
 use Rattle.replica.specs.Deliver.{ReplicaState}
 use Rattle.snapshot.specs.Snapshot.{LacksSite}

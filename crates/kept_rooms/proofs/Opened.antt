@@ -1,0 +1,112 @@
+-- What the first pass of a hall has seen of its rooms, and a pass that was split off.
+use Rattle.std.proofs.Common.{◌≡◌, ℕ, zero, suc, ◌<◌, List, [], ◌∷◌, length, map, Option, Some, None, slice_get}
+use Rattle.std.proofs.Common.{string_bytes}
+use Rattle.std.proofs.Common.{refl, ap, ap₂, sym, subst, ◌∙◌, arith}
+use Rattle.std.proofs.lemmas.List.{length-map}
+use Rattle.std.proofs.lemmas.Option.{slice_get_within}
+use Rattle.versions.specs.Document.{Document}
+use Rattle.room.specs.Machine.{State, room_over}
+use Rattle.room.specs.History.{state_of}
+use Rattle.shared_room.specs.declared.pass.Pass.{Pass}
+use Rattle.shared_room.specs.declared.shared.SharedRoom.{SharedRoom}
+use Rattle.shared_room.specs.Views.{View, view, opening}
+use Rattle.ws_server.specs.declared.hall.Hall.{Hall}
+use Rattle.ws_server.specs.declared.hall.HallPass.{HallPass}
+use Rattle.ws_server.specs.Halls.{rooms_of, first_view, IsOpenedOver, AreSplit}
+use Rattle.keeper.specs.Kept.{Keeps}
+use Rattle.keeper.specs.declared.kept.KeptFile.{KeptFile}
+use Rattle.kept_rooms.specs.SeenLogs.{log_between, seen_log}
+use Rattle.kept_rooms.specs.Keeping.{IsFileOf}
+use Rattle.kept_rooms.specs.Opening.{over_document}
+
+-- where two lists have the same images, there is an element of the first with the image of that of the second
+mapped_at : {A B C : Type 0} (f : A → C) (g : B → C) (xs : List A) (ys : List B) (k : ℕ) (y : B) → map f xs ≡ map g ys
+    → slice_get ys k ≡ Some y → (x : A) × (slice_get xs k ≡ Some x) × (f x ≡ g y)
+mapped_at f g [] [] k y same there = absurd cc
+mapped_at f g [] (z ∷ ys) k y same there = absurd (cc same)
+mapped_at f g (x ∷ xs) [] k y same there = absurd (cc same)
+mapped_at {A} {B} {C} f g (x ∷ xs) (z ∷ ys) zero y same there =
+    let one : z ≡ y = cc there in
+    let head : f x ≡ g z = cc same in
+    (x, refl, head ∙ ap g one)
+mapped_at {A} {B} {C} f g (x ∷ xs) (z ∷ ys) (suc k) y same there =
+    let tails : map f xs ≡ map g ys = cc same in
+    mapped_at f g xs ys k y tails there
+
+-- there is an element at each place within
+within_at : {A : Type 0} (xs : List A) (k : ℕ) → k < length xs → (x : A) × (slice_get xs k ≡ Some x)
+within_at [] k less = absurd (omega (arith, less))
+within_at (x ∷ xs) zero less = (x, refl)
+within_at {A} (x ∷ xs) (suc k) less = within_at xs k (omega (arith, less))
+
+-- a new pass has seen nothing, so that the log is that of the opening
+pub opened_seen : (names : List (List ℕ)) (site : ℕ) (docs : List Document) (hall : Hall) (pass : HallPass) (at : ℕ) (doc : Document)
+    → IsOpenedOver names (map (over_document site) docs) hall pass → slice_get docs at ≡ Some doc
+    → (room : SharedRoom) × (slice_get (rooms_of hall) at ≡ Some room) × (opening room ≡ room_over site doc.log)
+    × (seen_log hall at pass ≡ doc.log)
+opened_seen names site docs hall pass at doc opened there =
+    let rooms : map opening (rooms_of hall) ≡ map (λ (d : Document). room_over site d.log) docs =
+    opened.rooms ∙ flat docs in
+    let room = mapped_at opening (λ (d : Document). room_over site d.log) (rooms_of hall) docs at doc rooms there in
+    let count : length names ≡ length (rooms_of hall) =
+    ap length (sym opened.names) ∙ length-map hall.rooms.entries (λ e. string_bytes e.0) ∙ sym (length-map hall.rooms.entries (λ e. e.1)) in
+    let less : at < length (rooms_of hall) = slice_get_within (rooms_of hall) at room.0 room.1 in
+    let name = within_at names at (omega (arith, count, less)) in
+    let pass_there = mapped_at view (λ (name : List ℕ). first_view) pass.passes.items names at name.0 opened.passes name.1 in (
+      room.0,
+      room.1,
+      room.2,
+      ap₂ log_between room.1 pass_there.1
+          ∙ ap (λ (v : View). (state_of (opening room.0) v.seen).log) pass_there.2 ∙ ap (λ (S : State). S.log) room.2,
+    )
+  where
+    flat : (docs : List Document) → map (λ r. room_over r.site r.log) (map (over_document site) docs)
+        ≡ map (λ (d : Document). room_over site d.log) docs
+    flat [] = refl
+    flat (d ∷ docs) = ap (λ l. room_over site d.log ∷ l) (flat docs)
+
+-- so each file is that of its room
+pub opened_file : {D : Type 0} (honest : D → Type 0) (seen : D → List ℕ) (may_leave : D → List ℕ → Type 0) (fresh : D → ℕ)
+    (names : List (List ℕ)) (site : ℕ) (docs : List Document) (hall : Hall) (pass : HallPass) (file : KeptFile D) (doc : Document)
+    → site < 32 → IsOpenedOver names (map (over_document site) docs) hall pass → slice_get docs file.room ≡ Some doc
+    → Keeps honest seen may_leave fresh file doc.log → IsFileOf honest seen may_leave fresh hall pass file
+opened_file honest seen may_leave fresh names site docs hall pass file doc one opened there keeps =
+    let found = opened_seen names site docs hall pass file.room doc opened there in
+    record {
+      within = slice_get_within (rooms_of hall) file.room found.0 found.1;
+      over = record {
+        room = found.0;
+        there = found.1;
+        site = site;
+        log = doc.log;
+        one = one;
+        opened = found.2;
+        lawful = keeps.front.lawful;
+        few = keeps.front.few;
+      };
+      keeps = subst (Keeps honest seen may_leave fresh file) (sym found.3) keeps;
+    }
+
+-- what passes have seen that were split, at each place
+split_at : (count : ℕ) (old new given : List Pass) (at : ℕ) (room : Option SharedRoom) → AreSplit count (length old) old new given
+    → (log_between room (slice_get new at) ≡ log_between room (slice_get old at))
+    × (log_between room (slice_get given at) ≡ log_between room (slice_get old at))
+split_at count [] new given at room split = (ap (λ l. log_between room (slice_get l at)) split.0, ap (λ l. log_between room (slice_get l at)) split.1)
+split_at count (p ∷ old) [] given at room split = absurd split
+split_at count (p ∷ old) (q ∷ new) [] at room split = absurd split
+split_at count (p ∷ old) (q ∷ new) (r ∷ given) zero None split = (refl, refl)
+split_at count (p ∷ old) (q ∷ new) (r ∷ given) zero (Some room) split =
+    (ap (λ (v : View). (state_of (opening room) v.seen).log) split.0, ap (λ (v : View). (state_of (opening room) v.seen).log) split.1)
+split_at count (p ∷ old) (q ∷ new) (r ∷ given) (suc at) room split = split_at count old new given at room split.2
+
+-- so their files stay those of their rooms
+pub split_file : {D : Type 0} (honest : D → Type 0) (seen : D → List ℕ) (may_leave : D → List ℕ → Type 0) (fresh : D → ℕ)
+    (hall : Hall) (old new given : HallPass) (count : ℕ) (file : KeptFile D)
+    → AreSplit count (length old.passes.items) old.passes.items new.passes.items given.passes.items
+    → IsFileOf honest seen may_leave fresh hall old file
+    → IsFileOf honest seen may_leave fresh hall new file × IsFileOf honest seen may_leave fresh hall given file
+split_file honest seen may_leave fresh hall old new given count file split is =
+    let logs = split_at count old.passes.items new.passes.items given.passes.items file.room (slice_get (rooms_of hall) file.room) split in (
+      record { within = is.within; over = is.over; keeps = subst (Keeps honest seen may_leave fresh file) (sym logs.0) is.keeps },
+      record { within = is.within; over = is.over; keeps = subst (Keeps honest seen may_leave fresh file) (sym logs.1) is.keeps },
+    )

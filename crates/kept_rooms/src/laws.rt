@@ -1,0 +1,31 @@
+//! Laws of rooms that are kept: each is the contract of a function that does nothing, so that it is proved with the crate.
+ghost use Rattle.std.specs.Prelude.{◌≡◌, ◌<◌, ℕ, List, Some, length, map, slice_get};
+ghost use Rattle.versions.specs.Document.{Document};
+ghost use Rattle.ws_server.specs.declared.hall.Hall.{Hall};
+ghost use Rattle.ws_server.specs.declared.hall.HallPass.{HallPass};
+ghost use Rattle.ws_server.specs.Halls.{IsOpenedOver, AreSplit};
+ghost use Rattle.keeper.specs.Turn.{OpensAs};
+ghost use Rattle.keeper.specs.Kept.{Keeps};
+ghost use Rattle.keeper.specs.declared.kept.KeptFile.{KeptFile};
+ghost use Rattle.kept_rooms.specs.Keeping.{IsFileOf};
+ghost use Rattle.kept_rooms.specs.Opening.{over_document};
+ghost use Rattle.kept_rooms.specs.SeenLogs.{seen_log};
+
+use keeper::Disk;
+
+/// A hall was opened over documents, of which the file of each room keeps the one at its place, as `find` tells: then the file keeps what
+/// the first pass has seen of its room, so that turns of it go on from its mark. So it does for a pass that was split off, and for the one
+/// that is left. Where all is kept that a pass has seen, a crash leaves a file that opens as no less than that log.
+pub fn rooms_are_kept<D: Disk>()
+    ensures opened { (names : List (List ℕ)) (site : ℕ) (docs : List Document) (hall : Hall) (pass : HallPass) (file : KeptFile D)
+        (doc : Document) → site < 32 → IsOpenedOver names (map (over_document site) docs) hall pass
+        → slice_get docs file.room ≡ Some doc → Keeps D.honest D.seen D.may_leave D.fresh file doc.log
+        → IsFileOf D.honest D.seen D.may_leave D.fresh hall pass file }
+    ensures split { (hall : Hall) (old new given : HallPass) (count : ℕ) (file : KeptFile D)
+        → AreSplit count (length old.passes.items) old.passes.items new.passes.items given.passes.items
+        → IsFileOf D.honest D.seen D.may_leave D.fresh hall old file
+        → IsFileOf D.honest D.seen D.may_leave D.fresh hall new file × IsFileOf D.honest D.seen D.may_leave D.fresh hall given file }
+    ensures whole { (hall : Hall) (pass : HallPass) (file : KeptFile D) → IsFileOf D.honest D.seen D.may_leave D.fresh hall pass file
+        → file.mark.version ≡ length (seen_log hall file.room pass)
+        → (c : List ℕ) → D.may_leave file.disk c → OpensAs (length (seen_log hall file.room pass)) (seen_log hall file.room pass) c }
+{}
