@@ -1,6 +1,7 @@
 -- What the first pass of a hall has seen of its rooms, and a pass that was split off.
 use Rattle.std.proofs.Common.{◌≡◌, ℕ, zero, suc, ◌<◌, List, [], ◌∷◌, length, map, Option, Some, None, slice_get}
-use Rattle.std.proofs.Common.{string_bytes}
+use Rattle.std.proofs.Common.{◌++◌, ◌+◌, string_bytes}
+use Rattle.std.specs.List.{range_with_len}
 use Rattle.std.proofs.Common.{refl, ap, ap₂, sym, subst, ◌∙◌, arith}
 use Rattle.std.proofs.lemmas.List.{length-map}
 use Rattle.std.proofs.lemmas.Option.{slice_get_within}
@@ -15,7 +16,7 @@ use Rattle.ws_server.specs.declared.hall.HallPass.{HallPass}
 use Rattle.ws_server.specs.Halls.{rooms_of, first_view, IsOpenedOver, AreSplit}
 use Rattle.keeper.specs.Kept.{Keeps}
 use Rattle.keeper.specs.declared.kept.KeptFile.{KeptFile}
-use Rattle.kept_rooms.specs.SeenLogs.{log_between, seen_log}
+use Rattle.kept_rooms.specs.SeenLogs.{log_between, seen_log, SeeAlike}
 use Rattle.kept_rooms.specs.Keeping.{IsFileOf}
 use Rattle.kept_rooms.specs.Opening.{over_document}
 
@@ -110,3 +111,23 @@ split_file honest seen may_leave fresh hall old new given count file split is =
       record { within = is.within; over = is.over; keeps = subst (Keeps honest seen may_leave fresh file) (sym logs.0) is.keeps },
       record { within = is.within; over = is.over; keeps = subst (Keeps honest seen may_leave fresh file) (sym logs.1) is.keeps },
     )
+
+-- so passes that were split have seen what the one had before
+pub alike_split : (hall : Hall) (first old new given : HallPass) (count : ℕ) → SeeAlike hall first old
+    → AreSplit count (length old.passes.items) old.passes.items new.passes.items given.passes.items
+    → SeeAlike hall first new × SeeAlike hall first given
+alike_split hall first old new given count alike split =
+    let logs : (at : ℕ) → (seen_log hall at new ≡ seen_log hall at old) × (seen_log hall at given ≡ seen_log hall at old) =
+    λ at. split_at count old.passes.items new.passes.items given.passes.items at (slice_get (rooms_of hall) at) split in
+    (λ at. (logs at).0 ∙ alike at, λ at. (logs at).1 ∙ alike at)
+
+-- one number more
+range_suc : (a n last : ℕ) → last ≡ a + n → range_with_len a (suc n) ≡ range_with_len a n ++ last ∷ []
+range_suc a zero last is = ap (λ (m : ℕ). m ∷ []) (let e : a ≡ last = omega (arith, is) in e)
+range_suc a (suc n) last is = ap (λ l. a ∷ l) (range_suc (a + 1) n last (let e : last ≡ a + 1 + n = omega (arith, is) in e))
+
+pub range_more : (n : ℕ) → range_with_len 0 (n + 1) ≡ range_with_len 0 n ++ n ∷ []
+range_more n =
+    let e : n + 1 ≡ suc n = omega arith in
+    let f : n ≡ 0 + n = omega arith in
+    ap (range_with_len 0) e ∙ range_suc 0 n n f

@@ -1,5 +1,5 @@
 -- The log of a room, as far as a pass has seen it. The rules are the server's own.
-use Rattle.std.specs.Prelude.{ℕ, List, [], Option, Some, None, slice_get}
+use Rattle.std.specs.Prelude.{◌≡◌, ℕ, List, [], Option, Some, None, slice_get}
 use Rattle.opid.specs.Operations.{Operation}
 use Rattle.room.specs.History.{state_of}
 use Rattle.shared_room.specs.declared.pass.Pass.{Pass}
@@ -22,3 +22,7 @@ log_between None pass = []
 -- the log of the hall's room at this place, after the calls that its pass has seen
 abbrev pub seen_log : Hall → ℕ → HallPass → List Operation
 seen_log hall at pass = log_between (slice_get (rooms_of hall) at) (slice_get pass.passes.items at)
+
+-- of each room both passes have seen the same log
+abbrev pub SeeAlike : Hall → HallPass → HallPass → Type 0
+SeeAlike hall pass other = (at : ℕ) → seen_log hall at other ≡ seen_log hall at pass

@@ -4,6 +4,7 @@
 //! `specs/Covered.antt`.
 #![tactic(auto)]
 
+mod assigning;
 mod connection;
 mod held;
 pub mod laws;
@@ -12,6 +13,7 @@ mod serving;
 mod turn;
 mod waiting;
 
+pub use assigning::{Assigned, assign_rooms};
 pub use connection::KeptConnection;
 pub use held::HeldStream;
 pub use opening::{Unopened, open_hall};
