@@ -100,17 +100,15 @@ split_at count (p ∷ old) (q ∷ new) (r ∷ given) zero (Some room) split =
     (ap (λ (v : View). (state_of (opening room) v.seen).log) split.0, ap (λ (v : View). (state_of (opening room) v.seen).log) split.1)
 split_at count (p ∷ old) (q ∷ new) (r ∷ given) (suc at) room split = split_at count old new given at room split.2
 
--- so their files stay those of their rooms
-pub split_file : {D : Type 0} (honest : D → Type 0) (seen : D → List ℕ) (may_leave : D → List ℕ → Type 0) (fresh : D → ℕ)
-    (hall : Hall) (old new given : HallPass) (count : ℕ) (file : KeptFile D)
-    → AreSplit count (length old.passes.items) old.passes.items new.passes.items given.passes.items
-    → IsFileOf honest seen may_leave fresh hall old file
-    → IsFileOf honest seen may_leave fresh hall new file × IsFileOf honest seen may_leave fresh hall given file
-split_file honest seen may_leave fresh hall old new given count file split is =
-    let logs = split_at count old.passes.items new.passes.items given.passes.items file.room (slice_get (rooms_of hall) file.room) split in (
-      record { within = is.within; over = is.over; keeps = subst (Keeps honest seen may_leave fresh file) (sym logs.0) is.keeps },
-      record { within = is.within; over = is.over; keeps = subst (Keeps honest seen may_leave fresh file) (sym logs.1) is.keeps },
-    )
+-- the file of a room is it for each pass that has seen the same
+pub alike_file : {D : Type 0} (honest : D → Type 0) (seen : D → List ℕ) (may_leave : D → List ℕ → Type 0) (fresh : D → ℕ)
+    (hall : Hall) (pass other : HallPass) (file : KeptFile D) → SeeAlike hall pass other
+    → IsFileOf honest seen may_leave fresh hall pass file → IsFileOf honest seen may_leave fresh hall other file
+alike_file honest seen may_leave fresh hall pass other file alike is = record {
+  within = is.within;
+  over = is.over;
+  keeps = subst (Keeps honest seen may_leave fresh file) (sym (alike file.room)) is.keeps;
+}
 
 -- so passes that were split have seen what the one had before
 pub alike_split : (hall : Hall) (first old new given : HallPass) (count : ℕ) → SeeAlike hall first old

@@ -9,22 +9,23 @@ ghost use Rattle.keeper.specs.Kept.{Keeps};
 ghost use Rattle.keeper.specs.declared.kept.KeptFile.{KeptFile};
 ghost use Rattle.kept_rooms.specs.Keeping.{IsFileOf};
 ghost use Rattle.kept_rooms.specs.Opening.{over_document};
-ghost use Rattle.kept_rooms.specs.SeenLogs.{seen_log};
+ghost use Rattle.kept_rooms.specs.SeenLogs.{seen_log, SeeAlike};
 
 use keeper::Disk;
 
-/// A hall was opened over documents, of which the file of each room keeps the one at its place, as `find` tells: then the file keeps what
-/// the first pass has seen of its room, so that turns of it go on from its mark. So it does for a pass that was split off, and for the one
-/// that is left. Where all is kept that a pass has seen, a crash leaves a file that opens as no less than that log.
+/// A hall was opened over documents, of which the file of a room keeps the one at its place, as `find` tells: then the file keeps what the
+/// first pass has seen of its room, so that turns of it go on from its mark. A pass that is split off has seen the same, and so has the one
+/// that is left: so it is for these. Where all is kept that a pass has seen, a crash leaves a file that opens as no less than that log.
 pub fn rooms_are_kept<D: Disk>()
     ensures opened { (names : List (List ℕ)) (site : ℕ) (docs : List Document) (hall : Hall) (pass : HallPass) (file : KeptFile D)
         (doc : Document) → site < 32 → IsOpenedOver names (map (over_document site) docs) hall pass
         → slice_get docs file.room ≡ Some doc → Keeps D.honest D.seen D.may_leave D.fresh file doc.log
         → IsFileOf D.honest D.seen D.may_leave D.fresh hall pass file }
-    ensures split { (hall : Hall) (old new given : HallPass) (count : ℕ) (file : KeptFile D)
+    ensures split { (hall : Hall) (old new given : HallPass) (count : ℕ)
         → AreSplit count (length old.passes.items) old.passes.items new.passes.items given.passes.items
-        → IsFileOf D.honest D.seen D.may_leave D.fresh hall old file
-        → IsFileOf D.honest D.seen D.may_leave D.fresh hall new file × IsFileOf D.honest D.seen D.may_leave D.fresh hall given file }
+        → SeeAlike hall old new × SeeAlike hall old given }
+    ensures alike { (hall : Hall) (pass other : HallPass) (file : KeptFile D) → SeeAlike hall pass other
+        → IsFileOf D.honest D.seen D.may_leave D.fresh hall pass file → IsFileOf D.honest D.seen D.may_leave D.fresh hall other file }
     ensures whole { (hall : Hall) (pass : HallPass) (file : KeptFile D) → IsFileOf D.honest D.seen D.may_leave D.fresh hall pass file
         → file.mark.version ≡ length (seen_log hall file.room pass)
         → (c : List ℕ) → D.may_leave file.disk c → OpensAs (length (seen_log hall file.room pass)) (seen_log hall file.room pass) c }

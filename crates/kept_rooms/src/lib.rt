@@ -1,7 +1,7 @@
 //! Rooms whose logs are kept in files: turns of keeping, and answers that wait until they are kept.
 //!
 //! What a pass has seen of a log stands in `specs/SeenLogs.antt`; what a turn does in `specs/Keeping.antt`; which bytes may go out in
-//! `specs/Covered.antt`.
+//! `specs/Covered.antt`. That turns can be taken of rooms that were opened over files is a law (`laws`).
 #![tactic(auto)]
 
 mod assigning;
