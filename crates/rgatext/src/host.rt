@@ -1,16 +1,17 @@
 //! Serves rooms over WebSockets on loopback: a thread for each connection, and one for each room that looks at it meanwhile.
-ghost use Rattle.std.specs.Prelude.{◌≡◌, ◌↔◌, true, false, length, Err, IfOk};
+ghost use Rattle.std.specs.Prelude.{◌≡◌, ◌↔◌, false, length, Err, IfOk};
 ghost use Rattle.std.specs.Thread.{IsSync};
 ghost use Rattle.ws_server.specs.Halls.{rooms_of, IsHallPassOf};
 ghost use Rattle.ws_server.specs.Names.{names_fit};
 
 use crate::ends::Connections;
+use crate::listener::{closed, fitting, listen, serve_all};
 use crate::rooms::{Opened, open_rooms};
+use crate::serving::{Serving, Shared};
 use crate::stop::{await_stop, remove_stop};
-use crate::watch::{Ended, Rhythm, Watched, watch};
+use crate::watch::{Ended, LOOKS, Watched, watch};
 use commands::Stop;
-use keeper::Kept;
-use kept_rooms::{KeptConnection, Waiting, serve_kept};
+use kept_rooms::Waiting;
 use line_engine::ServeFault;
 use log::{Log, warn};
 use opid::{Refusal, Site};
@@ -18,165 +19,12 @@ use std::alloc::{AllocError, Global};
 use std::fs::{File, Files};
 use std::io::Print;
 use std::net::{Net, TcpListener, TcpStream};
+use std::sync::Wait;
 use std::sync::atomic::{AtomicBool, Ordering};
-use std::sync::{Arc, Wait};
+use std::thread;
 use std::thread::Threads;
-use std::time::{Clock, Duration};
-use std::{fmt, thread};
-use ws_server::{Gate, Hall, HallPass, names_fit, serve_socket};
-
-// How many calls a connection may make in each room.
-const DRAWS: u64 = 2_097_152;
-
-// How often a room is looked at at most, by who watches it and where answers wait: each millisecond for more than 30 years.
-const LOOKS: u64 = 1 << 40;
-
-// How often rooms are looked at where no other number of seconds is named.
-const SECONDS: u32 = 5;
-
-/// What `serve` is to do, as the plan tells it.
-#[derive(Clone, Copy)]
-pub(crate) struct Serving<'a> {
-    pub(crate) port: u16,
-    pub(crate) site: Option<Site>,
-    pub(crate) conns: u32,
-    pub(crate) keep: Option<&'a str>,
-    pub(crate) every: Option<u32>,
-    pub(crate) names: &'a [String],
-}
-
-impl Serving<'_> {
-    // When the rooms are looked at.
-    fn rhythm(&self) -> Rhythm {
-        Rhythm {
-            every: Duration::from_secs(self.every.unwrap_or(SECONDS) as u64),
-            do_answers_wait: self.keep.is_some() && self.every.is_none(),
-        }
-    }
-}
-
-// A gate that lets everything pass.
-#[derive(Drop)]
-struct Open;
-
-impl Gate for Open {
-    ghost told_before = { λ _ _ _. Unit {0} };
-
-    ghost told_after = { λ _ _ _. Unit {0} };
-
-    fn before(&mut self, _n: u64) {}
-
-    fn after(&mut self, _n: u64) {}
-}
-
-// What the threads of connections share.
-#[derive(Clone, Copy)]
-struct Shared<'a> {
-    hall: &'a Hall,
-    waiting: &'a [Waiting],
-    connections: &'a Connections,
-    is_ending: &'a AtomicBool,
-    rhythm: Rhythm,
-}
-
-impl Shared<'_> {
-    // How many turns a connection may take in each room. Where its answers wait each look takes one.
-    fn draws(&self) -> u64 {
-        if self.rhythm.do_answers_wait {
-            LOOKS
-        } else {
-            DRAWS
-        }
-    }
-}
-
-// Serves one connection to its end, and notes how that was. Where the server ends, it is no fault that a connection is hung up.
-fn serve<R: Wait + Clock>(
-    rt: &R,
-    alloc: Global,
-    shared: Shared<'_>,
-    mut pass: HallPass,
-    stream: Arc<TcpStream, Global>,
-    place: usize,
-)
-    requires pass { IsHallPassOf shared.hall.now pass }
-    requires counted { length shared.waiting.now ≡ length (rooms_of shared.hall.now) }
-{
-    let Shared {
-        hall,
-        waiting,
-        connections,
-        is_ending,
-        rhythm,
-    } = shared;
-    let served = if rhythm.do_answers_wait {
-        match KeptConnection::open(alloc, hall, pass, &*stream) {
-            Ok(mut it) => serve_kept(rt, alloc, waiting, &mut it, &mut Open, is_ending),
-            Err(why) => Err(why),
-        }
-    } else {
-        serve_socket(rt, alloc, hall, &mut pass, &*stream, &mut Open)
-    };
-    let end = match served {
-        Err(why) if !is_ending.load(Ordering::SeqCst) => Some(why),
-        _ => None,
-    };
-    connections.end(rt, place, end);
-}
-
-// The next connection, which sends what it has at once: a reply that waits to be longer would hold up a client that
-// sends many requests before it reads. One that can't be had is warned of.
-fn accept<R: Log>(
-    rt: &R,
-    alloc: Global,
-    listener: &TcpListener,
-) -> Result<Arc<TcpStream, Global>, Stop>
-    ensures fits { (result ≡ Err (Stop.Refused Refusal.BadField)) → ⊥ }
-{
-    match listener.accept() {
-        Ok((stream, _)) => {
-            // No answer waits for another (docs/decisions, P15). Where this fails the other side has gone, as the first read will tell.
-            let _ = stream.set_nodelay(true);
-            match Arc::new(alloc, stream) {
-                Ok(stream) => Ok(stream),
-                Err(_) => Err(closed(rt, Stop::Fault(ServeFault::Memory))),
-            }
-        }
-        Err(why) => {
-            warn_closed(rt, &why);
-            Err(Stop::Socket)
-        }
-    }
-}
-
-// Warns that nobody listens any more, and passes on how `serve` ends by that.
-fn closed<R: Log>(rt: &R, stop: Stop) -> Stop
-    ensures { result ≡ stop }
-{
-    warn_closed(rt, &stop);
-    stop
-}
-
-// Warns that nobody listens any more, and why.
-fn warn_closed<R: Log, W: fmt::Display>(rt: &R, why: &W) {
-    warn!(rt; "no further connection is accepted: {why}");
-}
-
-// A listener at the port, once it was told of.
-fn listen<R: Net<Listener = TcpListener, Stream = TcpStream> + Print>(
-    rt: &R,
-    port: u16,
-) -> Result<TcpListener, Stop>
-    ensures fits { (result ≡ Err (Stop.Refused Refusal.BadField)) → ⊥ }
-{
-    let Ok(listener) = TcpListener::bind(rt, ("127.0.0.1", port)) else {
-        return Err(Stop::Socket);
-    };
-    match println!(rt; "listening {port}") {
-        Ok(()) => Ok(listener),
-        Err(_) => Err(Stop::Fault(ServeFault::Write)),
-    }
-}
+use std::time::Clock;
+use ws_server::names_fit;
 
 // Tells which site the rooms are opened at, where they are kept.
 fn tell_site<R: Print>(rt: &R, serving: &Serving<'_>, site: Site) -> Result<(), Stop>
@@ -191,86 +39,13 @@ fn tell_site<R: Print>(rt: &R, serving: &Serving<'_>, site: Site) -> Result<(), 
     }
 }
 
-// Serves so many connections, each by a thread, until all have ended. Once the last is accepted, or one can't be had,
-// nobody listens any more (docs/decisions, P17), which is warned of; or once the server is to end. A thread's handle is given up at once,
-// so that a thread that has ended leaves nothing behind (docs/decisions, P16).
-fn serve_all<R: Clock + Threads + Wait + Log + Sync>(
-    rt: &R,
-    alloc: Global,
-    shared: Shared<'_>,
-    mut pass: HallPass,
-    listener: TcpListener,
-    serving: &Serving<'_>,
-) -> Result<(), Stop>
-    requires pass { IsHallPassOf shared.hall.now pass }
-    requires counted { length shared.waiting.now ≡ length (rooms_of shared.hall.now) }
-    ensures fits { (result ≡ Err (Stop.Refused Refusal.BadField)) → ⊥ }
-{
-    let (conns, may_be_hung_up) = (serving.conns, serving.keep.is_some());
-    let draws = shared.draws();
-    let served = thread::scope(
-        thread::scope_env(),
-        rt,
-        move |scope| -> Result<(), Stop>
-            requires { IsSync R.row × IsHallPassOf shared.hall.now pass
-                × (length shared.waiting.now ≡ length (rooms_of shared.hall.now)) }
-            ensures { (result ≡ Err (Stop.Refused Refusal.BadField)) → ⊥ }
-        {
-            for n in 0..conns {
-                let stream = accept(rt, alloc, &listener)?;
-                if shared.is_ending.load(Ordering::SeqCst) {
-                    return Ok(());
-                }
-                let given = match shared.hall.split(alloc, &mut pass, draws) {
-                    Ok(given) => given,
-                    Err(why) => return Err(closed(rt, Stop::of(why))),
-                };
-                let Ok(kept) = handle_of(&stream, may_be_hung_up) else {
-                    return Err(closed(rt, Stop::Fault(ServeFault::Memory)));
-                };
-                if shared.connections.add(rt, kept).is_err() {
-                    return Err(closed(rt, Stop::Fault(ServeFault::Memory)));
-                }
-                let worker = scope.spawn(
-                    move ||
-                        requires { IsSync R.row × IsHallPassOf shared.hall.now given
-                            × (length shared.waiting.now ≡ length (rooms_of shared.hall.now)) }
-                    { serve(rt, alloc, shared, given, stream, n as usize) },
-                );
-                if worker.is_err() {
-                    return Err(closed(rt, Stop::Socket));
-                }
-            }
-            warn!(rt; "the last of {conns} connections is accepted: nobody listens any more");
-            Ok(())
-        },
-    );
-    fitting(served)
-}
-
-// Another handle of the stream, if there is to be one.
-fn handle_of(
-    stream: &Arc<TcpStream, Global>,
-    is_wanted: bool,
-) -> Result<Option<Arc<TcpStream, Global>>, AllocError> {
-    if is_wanted {
-        Ok(Some(Arc::try_clone(stream)?))
-    } else {
-        Ok(None)
-    }
-}
-
-// How far each room of the hall is kept, for those who wait.
-fn waiting_of(alloc: Global, hall: &Hall, watched: &[Watched]) -> Result<Vec<Waiting>, AllocError>
-    ensures { IfOk result (λ waiting. length waiting.items ≡ length (rooms_of hall.now)) }
+// How far each room is kept, for those who wait.
+fn waiting_of(alloc: Global, watched: &[Watched]) -> Result<Vec<Waiting>, AllocError>
+    ensures { IfOk result (λ waiting. length waiting.items ≡ length watched.now) }
 {
     let mut waiting = Vec::new(alloc);
-    for place in 0..hall.len() {
-        let kept = match watched.get(place) {
-            Some(room) => room.kept(place),
-            None => Kept::nothing(place),
-        };
-        waiting.push(Waiting::new(kept))?;
+    for room in watched {
+        waiting.push(Waiting::new(room.kept(waiting.len())))?;
     }
     Ok(waiting)
 }
@@ -294,7 +69,8 @@ fn serve_watched<
     stop: Option<&str>,
     connections: &Connections,
 ) -> Result<(), Stop>
-    requires { IsHallPassOf opened.hall opened.pass }
+    requires pass { IsHallPassOf opened.hall opened.pass }
+    requires counted { length opened.watched.items ≡ length (rooms_of opened.hall) }
     ensures fits { (result ≡ Err (Stop.Refused Refusal.BadField)) → ⊥ }
 {
     let Opened {
@@ -304,7 +80,7 @@ fn serve_watched<
         site: _,
         lock,
     } = opened;
-    let Ok(waiting) = waiting_of(alloc, &hall, watched.as_slice()) else {
+    let Ok(waiting) = waiting_of(alloc, watched.as_slice()) else {
         return Err(Stop::Fault(ServeFault::Memory));
     };
     let (ended, is_lost) = (&Ended::new(), &AtomicBool::new(false));
@@ -395,16 +171,6 @@ fn serve_watched<
     whole(!is_lost.load(Ordering::SeqCst), fitting(served))
 }
 
-// How threads served connections, of which no contract tells. The rooms' names fit, as was looked at before, so that isn't why they ended.
-fn fitting(served: Result<(), Stop>) -> Result<(), Stop>
-    ensures fits { (result ≡ Err (Stop.Refused Refusal.BadField)) → ⊥ }
-{
-    match served {
-        Err(Stop::Refused(Refusal::BadField)) => Err(Stop::Socket),
-        served => served,
-    }
-}
-
 // How it ends where all connections have ended so, and all that was to be kept is, or isn't.
 fn whole(is_whole: bool, served: Result<(), Stop>) -> Result<(), Stop>
     requires { (served ≡ Err (Stop.Refused Refusal.BadField)) → ⊥ }
@@ -444,23 +210,6 @@ pub(crate) fn host<
     if !names_fit(serving.names) {
         return Err(Stop::Refused(Refusal::BadField));
     }
-    serve_rooms(rt, alloc, serving)
-}
-
-// The same, where the names fit.
-fn serve_rooms<
-    R: Net<Listener = TcpListener, Stream = TcpStream>
-        + Files<File = File>
-        + Clock
-        + Threads
-        + Wait
-        + Print
-        + Log
-        + Sync,
->(rt: &R, alloc: Global, serving: &Serving<'_>) -> Result<(), Stop>
-    requires { names_fit serving.now.names.now ≡ true }
-    ensures fits { (result ≡ Err (Stop.Refused Refusal.BadField)) → ⊥ }
-{
     let path = stop_path(alloc, serving.keep)?;
     let stop = path.as_ref().map(|path| path.as_str());
     let opened = open_rooms(rt, alloc, serving.keep, serving.site, serving.names)?;

@@ -1,6 +1,6 @@
 //! The rooms before the first connection: over what the files of a folder stand for, or empty where nothing is kept.
-ghost use Rattle.std.specs.Prelude.{◌≡◌, true, Err, IfOk};
-ghost use Rattle.ws_server.specs.Halls.{IsHallPassOf};
+ghost use Rattle.std.specs.Prelude.{◌≡◌, true, length, Err, IfOk};
+ghost use Rattle.ws_server.specs.Halls.{rooms_of, IsHallPassOf};
 ghost use Rattle.ws_server.specs.Names.{names_fit};
 
 use crate::kept::{lock_folder, open_file, sync_folder};
@@ -41,6 +41,7 @@ pub(crate) fn open_rooms<R: Files<File = File> + Log>(
 ) -> Result<Opened, Stop>
     requires fit { names_fit names.now ≡ true }
     ensures passes { IfOk result (λ opened. IsHallPassOf opened.hall opened.pass) }
+    ensures counted { IfOk result (λ opened. length opened.watched.items ≡ length (rooms_of opened.hall)) }
     ensures fits { (result ≡ Err (Stop.Refused Refusal.BadField)) → ⊥ }
 {
     let lock = match folder {
@@ -51,9 +52,9 @@ pub(crate) fn open_rooms<R: Files<File = File> + Log>(
     let mut docs = Vec::new(alloc);
     for name in names {
         let (room, doc) = open_room(rt, alloc, folder, name, watched.len())?;
-        if watched.push(room).is_err() {
+        let Ok(()) = watched.push(room) else {
             return Err(Stop::Fault(ServeFault::Memory));
-        }
+        };
         let Ok(()) = docs.push(doc) else {
             return Err(Stop::Fault(ServeFault::Memory));
         };

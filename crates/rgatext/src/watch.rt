@@ -14,6 +14,9 @@ use std::sync::{Condvar, CondvarTimeouts, Mutex, Wait};
 use std::time::{Clock, Duration};
 use ws_server::{Hall, HallPass};
 
+/// How often a room is looked at at most, by who watches it and where answers wait: each millisecond for more than 30 years.
+pub(crate) const LOOKS: u64 = 1 << 40;
+
 // From so much on it is warned of: seven eighths of what a room takes.
 const MANY_CALLS: u32 = 917_504;
 
