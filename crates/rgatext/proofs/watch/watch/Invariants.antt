@@ -1,5 +1,4 @@
 -- The passes stay those of the hall.
-use Rattle.std.proofs.Common.{◌≡◌}
 use Rattle.ws_server.specs.Halls.{IsHallPassOf}
 use Rattle.rgatext.proofs.watch.watch.Given as goal
 
