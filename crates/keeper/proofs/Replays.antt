@@ -1,7 +1,8 @@
 -- One more call of a file in memory.
 use Rattle.std.proofs.Common.{◌≡◌, ◌≢◌, ◌⊎◌, inl, inr, ℕ, ◌+◌, ◌≤◌, ◌-◌, List, [], ◌∷◌, ◌++◌, length, take, Vec, refl, sym, ap, ◌∙◌, subst}
-use Rattle.std.proofs.Common.{arith, length-append, append-nil, append_assoc, replicate}
-use Rattle.std.proofs.lemmas.List.{take_all, take-append-le, take-take, length-take}
+use Rattle.std.proofs.Common.{arith, length-append, append-nil, append_assoc, replicate, get_or, min}
+use Rattle.std.proofs.Math.Seq.{take-append_seam}
+use Rattle.std.proofs.lemmas.List.{take_all, take-append-le, take-take, length-take, get_or_push}
 use Rattle.std.proofs.lemmas.Bool.{cases_lt}
 use Rattle.std.proofs.lemmas.List.Elements.{All-nil, All-replicate}
 use Rattle.std.specs.declared.alloc.Global.{Global}
@@ -24,6 +25,29 @@ undone_again : (file : List ℕ) (before : List ℕ → Type 0) (calls : List Ca
     → UndoneNext (seen_after file calls) (UndoneAfter file before calls) call c → UndoneAfter file before (calls ++ call ∷ []) c
 undone_again file before [] call c u = u
 undone_again file before (x ∷ calls) call c u = undone_again (seen_next file x) (UndoneNext file before x) calls call c u
+
+-- of calls only one is the last
+pub last_same : (xs ys : List Call) (a b : Call) → xs ++ a ∷ [] ≡ ys ++ b ∷ [] → (xs ≡ ys) × (a ≡ b)
+last_same xs ys a b e =
+    let len : length xs ≡ length ys = omega (arith, ap length e, length-append xs (a ∷ []), length-append ys (b ∷ [])) in (
+      sym (take-append_seam xs (a ∷ [])) ∙ ap (λ (n : ℕ). take n (xs ++ a ∷ [])) len ∙ ap (take (length ys)) e ∙ take-append_seam ys
+          (b ∷ []),
+      sym (get_or_push xs a a (length xs) refl) ∙ ap (λ (cs : List Call). get_or cs (length xs) a) e
+          ∙ get_or_push ys b a (length xs) (sym len),
+    )
+
+-- the bytes of an append
+abbrev appended : Call → List ℕ
+appended (Append more) = more.items
+appended (Cut size) = []
+appended Sync = []
+
+-- the same append was the last call
+pub same_append : (first : List ℕ) (before others : List Call) (more other : Vec ℕ Global)
+    → before ++ Append more ∷ [] ≡ others ++ Append other ∷ []
+    → (seen_after first before ≡ seen_after first others) × (more.items ≡ other.items)
+same_append first before others more other e =
+    let same = last_same before others (Append more) (Append other) e in (ap (seen_after first) same.0, ap appended same.1)
 
 -- what a crash leaves after one more call
 pub left_more : (file : List ℕ) (calls : List Call) (call : Call) (c : List ℕ) → LeftAfter file (calls ++ call ∷ []) c
@@ -165,3 +189,19 @@ torn_left n zeros first calls before call more c is last torn =
           (arith, e));
       is = torn;
     }))))
+
+-- so many as are there
+take_min : (n size : ℕ) (xs : List ℕ) → n ≡ min (length xs) size → take n xs ≡ take size xs
+take_min n size xs is = elim (cases_lt size (length xs)) [
+  | inl few ↦ ap (λ (k : ℕ). take k xs) (omega (arith, is, few))
+  | inr more ↦ take_all n xs (omega (arith, is, more)) ∙ sym (take_all size xs more)
+]
+
+-- what is told of the last append, by whatever names
+pub torn_same : (n size wanted filled : ℕ) (seen file more other c : List ℕ) → n ≡ min (length more) size → filled ≡ wanted
+    → seen ≡ file → more ≡ other → c ≡ seen ++ (take n more ++ replicate filled 0)
+    → c ≡ file ++ (take size other ++ replicate wanted 0)
+torn_same n size wanted filled seen file more other c is fills before same torn =
+    torn ∙ ap (λ (t : List ℕ). t ++ (take n more ++ replicate filled 0)) before
+    ∙ ap (λ (t : List ℕ). file ++ (t ++ replicate filled 0)) (take_min n size more is ∙ ap (take size) same)
+    ∙ ap (λ (k : ℕ). file ++ (take size other ++ replicate k 0)) fills

@@ -1,6 +1,7 @@
 -- What calls leave in a file in memory, and what a crash may leave of it: the server's own model of a disk, on which an append may be torn,
 -- and nothing is sure before the next sync.
-use Rattle.std.specs.Prelude.{◌≡◌, ◌⊎◌, ℕ, ◌≤◌, List, [], ◌∷◌, ◌++◌, length, take}
+use Rattle.std.specs.Prelude.{◌≡◌, ◌⊎◌, ℕ, ◌≤◌, ◌<◌, ◌+◌, ◌^◌, List, [], ◌∷◌, ◌++◌, length, take, replicate, Vec}
+use Rattle.std.specs.declared.alloc.Global.{Global}
 use Rattle.keeper.specs.Disk.{IsTorn}
 use Rattle.keeper.specs.declared.memory.MemoryFile.{MemoryFile}
 use Rattle.keeper.specs.declared.memory.Call.{Call}
@@ -43,3 +44,13 @@ memory_bytes m = seen_after m.first.items m.calls.items
 -- what a crash at this moment may leave of it
 abbrev pub MemoryLeft : MemoryFile → List ℕ → Type 0
 MemoryLeft m c = LeftAfter m.first.items m.calls.items c
+
+-- of an append that was the last call so many bytes are left, and then so many zeros
+abbrev pub TearsLast : MemoryFile → ℕ → ℕ → List ℕ → Type 0
+TearsLast m size zeros c = (before : List Call) (more : Vec ℕ Global) → m.calls.items ≡ before ++ Append more ∷ []
+    → length (seen_after m.first.items before) + length more.items + zeros < 2 ^ 64
+    → c ≡ seen_after m.first.items before ++ (take size more.items ++ replicate zeros 0)
+
+-- where the last call was no append, all is left
+abbrev pub LeavesAll : MemoryFile → List ℕ → Type 0
+LeavesAll m c = ((before : List Call) (more : Vec ℕ Global) → m.calls.items ≡ before ++ Append more ∷ [] → ⊥) → c ≡ memory_bytes m

@@ -1,5 +1,5 @@
 // Which calls fail.
-ghost use Rattle.std.specs.Prelude.{◌≡◌, ◌+◌, ◌<◌, ◌^◌, true, false};
+ghost use Rattle.std.specs.Prelude.{◌≡◌, ◌↔◌, ◌+◌, ◌-◌, ◌<◌, ◌^◌, true, false};
 
 // After so many calls so many fail, and then none.
 #[derive(Clone, Copy)]
@@ -15,6 +15,9 @@ impl Failures {
     pub(crate) fn next(&mut self) -> bool
         ensures yes { result ≡ true → self.new.failed ≡ self.old.failed + 1 }
         ensures no { result ≡ false → self.new.failed ≡ self.old.failed }
+        ensures due { (result ≡ true) ↔ ((self.old.after ≡ 0) × (0 < self.old.left)) }
+        ensures after { self.new.after ≡ self.old.after - 1 }
+        ensures left { self.new.left + self.new.failed ≡ self.old.left + self.old.failed }
     {
         if self.after > 0 {
             self.after -= 1;

@@ -1,6 +1,7 @@
 // A file in memory. It keeps what it had at first and each call, and replays them: so it is known what a crash at any moment leaves.
 ghost use Rattle.std.specs.Prelude.{◌≡◌, ◌++◌, ◌∷◌, [], ℕ, length, take, IfOk, OnOk, OnErr};
-ghost use Rattle.keeper.specs.Memory.{seen_next, seen_after, LeftAfter, LeftSince, memory_bytes, MemoryLeft};
+ghost use Rattle.keeper.specs.Disk.{Only};
+ghost use Rattle.keeper.specs.Memory.{seen_next, seen_after, LeftAfter, LeftSince, memory_bytes, MemoryLeft, TearsLast, LeavesAll};
 ghost use Rattle.keeper.specs.Internal.MemoryLaws.{now_counts, now_only};
 ghost use Rattle.keeper.specs.declared.memory.Call.TheVariants.{Append};
 
@@ -33,7 +34,9 @@ pub struct MemoryFile {
 impl MemoryFile {
     /// A file with these bytes, all of them on the disk.
     pub fn new(alloc: Global, bytes: Vec<u8>) -> Self
-        ensures { memory_bytes result ≡ bytes.items }
+        ensures bytes { memory_bytes result ≡ bytes.items }
+        ensures durable { Only bytes.items (MemoryLeft result) }
+        ensures failures { result.failures.left ≡ 0 }
     {
         MemoryFile::failing(alloc, bytes, 0, 0, 0)
     }
@@ -46,7 +49,11 @@ impl MemoryFile {
         failures: usize,
         written: usize,
     ) -> Self
-        ensures { memory_bytes result ≡ bytes.items }
+        ensures bytes { memory_bytes result ≡ bytes.items }
+        ensures durable { Only bytes.items (MemoryLeft result) }
+        ensures after { result.failures.after ≡ after }
+        ensures failures { result.failures.left ≡ failures }
+        ensures written { result.written ≡ written }
     {
         MemoryFile {
             alloc,
@@ -70,7 +77,9 @@ impl MemoryFile {
 
     /// What a crash at this moment may leave: of an append that was the last call, so many bytes and then so many zeros; else all.
     pub fn torn(&self, alloc: Global, size: usize, zeros: usize) -> Result<Vec<u8>, AllocError>
-        ensures { IfOk result (λ bytes. MemoryLeft self.now bytes.items) }
+        ensures left { IfOk result (λ bytes. MemoryLeft self.now bytes.items) }
+        ensures torn { IfOk result (λ bytes. TearsLast self.now size zeros bytes.items) }
+        ensures whole { IfOk result (λ bytes. LeavesAll self.now bytes.items) }
     {
         if let Some((Call::Append(more), before)) = self.calls.split_last() {
             let mut left = replayed(alloc, &self.first, before)?;
