@@ -5,6 +5,8 @@
 #[cfg(test)]
 mod fixtures;
 #[cfg(test)]
+mod memory;
+#[cfg(test)]
 mod openings;
 #[cfg(test)]
 mod system;
