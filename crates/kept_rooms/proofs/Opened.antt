@@ -92,7 +92,8 @@ opened_file honest seen may_leave fresh names site docs hall pass file doc one o
 split_at : (count : ℕ) (old new given : List Pass) (at : ℕ) (room : Option SharedRoom) → AreSplit count (length old) old new given
     → (log_between room (slice_get new at) ≡ log_between room (slice_get old at))
     × (log_between room (slice_get given at) ≡ log_between room (slice_get old at))
-split_at count [] new given at room split = (ap (λ l. log_between room (slice_get l at)) split.0, ap (λ l. log_between room (slice_get l at)) split.1)
+split_at count [] new given at room split =
+    (ap (λ l. log_between room (slice_get l at)) split.0, ap (λ l. log_between room (slice_get l at)) split.1)
 split_at count (p ∷ old) [] given at room split = absurd split
 split_at count (p ∷ old) (q ∷ new) [] at room split = absurd split
 split_at count (p ∷ old) (q ∷ new) (r ∷ given) zero None split = (refl, refl)

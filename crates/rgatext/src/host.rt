@@ -11,7 +11,7 @@ use crate::serving::{Serving, Shared};
 use crate::stop::{await_stop, remove_stop};
 use crate::watch::{Ended, LOOKS, Watched, watch};
 use commands::Stop;
-use kept_rooms::Waiting;
+use kept_rooms::{Assigned, Waiting, assign_rooms};
 use line_engine::ServeFault;
 use log::{Log, warn};
 use opid::{Refusal, Site};
@@ -96,17 +96,21 @@ fn serve_watched<
         rt,
         move |scope| -> Result<(), Stop>
             requires { IsSync R.row × IsHallPassOf shared.hall.now pass
-                × (length shared.waiting.now ≡ length (rooms_of shared.hall.now)) }
+                × (length shared.waiting.now ≡ length (rooms_of shared.hall.now))
+                × (length watched.items ≡ length (rooms_of shared.hall.now)) }
             ensures { (result ≡ Err (Stop.Refused Refusal.BadField)) → ⊥ }
         {
-            let mut rest = watched.into_iter();
+            let Ok(rooms) = assign_rooms(alloc, shared.hall, &mut pass, watched, LOOKS) else {
+                return Err(closed(rt, Stop::Socket));
+            };
             let mut is_watched = true;
-            for place in 0..shared.hall.len() {
-                let (Some(room), Some(told)) = (rest.next(), shared.waiting.get(place)) else {
-                    is_watched = false;
-                    break;
-                };
-                let Ok(watching) = shared.hall.split(alloc, &mut pass, LOOKS) else {
+            for it in rooms {
+                let Assigned {
+                    place,
+                    pass: watching,
+                    item: room,
+                } = it;
+                let Some(told) = shared.waiting.get(place) else {
                     is_watched = false;
                     break;
                 };
