@@ -9,7 +9,7 @@ import { moduleOf, Typist } from "./typist.mjs";
 import { keptRun, renewedRun, singlesOf } from "./way.mjs";
 
 const [, , , folder, seed] = process.argv;
-const { texts, turns, rate, every, pace, isOfWords, isTold } = JSON.parse(readFileSync(0, "utf8"));
+const { texts, turns, rate, every, pace, late, isOfWords, isTold } = JSON.parse(readFileSync(0, "utf8"));
 const clock = new Clock(Number(seed));
 const module = await moduleOf(folder);
 const { Lost, Session } = module;
@@ -140,7 +140,12 @@ async function until(is, seconds) {
 async function rehearse() {
   const server = new Server();
   const open = () => new Session(() => server.connect());
-  const typists = texts.map((it) => new Typist({ module, open, tell, isOfWords }, it));
+  const typists = [];
+  const enters = (it) => typists.push(new Typist({ module, open, tell, isOfWords }, it));
+  for (const it of texts) {
+    if (late === 0 || it.who === 0) enters(it);
+    else setTimeout(() => enters(it), roll(late));
+  }
   const states = () => typists.map(({ session }) => session.state);
   if (every > 0) server.keep();
   for (const how of turns) {
