@@ -37,8 +37,9 @@ returns-in-Some-Append-default-clause-torn c others other is room =
     let same = same_append self.first.items some.before.now others some.more other
     (last ∙ sym (sym c.deref.ensures.value ∙ some.ensures.cases.0) ∙ is) in
     let few : n ≡ min (length more) c.args.size = grind (arith, common_steps) in
-    let lengths = (ap length same.0, ap length same.1, ap length grown, length-append seen (take n more), length-take n more) in
-    let fills : m - length all ≡ c.args.zeros = omega (arith, room, lengths) in
+    let both = length-append seen (take n more) in
+    let part = length-take n more in
+    let fills : m - length all ≡ c.args.zeros = omega (arith, room, ap length same.0, ap length same.1, ap length grown, both, part) in
     torn_same n c.args.size c.args.zeros (m - length all) seen (seen_after self.first.items others) more other.items c.resize.new.self.items
     few fills same.0 same.1 (torn_is m seen (take n more) all c.resize.new.self.items grown long made)
 
