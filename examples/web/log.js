@@ -18,6 +18,9 @@ import { SIGNS } from "./memory.js";
 /** So many operations behind what is known are looked through for what is under way: as many as a log takes. */
 const FAR = 131_072;
 
+/** A log of so few operations may be lost whole: a team types as many before the first turn of a server that keeps it each five seconds. */
+const FEW = 1_024;
+
 /** So many requests are on their way at one time, and so often something is asked that others' typing spoils. */
 const AHEAD = 16;
 const TRIES = 4;
@@ -109,7 +112,11 @@ export class Log {
       if (kept === 0 || (last.length > 0 && (await this.#isAt(kept - last.length, last)))) break;
       if (kept === memory.base) return this.#wasBefore(memory);
     }
-    if (!isKnown(kept + 1) && (await this.#singles(kept, 1)).length > 0) return { kept, isSure: false };
+    if (kept === 0 && !isKnown(1)) {
+      const isWhole = known.findIndex((it) => it !== undefined) <= FEW && (await this.#isOfOneOf(memory.sites));
+      if (await this.#isEmpty()) return isWhole ? { kept, isSure: true } : null;
+      return { kept, isSure: false, isWhole };
+    }
     let isSame = memory.last(kept).some(({ site }) => site > 0); // no new document has operations of these
 
     const firsts = new Map(); // where each site begins among what is as it was known
@@ -127,18 +134,29 @@ export class Log {
     }
     if (kept > 0) return { kept, isSure: isSame || next === null || next.sequence === 1 };
     const sites = [...memory.sites].filter((site) => next === null || site === next.site);
-    for (const site of sites) if (await this.isOfRun(site)) return { kept, isSure: true };
+    if (await this.#isOfOneOf(sites)) return { kept, isSure: true };
     const isAgain = sites.length > 0 && next?.sequence === 1; // its number came again, or a new document has it
     return isAgain ? { kept, isSure: false } : null;
   }
 
   /** Whether the log lost its end soon before what is remembered: no further back can be gone. */
-  async #wasBefore({ base, known: { start, known } }) {
+  async #wasBefore({ base, sites, known: { start, known } }) {
     const found = await this.#singles(start, base - start);
+    if (found.length === 0 && base <= FEW && (await this.#isEmpty()) && (await this.#isOfOneOf(sites))) return { kept: base, isSure: true };
     const kept = found.findIndex((it, n) => !isLike(known[n], it));
     const next = kept < 0 ? undefined : found[kept];
     const isSure = found.length > 0 && kept !== 0 && (next === undefined || next.sequence === 1);
     return isSure ? { kept: base, isSure } : null;
+  }
+
+  async #isEmpty() {
+    return (await this.#singles(0, 1)).length === 0;
+  }
+
+  /** Whether one of some sites is that of the server's run. */
+  async #isOfOneOf(sites) {
+    for (const site of sites) if (await this.isOfRun(site)) return true;
+    return false;
   }
 
   /**

@@ -51,7 +51,7 @@ async function wayWithin(document, room, log, edits) {
   if (first?.text === document.roomText || (first?.isNew && isLike(before.text, first.text))) return () => renew(document, first, before);
   if (first?.isNew) return null;
   if (goesOn) return () => settle(document, found, edits);
-  return lost !== null && isLike(document.roomText, room.roomText) ? goBack : null;
+  return lost?.isWhole || (lost !== null && isLike(document.roomText, room.roomText)) ? goBack : null;
 }
 
 /** Takes what is under way as what the log has of it, and plays the edits. */
