@@ -9,8 +9,8 @@ from keeping import kept
 from plain_world import elements
 from verdict import expect
 
-# Letters that no program takes apart, each typed once.
-LETTERS = (chr(it) for it in itertools.chain(range(0x4E00, 0x9FA0), range(0x20000, 0x2A6D0)))
+# Characters that no program takes apart, each typed once: more than four rooms take.
+LETTERS = (chr(it) for it in itertools.chain(range(0x4E00, 0x9FA0), range(0x20000, 0x110000)))
 lock = threading.Lock()
 
 
