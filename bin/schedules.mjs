@@ -292,6 +292,25 @@ async function losesMuchOfItsOwn() {
   await endsAs(way, joined + typed);
 }
 
+/** The line is lost again and again while an editor that has joined another run looks for its way: no session is left behind. */
+async function leavesWhatItJoined() {
+  const way = await begin("hello");
+  const kept = await keptRun(way.room, 2);
+  let lost = 0;
+  way.loses = ({ t }, { asked }) => {
+    const since = asked.includes("join") ? asked.slice(asked.indexOf("join")) : [];
+    const isLost = t === "ops" && lost < 4 && since.includes("ops"); // (the first `ops` tells the end of what was joined)
+    lost += isLost;
+    return isLost ? "answer" : "";
+  };
+  way.cut(kept);
+  await way.joins(kept);
+  await way.comesTo("up to date", "hello");
+  const { s } = await kept.ask({ t: "join" });
+  for (let n = 1; n < s - 1; n += 1) assert.equal((await kept.ask({ t: "leave", s: n })).n, 5, `session ${n} of ${s} is left`);
+  await endsAs(way, "hello");
+}
+
 /** A socket that is open at once, and answers each message by a text. */
 class Socket extends EventTarget {
   static answer = "hello";
@@ -353,6 +372,7 @@ await Promise.all([
   comesLate("pull"),
   isAcceptedAndDeleted(),
   losesMuchOfItsOwn(),
+  leavesWhatItJoined(),
   losesJoin("join"),
   losesJoin("leave"),
   leavesAtOnce(),

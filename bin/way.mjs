@@ -27,7 +27,7 @@ export class Way {
     const line = new Line(this.room, Infinity);
     const ask = line.ask.bind(line);
     line.ask = async (request) => {
-      const told = this.loses(request);
+      const told = this.loses(request, line);
       const loses = told instanceof Promise ? await told : told;
       if (!line.isOpen || loses === "request") line.close();
       if (!line.isOpen) throw new Lost();

@@ -36,6 +36,7 @@ export class Session extends /** @type {{new (): Tells & EventTarget}} */ (Event
   #seat = new Seat(() => this.#isClosed || this.state === "refused" || this.#tell("no answer"));
   #pace = new Pace();
   #other = null; // the document of another run of the server, until the user chooses
+  #joined = null; // the document of the room that was joined, until it is gone on with or is another's
   #compared = null; // its version where the user chose to put in what is shown
   /** @type {(value?: any) => void} */
   #wake = () => {};
@@ -303,7 +304,7 @@ export class Session extends /** @type {{new (): Tells & EventTarget}} */ (Event
 
   /** The document that the session follows. */
   get #current() {
-    return this.#other ?? this.document;
+    return this.#joined ?? this.#other ?? this.document;
   }
 
   /**
@@ -311,10 +312,12 @@ export class Session extends /** @type {{new (): Tells & EventTarget}} */ (Event
    * until the user chooses. `isOwn`: the number is that of a session to leave.
    */
   async #joinAnew(isOwn) {
-    const edits = isOwn && this.#other === null ? await this.#seat.editsSince(this.document) : [];
+    const edits = isOwn && this.#current === this.document ? await this.#seat.editsSince(this.document) : [];
     if (isOwn) await this.#seat.giveUp();
     const room = await this.#seat.join();
+    this.#joined = room; // where the line is lost before the way is found, the session that is left is known by this
     const go = await wayTo(this.document, room, this.#seat.log, edits);
+    this.#joined = null;
     if (go === null) {
       this.#other = room;
       this.#compared = null;
