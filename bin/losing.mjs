@@ -194,6 +194,7 @@ async function knowsThatItLeft() {
   await endsAs(way, "abcde");
   assert.ok(!way.states.includes("another text"), "it is the same run");
 }
+
 /** A word didn't come, and another typed the same elsewhere before the room was renewed: both are there. */
 async function typesAWordToo() {
   const way = await begin("one two three four five six");

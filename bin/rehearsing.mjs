@@ -3,6 +3,7 @@
 // the input is what else is asked for.
 import { readFileSync, writeFileSync } from "node:fs";
 import { LIMITS } from "../examples/web/connection.js";
+import { pause } from "../examples/web/seat.js";
 import { Clock } from "./clock.mjs";
 import { Room } from "./room.mjs";
 import { moduleOf, Typist } from "./typist.mjs";
@@ -14,7 +15,6 @@ const clock = new Clock(Number(seed));
 const module = await moduleOf(folder);
 const { Lost, Session } = module;
 const roll = (below) => Math.floor(Math.random() * below);
-const pause = (milliseconds) => new Promise((resolve) => setTimeout(resolve, milliseconds));
 const began = clock.now;
 const tell = (what) => writeFileSync(1, `${JSON.stringify({ when: clock.now - began, ...what })}\n`); // (the end waits for all of it)
 const { ask } = Room.prototype;
@@ -47,8 +47,8 @@ class Server {
   /** Ends the room, and begins it anew some time later with what it kept, or otherwise. */
   async restart(how, milliseconds) {
     const old = this.room;
-    if (every === 0) this.kept = await this.version();
     const version = await this.version();
+    if (every === 0) this.kept = version;
     this.room = null;
     for (const line of this.lines) line.close();
     await pause(milliseconds);

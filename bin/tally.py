@@ -1,6 +1,8 @@
 """What editors typed and took out, each character known by itself, beside the text that is there at the end."""
 import collections
 
+WORDS = "the room keeps what people type and nothing of it is lost when a server comes back after a while "
+
 
 class Tally:
     """Of typing with no character twice. An undone step may put a character in again."""
@@ -26,8 +28,8 @@ class Tally:
 
     def judge(self, text):
         """Lists of the characters that are wrong in a text, each by what is wrong. `displaced` has those that stand otherwise beside
-        another's, which two may have typed at once; `unclear` is no fault: of those two took out or put in again, or they stand twice where another than
-        who typed them put them in again by undoing, so that they are two people's text."""
+        another's, which two may have typed at once; `unclear` is no fault: of those two took out or put in again, or they stand twice
+        where another than who typed them put them in again by undoing, so that they are two people's text."""
         count = collections.Counter(text)
         wrong = {it: [] for it in ("lost", "doubled", "come back", "out of order", "displaced", "unclear")}
         for it in self.owner:
@@ -66,6 +68,16 @@ class WordTally:
     def judge(self, text):
         wanted, count = self.put - self.taken, collections.Counter(text)
         return {"lost": list((wanted - count).elements()), "doubled": list((count - wanted).elements())}
+
+
+def words(count, dice):
+    """So many ordinary words, which dice choose."""
+    return " ".join(dice.choice(WORDS.split()) for _ in range(count)) + " "
+
+
+def uniques(who, of, count):
+    """So many characters for one of some people, each of which is nobody else's and stands once."""
+    return "".join(unique(who + of * at) for at in range(count))
 
 
 def unique(number):

@@ -85,12 +85,13 @@ function hasCome({ roomText, textToCome, underWay }, text) {
 
 /**
  * The text that a new document was made of, and how many entries lead there: the last one that is the same. Else it was made by changes that
- * weren't seen, of a later one; but as far as all is missing that was put in here last, that was lost. Others put theirs in again.
+ * weren't seen, of a later one; but as far as all is missing that was put in here last, that was lost. Others put theirs in again. Where it
+ * has what is under way, nothing was lost.
  */
 function textBefore(document, wanted) {
   const { memory, roomText } = document;
   for (const it of memory.texts(roomText)) if (it.text === wanted) return it;
-  if (hasCome(document, wanted)) return { length: memory.length, text: roomText };
+  if (hasCome(document, wanted)) return { length: memory.length, text: roomText, hasCome: true };
   const away = distance(roomText, wanted);
   const own = [...memory.own(roomText.length)];
   const upTo = (entry) => {
@@ -120,7 +121,7 @@ function isLike(before, text) {
 function renew(document, { text, version, last }, before) {
   let changes = [];
   if (before.length < document.memory.length) changes = document.goBack(before.length);
-  else if (hasCome(document, text)) document.came(document.version, Infinity);
+  else if (before.hasCome) document.came(document.version, Infinity);
   else document.takeBack();
   changes.push(...document.follow(new Document(text, version, last)));
   document.renew(version, last);
