@@ -68,9 +68,8 @@ class Room:
     def renew(self):
         if not self.file.exists():
             return
-        code = "import renew, sys; renew.PROGRAM = sys.argv.pop(1); renew.main(sys.argv[1:])"
-        words = [sys.executable, "-B", "-c", code, self.program, str(self.file)]
-        fresh = subprocess.run(words, cwd=TOP / "examples", stdout=subprocess.PIPE, check=True).stdout
+        words = [sys.executable, "-B", str(TOP / "examples" / "renew.py"), "--program", self.program, str(self.file)]
+        fresh = subprocess.run(words, stdout=subprocess.PIPE, check=True).stdout
         self.empty()
         self.file.write_bytes(fresh)
 

@@ -1,16 +1,23 @@
 #!/usr/bin/env python3
-"""Makes of a kept room the file of a new document with the same text, for when its sites or its log are used up:
+"""Makes of kept rooms the files of new documents with the same texts, for when their sites or their logs are used up:
 
-    python3 examples/renew.py rooms/notes.ops > notes.new && mv notes.new fresh/notes.ops
+    python3 examples/renew.py rooms fresh
 
-It reads the file as `rgatext serve --keep` leaves it, has the program print its text, has a room of site 0 take that text in, and
-writes what `--keep` would have written of that room. With `--snapshot` before the file's name it only prints the snapshot that the
-file stands for, as `rgatext text` and `rgatext lines --resume` read it. What is lost: old versions, deleted text, and who wrote what when. Stop the
-server before, and give the new file to a folder of its own: whoever has operations of the old document can't bring them to the new
-one."""
+Each `rooms/NAME.ops` is read as `rgatext serve --keep` leaves it, the program prints its text, a room of site 0 takes that in, and what
+`--keep` would have written of that room goes to `fresh/NAME.ops`. The folder `fresh` is there once all of them stand in it, or not at
+all. Of a file, in place of a folder, the new one is printed. With `--snapshot` it is the snapshot that the file stands for, as `rgatext
+text` and `rgatext lines --resume` read it.
 
+What is lost: old versions, deleted text, and who wrote what when. No server may have the folder meanwhile, and whoever has operations of
+an old document can't bring them to the new one."""
+
+import argparse
+import contextlib
+import fcntl
 import json
+import os
 import pathlib
+import shutil
 import subprocess
 import sys
 
@@ -18,15 +25,36 @@ PROGRAM = pathlib.Path(__file__).resolve().parent.parent / "bin" / "rgatext"
 MOST = 64  # characters of an insertion, and operations of a line
 
 
-def run(*words, given):
-    """What the program writes for this input; it stops this script where it ends with another status than 0."""
-    return subprocess.run([PROGRAM, *words], input=given.encode(), stdout=subprocess.PIPE, check=True).stdout.decode()
+class Unrenewed(Exception):
+    """Why nothing was made."""
+
+
+def run(program, *words, given):
+    """What the program writes for this input."""
+    try:
+        told = subprocess.run([program, *words], input=given.encode(), capture_output=True)
+    except OSError as why:
+        raise Unrenewed(f"{program}: {why.strerror}") from None
+    if told.returncode != 0:
+        raise Unrenewed(told.stderr.decode(errors="replace").strip() or f"{program} ended with status {told.returncode}")
+    return told.stdout.decode()
 
 
 def kept_operations(data):
     """The operations and runs that stand in a kept file. A last line that was cut short, inside a character perhaps, is left out."""
+    operations = []
     whole, _, _ = data.rpartition(b"\n")
-    return [it for line in whole.split(b"\n") if line for it in json.loads(line)["ops"]]
+    for number, line in enumerate(whole.split(b"\n") if whole else [], 1):
+        try:
+            operations += json.loads(line)["ops"]
+        except (ValueError, KeyError, TypeError):
+            raise Unrenewed(f"line {number} is none of a kept room") from None
+    return operations
+
+
+def snapshot(file):
+    """The snapshot that a kept file stands for."""
+    return json.dumps({"format": 2, "ops": kept_operations(file.read_bytes())}, separators=(",", ":"))
 
 
 def typed(text):
@@ -37,23 +65,80 @@ def typed(text):
         yield {"t": "pull", "s": 1, "have": at, "max": MOST}
 
 
-def kept(text):
-    """The lines of the file that keeps a document with this text, written by site 0."""
+def renewed(program, file):
+    """The lines of the file that keeps a document with the text of this one, written by site 0."""
+    text = run(program, "text", given=snapshot(file)).removesuffix("\n")
     requests = [*typed(text), *({"t": "ops", "after": at, "max": MOST} for at in range(0, len(text), MOST))]
-    replies = run("lines", given="".join(json.dumps(it) + "\n" for it in requests)).split("\n")
+    replies = run(program, "lines", given="".join(json.dumps(it) + "\n" for it in requests)).split("\n")
     return "".join(line + "\n" for line in replies if line and json.loads(line)["r"] == "ops")
 
 
-def main(words):
-    operations = kept_operations(pathlib.Path(words[-1]).read_bytes())
-    snapshot = json.dumps({"format": 2, "ops": operations}, separators=(",", ":"))
-    if words[0] == "--snapshot":
-        print(snapshot)
-    else:
-        sys.stdout.write(kept(run("text", given=snapshot).removesuffix("\n")))
+@contextlib.contextmanager
+def told_of(file):
+    """Tells of which file it is that nothing was made."""
+    try:
+        yield
+    except OSError as why:
+        raise Unrenewed(f"{file}: {why.strerror}") from None
+    except Unrenewed as why:
+        raise Unrenewed(f"{file}: {why}") from None
+
+
+def locked(folder):
+    """The file by which a folder is one's own while it is open, as it is a server's that keeps its rooms there."""
+    path = folder / "rgatext.lock"
+    with told_of(path):
+        lock = open(path, "ab")
+    try:
+        fcntl.flock(lock, fcntl.LOCK_EX | fcntl.LOCK_NB)
+    except BlockingIOError:
+        raise Unrenewed(f"{folder}: a server keeps its rooms there") from None
+    return lock
+
+
+def renew_folder(program, old, new):
+    """Makes a folder with a new document of each room of another one."""
+    if os.path.lexists(new):
+        raise Unrenewed(f"{new}: it is there already")
+    files = sorted(old.glob("*.ops"))
+    if not files:
+        raise Unrenewed(f"{old}: no kept room is there")
+    made = new.with_name(f"{new.name}.{os.getpid()}")
+    with locked(old):
+        with told_of(made):
+            made.mkdir()
+        try:
+            for file in files:
+                with told_of(file):
+                    lines = renewed(program, file)
+                with told_of(made / file.name), open(made / file.name, "w", encoding="utf-8") as written:
+                    written.write(lines)
+                    written.flush()
+                    os.fsync(written.fileno())
+            made.rename(new)
+        except BaseException:
+            shutil.rmtree(made)
+            raise
+
+
+def main():
+    told = argparse.ArgumentParser(description=__doc__, formatter_class=argparse.RawDescriptionHelpFormatter)
+    told.add_argument("--program", metavar="PATH", default=PROGRAM, help="the program rgatext, unless it is that of this repository")
+    told.add_argument("--snapshot", action="store_true", help="print the snapshot that a kept file stands for")
+    told.add_argument("kept", type=pathlib.Path, help="a folder in which rooms are kept, or a file of one")
+    told.add_argument("fresh", type=pathlib.Path, nargs="?", help="the folder of the new documents, which isn't there yet")
+    words = told.parse_args()
+    if words.snapshot and words.fresh:
+        told.error("a snapshot is made of one file")
+    try:
+        if words.fresh:
+            renew_folder(words.program, words.kept, words.fresh)
+        else:
+            with told_of(words.kept):
+                sys.stdout.write(f"{snapshot(words.kept)}\n" if words.snapshot else renewed(words.program, words.kept))
+    except Unrenewed as why:
+        sys.exit(f"renew.py: {why}; nothing was made")
 
 
 if __name__ == "__main__":
-    if len(sys.argv) not in (2, 3) or sys.argv[1:-1] not in ([], ["--snapshot"]):
-        sys.exit(__doc__)
-    main(sys.argv[1:])
+    main()
