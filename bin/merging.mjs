@@ -1,6 +1,5 @@
 // What bin/try_merging plays with a document. The one argument is the program.
 import assert from "node:assert/strict";
-import { readFileSync } from "node:fs";
 import { carried, played } from "../examples/web/changes.js";
 import { Document, MOST } from "../examples/web/document.js";
 import { Log } from "../examples/web/log.js";
@@ -9,6 +8,7 @@ import { isInside } from "../examples/web/text.js";
 import { rejoin } from "./rejoining.mjs";
 import { dice, Room } from "./room.mjs";
 import { mustFitWhole, undoAtRandom, undoOnesOwn, undoQuickly } from "./undoing.mjs";
+import { vectors } from "./vectors.mjs";
 import { keptRun, renewedRun } from "./way.mjs";
 
 /** A case of the vectors, played with a document: each answer and edit is the program's. */
@@ -193,7 +193,6 @@ async function mergeAtRandom(seed, steps) {
   return x.length;
 }
 
-const vectors = (name) => JSON.parse(readFileSync(new URL(`../examples/vectors/${name}.json`, import.meta.url), "utf8")).cases;
 const cases = vectors("merging");
 for (const it of cases) await new Case(it).play();
 const rejoined = await rejoin(vectors("rejoining"));

@@ -1,15 +1,20 @@
 // What bin/merging.mjs plays of examples/vectors/rejoining.json with a session of the module.
 import assert from "node:assert/strict";
+import { MOST } from "../examples/web/document.js";
 import { Room, until } from "./room.mjs";
+import { whole } from "./vectors.mjs";
 import { deletedBy, end, textOf, typedBy, Way } from "./way.mjs";
 
 /** How many units so many characters of a text have from a place on. */
 const units = (text, at, count) => [...text].slice(at, at + count).join("").length;
 
-async function otherDoes(room, { t, k, x, c }) {
-  const text = await textOf(room);
-  const at = units(text, 0, k);
-  await (t === "ins" ? typedBy(room, at, x) : deletedBy(room, at, units(text, k, c)));
+async function otherDoes(room, { other: { t, k, x, c }, times = 1, apart = 0 }) {
+  for (let n = 0; n < times; n += 1) {
+    const text = await textOf(room);
+    const place = k + n * apart;
+    const at = units(text, 0, place);
+    await (t === "ins" ? typedBy(room, at, x) : deletedBy(room, at, units(text, place, c)));
+  }
 }
 
 /** The run of a server at a site, which begins with operations, or which a site 0 has written with a text. */
@@ -19,9 +24,12 @@ async function another(room, site, run) {
     written = new Room(0);
     await typedBy(written, 0, await textOf(room));
   }
-  const told = (await (written ?? room).operations()).flat();
   const kept = new Room(site);
-  if (told.length > 0) await kept.refill([beginning(told, run.kept ?? Infinity)]);
+  let rest = run.kept ?? Infinity;
+  for (const told of await (written ?? room).operations()) {
+    if (rest > 0) await kept.refill([beginning(told, rest)]);
+    rest -= MOST;
+  }
   room.close();
   written?.close();
   return kept;
@@ -40,20 +48,23 @@ function beginning(told, count) {
 
 class Player {
   constructor({ name, text, steps }) {
-    Object.assign(this, { name, text, steps });
+    Object.assign(this, { name, steps, text: whole(text) });
   }
 
   async play() {
     this.room = new Room(0);
-    if (this.text !== "") await typedBy(this.room, 0, this.text);
+    const characters = [...this.text];
+    for (let at = 0; at < characters.length; at += MOST) {
+      await typedBy(this.room, (await textOf(this.room)).length, characters.slice(at, at + MOST).join(""));
+    }
     this.way = new Way(this.room);
     await this.way.comesTo("up to date", this.text);
     let site = 0;
     for (const step of this.steps) {
       if (step.local) await this.change(step);
-      if (step.other) await otherDoes(this.room, step.other);
+      if (step.other) await otherDoes(this.room, step);
       if (step.run) this.room = await another(this.room, (site += 1), step.run);
-      if (step.back) await this.comeBack(step.text);
+      if (step.back) await this.comeBack(whole(step.text));
     }
     await end(this.way);
   }

@@ -2,13 +2,23 @@
 from client import JoinAnew, Lost, Pipe, Session
 
 
+MOST = 64  # characters of a submission, and operations of a reply
+
+
+def whole(text):
+    """A text, which may be told by its parts, each so often."""
+    return text if isinstance(text, str) else "".join(times * part for times, part in text)
+
+
 class Player:
     """Plays a case of examples/vectors/rejoining.json with a session and the program."""
 
     def __init__(self, case, program):
         self.case, self.program, self.site, self.lines = case, program, 0, 0
         self.room = self.run_at(0)
-        self.submits({"t": "ins", "k": 0, "x": case["text"]})
+        text = whole(case["text"])
+        for at in range(0, len(text), MOST):
+            self.submits({"t": "ins", "k": at, "x": text[at : at + MOST]})
         self.lost = None  # what is lost with the line, then whether it is
         self.is_up, self.late, self.is_accepted = True, None, False
         self.session = Session(self, tries=1)
@@ -49,7 +59,9 @@ class Player:
             before({"t": "join"})
             before({"t": "ins", "s": 1, "n": 1, "v": 0, "k": 0, "x": text})
         self.room = self.run_at(self.site)
-        self.room({"t": "put", "ops": before({"t": "ops", "after": 0, "max": 64 if run == "renewed" else run["kept"]})["ops"]})
+        kept = MOST if run == "renewed" else run["kept"]
+        for after in range(0, kept, MOST):
+            self.room({"t": "put", "ops": before({"t": "ops", "after": after, "max": min(MOST, kept - after)})["ops"]})
         before.close()
 
     def change(self, at, removed, text):
@@ -69,7 +81,8 @@ class Player:
                 self.lost = step.get("lost")
                 self.change(**step["local"])
             if "other" in step:
-                self.submits(step["other"])
+                for n in range(step.get("times", 1)):
+                    self.submits({**step["other"], "k": step["other"]["k"] + n * step.get("apart", 0)})
             if "run" in step:
                 self.is_another(step["run"])
             if "back" in step:
@@ -81,6 +94,7 @@ class Player:
                     self.session.put_missing()
         told = "".join(self.session.text), self.room({"t": "read"})["x"]
         self.room.close()
-        if told != (step["text"], step["text"]):
-            print(f"{self.case['name']}: {told}, and not {step['text']}")
-        return told == (step["text"], step["text"])
+        text = whole(step["text"])
+        if told != (text, text):
+            print(f"{self.case['name']}: {told}, and not {text}")
+        return told == (text, text)

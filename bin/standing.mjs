@@ -7,7 +7,8 @@ import { Pace } from "../examples/web/pace.js";
 import { Ended, played } from "../examples/web/rgatext.js";
 import { pause } from "../examples/web/seat.js";
 import { dice, Room, until } from "./room.mjs";
-import { begin, end, endsAs, keptRun, textOf, Way } from "./way.mjs";
+import { vectors, whole } from "./vectors.mjs";
+import { begin, end, endsAs, keptRun, textOf, typedBy, Way } from "./way.mjs";
 
 /** A run of the program at a site where one session typed a text. */
 async function roomOf(text, site) {
@@ -20,21 +21,29 @@ async function roomOf(text, site) {
   return room;
 }
 
-/** Putting in what is shown costs what differs, not what stands between. */
-async function putsInWhatDiffers() {
-  const text = Array.from({ length: 160 }, (_, n) => `line ${n} of a text that two have\n`).join("");
-  const mine = `ALL LOST${text}LOST TOO`;
+/** A case of the vectors: putting in what is shown costs what differs, and deletes nothing that the user wasn't shown. */
+async function chooses({ name, shown, room, late, operations }) {
+  const mine = whole(shown);
   const way = await begin(mine);
-  way.cut(await roomOf(`Another ${text}`, 2));
-  await way.comesTo("another text", mine);
   const { session } = way.editor;
-  assert.equal(session.otherText, `Another ${text}`);
-  assert.equal(played(session.otherText, session.difference), mine);
+  const other = await roomOf(whole(room), 2);
+  way.cut(other);
+  await way.comesTo("another text", mine);
+  assert.equal(session.otherText, whole(room), name);
+  const began = (await other.ask({ t: "read" })).v;
+  if (late) {
+    await typedBy(other, late.k, late.x);
+    session.putMine();
+    const told = played(whole(room), [{ at: late.k, removed: 0, text: late.x }]);
+    await until(() => session.otherText === told, () => name);
+    assert.deepEqual([session.state, await textOf(other)], ["another text", told], name);
+  }
+  assert.equal(played(session.otherText, session.difference), mine, name);
   session.putMine();
   await way.comesTo("up to date", mine);
-  const { v, x } = await way.room.ask({ t: "read" });
-  assert.equal(x, mine);
-  assert.ok(v - text.length - 8 <= 2 * 24, `${v - text.length - 8} operations`);
+  const { v, x } = await other.ask({ t: "read" });
+  assert.equal(x, mine, name);
+  assert.ok(v - began <= operations, `${name}: ${v - began} operations`);
   await end(way);
 }
 
@@ -183,7 +192,7 @@ async function typesAtTwentyCarets() {
 await Promise.all([comesBack(12), comesBack(13), tellsWhatIsSo(), sendsWhatIsNew(), comesBackWithItsPage(), asksRarely()]);
 await typesAtTwentyCarets();
 await hearsOfAFullRoom();
-await putsInWhatDiffers();
+for (const it of vectors("choosing")) await chooses(it);
 findsWhatDiffers();
 asksLessWhileNothingComes();
 console.log("bin/try_merging: states, choices, full rooms, closing, and few calls");
