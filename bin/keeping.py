@@ -41,9 +41,9 @@ def new_folder(name):
 class Server:
     """A run of the server over a folder."""
 
-    def __init__(self, folder, *words, rooms=("notes",), every=EVERY, most_bytes=None, **failing):
+    def __init__(self, folder, *words, rooms=("notes",), left_out=(), every=EVERY, most_bytes=None, stderr=subprocess.PIPE, **failing):
         port = free_port()
-        words = ["--port", str(port), "--keep", str(folder), *(["--every", str(every)] if every else []), *words, *rooms]
+        words = ["--port", str(port), "--keep", str(folder), *(["--every", str(every)] if every else []), *words, *rooms, *left_out]
         self.folder = folder
         self.port = port
         self.run = subprocess.Popen(
@@ -51,13 +51,27 @@ class Server:
             env=environment(failing),
             stdin=subprocess.DEVNULL,
             stdout=subprocess.PIPE,
-            stderr=subprocess.PIPE,
+            stderr=stderr,
             preexec_fn=most_bytes and (lambda: limit(most_bytes)),
         )
         atexit.register(self.run.kill)  # (where a trial breaks off)
         expect("listening", self.run.stdout.readline(), f"listening {port}\n".encode())
-        told = re.fullmatch(rb"site (\d+)\n", self.run.stdout.readline())
-        self.site = told and int(told[1])
+        self.sites = self.told_sites(rooms)
+
+    def told_sites(self, rooms):
+        """The site of each room, in one line where it is the same for all."""
+        if told := re.fullmatch(rb"site (\d+)\n", line := self.run.stdout.readline()):
+            return dict.fromkeys(rooms, int(told[1]))
+        lines = [line, *(self.run.stdout.readline() for _ in rooms[1:])]
+        told = [re.fullmatch(rb"site (\S+) (\d+)\n", it) for it in lines]
+        sites = {it[1].decode(): int(it[2]) for it in told if it}
+        expect("a site for each room, which differ", (list(sites), len({*sites.values()}) > 1), (list(rooms), True))
+        return sites
+
+    @property
+    def site(self):
+        """That of its one room, or of all."""
+        return min(self.sites.values())
 
     def peer(self, room="notes"):
         return opened(self.port, room)
@@ -67,7 +81,7 @@ class Server:
 
     def kill(self):
         self.run.kill()
-        self.run.communicate()
+        _, self.told = self.run.communicate()
 
     def stop(self):
         """It is asked to end by the file for that: how long that took, the status, and what was printed and warned of."""
@@ -187,19 +201,20 @@ def lines_of(operations):
 
 
 def typed_by(sites, each):
-    """A log in which so many sites typed one after another, each some characters at the front."""
+    """A log in which so many sites typed one after another, each some characters at the front, no two alike in a thousand."""
     operations, clock = [], [0] * 32
     for site in range(sites):
-        for char in "x" * each:
+        for _ in range(each):
             clock[site] += 1
-            operations.append(operation_of(site, tuple(clock), "i", None, char))
+            operations.append(operation_of(site, tuple(clock), "i", None, chr(0x100 + len(operations) % 1_024)))
     return operations
 
 
 def refused(title, folder, *words, told, rooms=("notes",), named=None, **failing):
     """A server that ends before it listens, with lines of these patterns on standard error, and changes no file."""
     before = {it: it.read_bytes() for it in folder.glob("*.ops") if it.is_file()} if folder.is_dir() else {}
-    words = ["--port", str(free_port()), "--keep", str(folder) if named is None else named, *words, *rooms]
+    port = [] if "--port" in words else ["--port", str(free_port())]
+    words = [*port, "--keep", str(folder) if named is None else named, *words, *rooms]
     words = [BUILT if failing else PROGRAM, "serve", *words]
     run = subprocess.run(words, env=environment(failing), stdin=subprocess.DEVNULL, capture_output=True, timeout=60)
     got = warned(run.stderr)

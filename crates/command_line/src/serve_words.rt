@@ -33,7 +33,7 @@ fn line_command<'a>(alloc: Global) -> Result<Command<'a>, AllocError>
     let serve = new_command(alloc, "serve", "Serves rooms over WebSockets");
     let serve = serve.arg(port_arg(alloc))?;
     let serve = serve.arg(site_arg(alloc).help(
-        "The rooms' site number, 0 to 31: 0, or with --keep the least that no kept log has an operation of",
+        "The rooms' site number, 0 to 31: 0, or with --keep the least that each room's log has no operation of",
     ))?;
     serve.arg(conns_arg(alloc))
 }

@@ -23,8 +23,8 @@ use std::alloc::{AllocError, Global};
 /// `--version V`, 0 to 4,294,967,295, names the version, and else it is the newest. `world` plays the script on standard
 /// input: `--sites N` gives how many sites there are, 1 to 32, or 2 where it isn't given. `serve` serves rooms of the names
 /// that follow: `--port P` gives the port, 1 to 65535; `--site N` the site, 0 to 31; `--conns C`, 1 to 65,536, or 65,536 where
-/// it isn't given, the number of connections; `--keep FOLDER` where the rooms' logs are kept; and `--every SECONDS`, 1 to 3600,
-/// or 5 where it isn't given, how long a turn of keeping waits for the next. `--help` and `help`, also of a
+/// it isn't given, the number of connections; `--keep FOLDER` where the rooms' logs are kept; and `--every SECONDS`, 1 to 3600, how
+/// long a turn of keeping waits for the next, where answers don't wait for one. `--help` and `help`, also of a
 /// subcommand, are answered by `Help`; all other words by `Words`, which says what is wrong with them; want of memory by
 /// `Memory`. Takes time and memory in proportion to the words.
 pub fn plan(alloc: Global, words: &[String]) -> Result<Plan, PlanFault>

@@ -1,3 +1,3 @@
+mod Opened
 mod SeenGrow
 mod Turned
-mod Opened

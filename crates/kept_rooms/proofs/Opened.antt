@@ -5,7 +5,6 @@ use Rattle.std.specs.List.{range_with_len}
 use Rattle.std.proofs.Common.{refl, ap, ap₂, sym, subst, ◌∙◌, arith}
 use Rattle.std.proofs.lemmas.List.{length-map}
 use Rattle.std.proofs.lemmas.Option.{slice_get_within}
-use Rattle.versions.specs.Document.{Document}
 use Rattle.room.specs.Machine.{State, room_over}
 use Rattle.room.specs.History.{state_of}
 use Rattle.shared_room.specs.declared.pass.Pass.{Pass}
@@ -18,7 +17,8 @@ use Rattle.keeper.specs.Kept.{Keeps}
 use Rattle.keeper.specs.declared.kept.KeptFile.{KeptFile}
 use Rattle.kept_rooms.specs.SeenLogs.{log_between, seen_log, SeeAlike}
 use Rattle.kept_rooms.specs.Keeping.{IsFileOf}
-use Rattle.kept_rooms.specs.Opening.{over_document}
+use Rattle.kept_rooms.specs.declared.opening.Opening.{Opening}
+use Rattle.kept_rooms.specs.Openings.{replica_over}
 
 -- where two lists have the same images, there is an element of the first with the image of that of the second
 mapped_at : {A B C : Type 0} (f : A → C) (g : B → C) (xs : List A) (ys : List B) (k : ℕ) (y : B) → map f xs ≡ map g ys
@@ -35,20 +35,20 @@ mapped_at {A} {B} {C} f g (x ∷ xs) (z ∷ ys) (suc k) y same there =
     mapped_at f g xs ys k y tails there
 
 -- there is an element at each place within
-within_at : {A : Type 0} (xs : List A) (k : ℕ) → k < length xs → (x : A) × (slice_get xs k ≡ Some x)
+pub within_at : {A : Type 0} (xs : List A) (k : ℕ) → k < length xs → (x : A) × (slice_get xs k ≡ Some x)
 within_at [] k less = absurd (omega (arith, less))
 within_at (x ∷ xs) zero less = (x, refl)
 within_at {A} (x ∷ xs) (suc k) less = within_at xs k (omega (arith, less))
 
 -- a new pass has seen nothing, so that the log is that of the opening
-pub opened_seen : (names : List (List ℕ)) (site : ℕ) (docs : List Document) (hall : Hall) (pass : HallPass) (at : ℕ) (doc : Document)
-    → IsOpenedOver names (map (over_document site) docs) hall pass → slice_get docs at ≡ Some doc
-    → (room : SharedRoom) × (slice_get (rooms_of hall) at ≡ Some room) × (opening room ≡ room_over site doc.log)
-    × (seen_log hall at pass ≡ doc.log)
-opened_seen names site docs hall pass at doc opened there =
-    let rooms : map opening (rooms_of hall) ≡ map (λ (d : Document). room_over site d.log) docs =
-    opened.rooms ∙ flat docs in
-    let room = mapped_at opening (λ (d : Document). room_over site d.log) (rooms_of hall) docs at doc rooms there in
+pub opened_seen : (names : List (List ℕ)) (openings : List Opening) (hall : Hall) (pass : HallPass) (at : ℕ) (it : Opening)
+    → IsOpenedOver names (map replica_over openings) hall pass → slice_get openings at ≡ Some it
+    → (room : SharedRoom) × (slice_get (rooms_of hall) at ≡ Some room) × (opening room ≡ room_over it.site it.doc.log)
+    × (seen_log hall at pass ≡ it.doc.log)
+opened_seen names openings hall pass at it opened there =
+    let rooms : map opening (rooms_of hall) ≡ map (λ (o : Opening). room_over o.site o.doc.log) openings =
+    opened.rooms ∙ flat openings in
+    let room = mapped_at opening (λ (o : Opening). room_over o.site o.doc.log) (rooms_of hall) openings at it rooms there in
     let count : length names ≡ length (rooms_of hall) =
     ap length (sym opened.names) ∙ length-map hall.rooms.entries (λ e. string_bytes e.0) ∙ sym (length-map hall.rooms.entries (λ e. e.1)) in
     let less : at < length (rooms_of hall) = slice_get_within (rooms_of hall) at room.0 room.1 in
@@ -61,25 +61,25 @@ opened_seen names site docs hall pass at doc opened there =
           ∙ ap (λ (v : View). (state_of (opening room.0) v.seen).log) pass_there.2 ∙ ap (λ (S : State). S.log) room.2,
     )
   where
-    flat : (docs : List Document) → map (λ r. room_over r.site r.log) (map (over_document site) docs)
-        ≡ map (λ (d : Document). room_over site d.log) docs
+    flat : (openings : List Opening) → map (λ r. room_over r.site r.log) (map replica_over openings)
+        ≡ map (λ (o : Opening). room_over o.site o.doc.log) openings
     flat [] = refl
-    flat (d ∷ docs) = ap (λ l. room_over site d.log ∷ l) (flat docs)
+    flat (o ∷ openings) = ap (λ l. room_over o.site o.doc.log ∷ l) (flat openings)
 
 -- so each file is that of its room
 pub opened_file : {D : Type 0} (honest : D → Type 0) (seen : D → List ℕ) (may_leave : D → List ℕ → Type 0) (fresh : D → ℕ)
-    (names : List (List ℕ)) (site : ℕ) (docs : List Document) (hall : Hall) (pass : HallPass) (file : KeptFile D) (doc : Document)
-    → site < 32 → IsOpenedOver names (map (over_document site) docs) hall pass → slice_get docs file.room ≡ Some doc
-    → Keeps honest seen may_leave fresh file doc.log → IsFileOf honest seen may_leave fresh hall pass file
-opened_file honest seen may_leave fresh names site docs hall pass file doc one opened there keeps =
-    let found = opened_seen names site docs hall pass file.room doc opened there in
+    (names : List (List ℕ)) (openings : List Opening) (hall : Hall) (pass : HallPass) (file : KeptFile D) (it : Opening)
+    → it.site < 32 → IsOpenedOver names (map replica_over openings) hall pass → slice_get openings file.room ≡ Some it
+    → Keeps honest seen may_leave fresh file it.doc.log → IsFileOf honest seen may_leave fresh hall pass file
+opened_file honest seen may_leave fresh names openings hall pass file it one opened there keeps =
+    let found = opened_seen names openings hall pass file.room it opened there in
     record {
       within = slice_get_within (rooms_of hall) file.room found.0 found.1;
       over = record {
         room = found.0;
         there = found.1;
-        site = site;
-        log = doc.log;
+        site = it.site;
+        log = it.doc.log;
         one = one;
         opened = found.2;
         lawful = keeps.front.lawful;

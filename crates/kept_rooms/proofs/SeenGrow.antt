@@ -1,6 +1,8 @@
 -- What a look adds to the log that a pass has seen.
 use Rattle.std.proofs.Common.{◌≡◌, ℕ, ◌≤◌, zero, suc, List, [], ◌∷◌, ◌++◌, length, drop, Some, slice_get, slice_set, Result, Ok, Err}
-use Rattle.std.proofs.Common.{refl, ap, ap₂, sym, subst, ◌∙◌, ⊎_elim}
+use Rattle.std.proofs.Common.{refl, ap, ap₂, sym, subst, ◌∙◌, ⊎_elim, arith}
+use Rattle.std.proofs.lemmas.Option.{slice_get_within}
+use mathlib.Core.List.{IsPrefix}
 use Rattle.opid.specs.declared.refusal.Refusal.{Refusal}
 use Rattle.opid.specs.declared.refusal.Refusal.TheVariants.{Worn, Memory}
 use Rattle.opid.specs.Lawful.{IsLawful}
@@ -18,9 +20,10 @@ use Rattle.ws_server.specs.declared.hall.Hall.{Hall}
 use Rattle.ws_server.specs.declared.hall.HallPass.{HallPass}
 use Rattle.ws_server.specs.Halls.{rooms_of, IsHallPassOf}
 use Rattle.ws_server.specs.Keeping.{LooksInto}
-use Rattle.ws_server.proofs.Passes.{pass_at}
+use Rattle.ws_server.proofs.Passes.{pass_at, same_length}
 use Rattle.kept_rooms.specs.SeenLogs.{log_seen, log_between, seen_log}
 use Rattle.kept_rooms.specs.Keeping.{IsOverLog}
+use Rattle.kept_rooms.proofs.Opened.{within_at}
 
 -- calls behind calls
 state_behind : (S : State) (h more : List (ℕ × Call)) → state_of S (h ++ more) ≡ state_of (state_of S h) more
@@ -65,22 +68,23 @@ module _ (hall : Hall) (at after : ℕ) (pass pass' : HallPass) (result : Result
       (ap (λ ps. slice_get ps at) looked.5 ∙ set_there pass.passes.items at looked.1 looked.2 looked.4)
 
   -- it only grows
-  pub grown : Extends (seen_log hall at pass) (seen_log hall at pass')
+  pub grown : IsPrefix (seen_log hall at pass) (seen_log hall at pass')
   grown =
       let on = looks_extend (opening looked.0) (view looked.1) (view looked.2) after result looked.6 in
-      (on.0, since ∙ on.1 ∙ ap (λ log. log ++ on.0) (sym before))
+      (on.0, ap (λ log. log ++ on.0) before ∙ sym (since ∙ on.1))
 
-  -- it is lawful and within its limit, where the room was opened over such a log
-  pub sound : IsHallPassOf hall pass' → IsOverLog hall at → IsLawful (seen_log hall at pass') × (length (seen_log hall at pass') ≤ 131072)
-  sound is over =
-      let put = ap (λ ps. slice_get ps at) looked.5 ∙ set_there pass.passes.items at looked.1 looked.2 looked.4 in
-      let one = pass_at (rooms_of hall) pass'.passes.items at over.room looked.2 is over.there put in
-      let room : looked.0 ≡ over.room = cc (sym looked.3 ∙ over.there) in
-      let whole : IsConsistent (replayed (room_over over.site over.log) (view looked.2).seen) =
-      legal_history over.site over.log (view looked.2).seen over.one over.lawful over.few one.legal one.hands in
-      let log : (state_of (room_over over.site over.log) (view looked.2).seen).log ≡ seen_log hall at pass' =
-      ap (λ O. (state_of O (view looked.2).seen).log) (sym (ap opening room ∙ over.opened)) ∙ sym since in
-      (subst IsLawful log whole.lawful, subst (λ l. length l ≤ 131072) log whole.short)
+-- the log that a pass has seen is lawful and within its limit, where the room was opened over such a log
+pub sound : (hall : Hall) (at : ℕ) (pass : HallPass) → IsHallPassOf hall pass → IsOverLog hall at
+    → IsLawful (seen_log hall at pass) × (length (seen_log hall at pass) ≤ 131072)
+sound hall at pass is over =
+    let less = slice_get_within (rooms_of hall) at over.room over.there in
+    let there = within_at pass.passes.items at (let same = same_length (rooms_of hall) pass.passes.items is in omega (arith, same, less)) in
+    let one = pass_at (rooms_of hall) pass.passes.items at over.room there.0 is over.there there.1 in
+    let whole : IsConsistent (replayed (room_over over.site over.log) (view there.0).seen) =
+    legal_history over.site over.log (view there.0).seen over.one over.lawful over.few one.legal one.hands in
+    let log : (state_of (room_over over.site over.log) (view there.0).seen).log ≡ seen_log hall at pass =
+    ap (λ O. (state_of O (view there.0).seen).log) (sym over.opened) ∙ sym (ap₂ log_between over.there there.1) in
+    (subst IsLawful log whole.lawful, subst (λ l. length l ≤ 131072) log whole.short)
 
 module _ (hall : Hall) (at after : ℕ) (pass pass' : HallPass) (look : Look)
     (looked : LooksInto hall at pass.passes.items after (Ok look) pass'.passes.items) where

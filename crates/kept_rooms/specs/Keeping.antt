@@ -32,18 +32,18 @@ pub record IsFileOf {D : Type 0} (honest : D → Type 0) (seen : D → List ℕ)
   pub over : IsOverLog hall file.room
   pub keeps : Keeps honest seen may_leave fresh file (seen_log hall file.room pass)
 
--- A turn of the file's room. Where the file kept the log that the pass had seen, it keeps the log that the pass has seen since: all of
--- it, or with the mark where it was. A crash at any moment left a beginning of that log, with what stood in the file.
+-- A turn of the file's room. Where the file kept the log that the pass has seen since, as far as it went then, it keeps it now: all of it,
+-- or with the mark where it was. A crash at any moment left a beginning of that log, with what stood in the file.
 abbrev pub TurnsRoom : {D : Type 0} → (D → Type 0) → (D → List ℕ) → (D → List ℕ → Type 0) → (D → ℕ) → (D → ℕ)
-    → (D → ℕ → List ℕ → Type 0) → Hall → HallPass → HallPass → KeptFile D → KeptFile D → Type 0
-TurnsRoom honest seen may_leave fresh moment left_since hall pass pass' old new =
+    → (D → ℕ → List ℕ → Type 0) → Hall → HallPass → KeptFile D → KeptFile D → Type 0
+TurnsRoom honest seen may_leave fresh moment left_since hall pass old new =
     IsFileOf honest seen may_leave fresh hall pass old
-    → IsFileOf honest seen may_leave fresh hall pass' new
-    × ((new.mark.version ≡ length (seen_log hall old.room pass')) ⊎ (new.mark ≡ old.mark))
-    × LeavesOnly moment left_since old.disk new.disk (OpensAs old.mark.version (seen_log hall old.room pass'))
+    → IsFileOf honest seen may_leave fresh hall pass new
+    × ((new.mark.version ≡ length (seen_log hall old.room pass)) ⊎ (new.mark ≡ old.mark))
+    × LeavesOnly moment left_since old.disk new.disk (OpensAs old.mark.version (seen_log hall old.room pass))
 
--- where the file kept the log that the pass had seen, all is kept that it has seen since
+-- where the file kept that log, all of it is kept
 abbrev pub KeepsRoom : {D : Type 0} → (D → Type 0) → (D → List ℕ) → (D → List ℕ → Type 0) → (D → ℕ)
-    → Hall → HallPass → HallPass → KeptFile D → KeptFile D → Type 0
-KeepsRoom honest seen may_leave fresh hall pass pass' old new =
-    IsFileOf honest seen may_leave fresh hall pass old → new.mark.version ≡ length (seen_log hall old.room pass')
+    → Hall → HallPass → KeptFile D → KeptFile D → Type 0
+KeepsRoom honest seen may_leave fresh hall pass old new =
+    IsFileOf honest seen may_leave fresh hall pass old → new.mark.version ≡ length (seen_log hall old.room pass)

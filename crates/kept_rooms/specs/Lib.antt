@@ -1,5 +1,5 @@
 pub mod SeenLogs
 pub mod Keeping
 pub mod Covered
-pub mod Opening
+pub mod Openings
 pub mod Outputs

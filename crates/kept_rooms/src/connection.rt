@@ -8,8 +8,8 @@ ghost use Rattle.kept_rooms.specs.Covered.{AreCovered};
 ghost use Rattle.kept_rooms.specs.Outputs.{output_of};
 
 use crate::held::HeldStream;
-use crate::waiting::{Waiting, wait_until_kept};
-use keeper::Kept;
+use crate::room_turns::{RoomTurns, wait_until_kept};
+use keeper::{Disk, Kept};
 use line_engine::ServeFault;
 use std::alloc::Global;
 use std::io::{Read, Write};
@@ -94,21 +94,29 @@ impl<'a, S: Read + Write + Drop> KeptConnection<'a, S> {
     /// Waits until what the connection was answered is kept: the log of the room that it has opened, as far as its pass has seen it.
     ///
     /// Its faults are those of `wait_until_kept`.
-    pub fn wait<R: Wait + Clock>(
+    pub fn wait<R: Wait + Clock, D: Disk>(
         &mut self,
         rt: &R,
-        waiting: &[Waiting],
+        alloc: Global,
+        turns: &[RoomTurns<D>],
     ) -> Result<Option<Kept>, ServeFault>
         requires pass { IsHallPassOf self.old.hall.now self.old.pass }
         requires conn { IsConnOf self.old.hall.now self.old.conn }
-        requires counted { length waiting.now ≡ length (rooms_of self.old.hall.now) }
+        requires counted { length turns.now ≡ length (rooms_of self.old.hall.now) }
         ensures hall { self.new.hall ≡ self.old.hall }
         ensures pass { IsHallPassOf self.new.hall.now self.new.pass }
         ensures conn { self.new.conn ≡ self.old.conn }
         ensures covered { IfOk result (λ kept. AreCovered self.new.hall.now self.new.conn.opened self.new.pass kept) }
     {
         let kept = match self.conn.opened() {
-            Some(at) => Some(wait_until_kept(rt, self.hall, &mut self.pass, at, &waiting[at])?),
+            Some(at) => Some(wait_until_kept(
+                rt,
+                alloc,
+                self.hall,
+                &mut self.pass,
+                at,
+                &turns[at],
+            )?),
             None => None,
         };
         Ok(kept)

@@ -9,14 +9,14 @@ mod connection;
 mod held;
 pub mod laws;
 mod opening;
+mod room_turns;
 mod serving;
 mod turn;
-mod waiting;
 
 pub use assigning::{Assigned, assign_rooms};
 pub use connection::KeptConnection;
 pub use held::HeldStream;
-pub use opening::{Unopened, open_hall};
+pub use opening::{Opening, Unopened, open_hall};
+pub use room_turns::{RoomTurns, wait_until_kept};
 pub use serving::serve_kept;
 pub use turn::{TurnFault, keep_turn};
-pub use waiting::{Waiting, wait_until_kept};

@@ -4,7 +4,7 @@ ghost use Rattle.opid.specs.declared.refusal.Refusal.TheVariants as Why;
 ghost use Rattle.snapshot.specs.Snapshot.{LacksSite};
 ghost use Rattle.ws_server.specs.Halls.{IsHallPassOf, IsOpenedOver};
 ghost use Rattle.ws_server.specs.Names.{names_fit};
-ghost use Rattle.kept_rooms.specs.Opening.{over_document};
+ghost use Rattle.kept_rooms.specs.Openings.{replica_over};
 
 use opid::{Refusal, Site};
 use snapshot::open_over;
@@ -12,39 +12,48 @@ use std::alloc::Global;
 use versions::Doc;
 use ws_server::{Hall, HallPass};
 
+/// What a room opens over: a document, at a site.
+#[derive(Drop)]
+pub struct Opening {
+    /// The document of its log.
+    pub doc: Doc,
+    /// The site, which the log has no operation of.
+    pub site: Site,
+}
+
 /// Why rooms aren't opened.
 #[derive(Clone, Copy, Debug)]
 pub struct Unopened {
     /// Why.
     pub why: Refusal,
-    /// The place of the document that it was found at, or how many documents there are.
+    /// The place of the room that it was found at, or how many rooms there are.
     pub place: usize,
 }
 
-/// A room of this site for each name, over the log of the document at its place, and the first pass of each.
+/// A room for each name, over what is at its place, and the first pass of each.
 ///
-/// Refused with `SiteUsed` where a log has an operation of the site, and else as `Hall::over` is. Takes the steps of `open_over` for each
-/// document.
+/// Refused with `SiteUsed` where a log has an operation of its site, and else as `Hall::over` is. Takes the steps of `open_over` for each
+/// room.
 pub fn open_hall(
     alloc: Global,
     names: &[String],
-    site: Site,
-    docs: Vec<Doc>,
+    openings: Vec<Opening>,
 ) -> Result<(Hall, HallPass), Unopened>
-    requires counted { length docs.items ≡ length names.now }
-    requires unreserved { All (λ doc. doc.room ≡ 0) docs.items }
+    requires counted { length openings.items ≡ length names.now }
+    requires unreserved { All (λ it. it.doc.room ≡ 0) openings.items }
     ensures passes { IfOk result (λ r. IsHallPassOf r.0 r.1) }
-    ensures opened { IfOk result (λ r. IsOpenedOver (map string_bytes names.now) (map (over_document site) docs.items) r.0 r.1) }
-    ensures unused { OnOk result (All (λ doc. LacksSite site doc.log) docs.items) }
+    ensures opened { IfOk result (λ r. IsOpenedOver (map string_bytes names.now) (map replica_over openings.items) r.0 r.1) }
+    ensures unused { OnOk result (All (λ it. LacksSite it.site it.doc.log) openings.items) }
     ensures unfit { IfErr result (λ e. e.why ≡ Why.BadField → names_fit names.now ≡ false) }
 {
-    let count = docs.len();
+    let count = openings.len();
     let mut replicas = Vec::new(alloc);
-    let mut rest = docs.into_iter();
+    let mut rest = openings.into_iter();
     for place in 0..count {
-        let Some(doc) = rest.next() else {
+        let Some(opening) = rest.next() else {
             unreachable!()
         };
+        let Opening { doc, site } = opening;
         let replica = match open_over(alloc, site, doc) {
             Ok(replica) => replica,
             Err(why) => return Err(Unopened { why, place }),

@@ -3,7 +3,8 @@ ghost use Rattle.std.specs.Prelude.{◌≡◌, length};
 ghost use Rattle.ws_server.specs.Halls.{rooms_of, IsHallPassOf, IsConnOf};
 
 use crate::connection::KeptConnection;
-use crate::waiting::Waiting;
+use crate::room_turns::RoomTurns;
+use keeper::Disk;
 use line_engine::ServeFault;
 use std::alloc::Global;
 use std::io::{Read, Write};
@@ -21,17 +22,17 @@ const MOST_WAITING: usize = 65_536;
 /// its order, once the room's log is kept as far as it was seen. What is answered before a room is opened waits for nothing.
 ///
 /// Its faults are those of `serve_socket`; `Write` too where keeping takes more than half a minute. Takes as long as the other side stays.
-pub fn serve_kept<R: Wait + Clock, S: Read + Write + Drop, G: Witness>(
+pub fn serve_kept<R: Wait + Clock, D: Disk, S: Read + Write + Drop, G: Witness>(
     rt: &R,
     alloc: Global,
-    waiting: &[Waiting],
+    turns: &[RoomTurns<D>],
     it: &mut KeptConnection<'_, S>,
     gate: &mut G,
     is_ending: &AtomicBool,
 ) -> Result<(), ServeFault>
     requires pass { IsHallPassOf it.old.hall.now it.old.pass }
     requires conn { IsConnOf it.old.hall.now it.old.conn }
-    requires counted { length waiting.now ≡ length (rooms_of it.old.hall.now) }
+    requires counted { length turns.now ≡ length (rooms_of it.old.hall.now) }
     ensures hall { it.new.hall ≡ it.old.hall }
     ensures pass { IsHallPassOf it.new.hall.now it.new.pass }
     ensures conn { IsConnOf it.new.hall.now it.new.conn }
@@ -39,11 +40,11 @@ pub fn serve_kept<R: Wait + Clock, S: Read + Write + Drop, G: Witness>(
     for _ in rt.forever() {
         let served = it.serve(rt, alloc, gate);
         if !goes_on(it, &served) {
-            return ended(served, send_out(rt, waiting, it));
+            return ended(served, send_out(rt, alloc, turns, it));
         }
         let is_all_answered = it.is_put_off();
         if is_all_answered || it.waiting() > MOST_WAITING {
-            send_out(rt, waiting, it)?;
+            send_out(rt, alloc, turns, it)?;
         }
         if is_all_answered && is_ending.load(Ordering::SeqCst) {
             return Ok(());
@@ -73,14 +74,15 @@ fn ended(served: Result<bool, ServeFault>, sent: Result<(), ServeFault>) -> Resu
 }
 
 // Sends what waits, if something does, once it is kept.
-fn send_out<R: Wait + Clock, S: Read + Write + Drop>(
+fn send_out<R: Wait + Clock, D: Disk, S: Read + Write + Drop>(
     rt: &R,
-    waiting: &[Waiting],
+    alloc: Global,
+    turns: &[RoomTurns<D>],
     it: &mut KeptConnection<'_, S>,
 ) -> Result<(), ServeFault>
     requires pass { IsHallPassOf it.old.hall.now it.old.pass }
     requires conn { IsConnOf it.old.hall.now it.old.conn }
-    requires counted { length waiting.now ≡ length (rooms_of it.old.hall.now) }
+    requires counted { length turns.now ≡ length (rooms_of it.old.hall.now) }
     ensures hall { it.new.hall ≡ it.old.hall }
     ensures pass { IsHallPassOf it.new.hall.now it.new.pass }
     ensures conn { IsConnOf it.new.hall.now it.new.conn }
@@ -88,6 +90,6 @@ fn send_out<R: Wait + Clock, S: Read + Write + Drop>(
     if it.waiting() == 0 {
         return Ok(());
     }
-    let kept = it.wait(rt, waiting)?;
+    let kept = it.wait(rt, alloc, turns)?;
     it.release(kept)
 }

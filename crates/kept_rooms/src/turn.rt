@@ -1,9 +1,10 @@
 //! A turn of keeping a room's log.
-ghost use Rattle.std.specs.Prelude.{◌≡◌, ◌<◌, length, OnOk};
+ghost use Rattle.std.specs.Prelude.{◌≡◌, ◌<◌, ◌≤◌, length, IfOk, OnOk};
 ghost use Rattle.ws_server.specs.Halls.{rooms_of, IsHallPassOf};
 ghost use Rattle.kept_rooms.specs.Keeping.{TurnsRoom, KeepsRoom};
+ghost use Rattle.kept_rooms.specs.SeenLogs.{seen_log};
 
-use keeper::laws::{grows_with_its_log, turns_follow};
+use keeper::laws::turns_follow;
 use keeper::{Disk, KeepFault, KeptFile};
 use opid::Refusal;
 use shared_room::Look;
@@ -39,10 +40,11 @@ pub fn keep_turn<R: Wait, D: Disk>(
     requires within { file.old.room < length (rooms_of hall.now) }
     ensures pass { IsHallPassOf hall.now pass.new }
     ensures room { file.new.room ≡ file.old.room }
-    ensures turned { TurnsRoom D.honest D.seen D.may_leave D.fresh D.moment D.left_since hall.now pass.old pass.new file.old file.new }
-    ensures kept { OnOk result (KeepsRoom D.honest D.seen D.may_leave D.fresh hall.now pass.old pass.new file.old file.new) }
+    ensures version { IfOk result (λ look. look.version ≡ length (seen_log hall.now file.old.room pass.new)) }
+    ensures no_less { length (seen_log hall.now file.old.room pass.old) ≤ length (seen_log hall.now file.old.room pass.new) }
+    ensures turned { TurnsRoom D.honest D.seen D.may_leave D.fresh D.moment D.left_since hall.now pass.new file.old file.new }
+    ensures kept { OnOk result (KeepsRoom D.honest D.seen D.may_leave D.fresh hall.now pass.new file.old file.new) }
 {
-    grows_with_its_log::<D>();
     turns_follow::<D>();
     let at = file.room();
     let look = match hall.look(rt, pass, at, file.version()) {
@@ -52,5 +54,51 @@ pub fn keep_turn<R: Wait, D: Disk>(
     match file.keep(alloc, look.ops.as_slice()) {
         Ok(()) => Ok(look),
         Err(why) => Err(TurnFault::Keep(why)),
+    }
+}
+
+/// The same for the room at a place, which is kept in this file, if it is: else it is only looked at.
+///
+/// `NoRoom` where the file is another room's.
+pub(crate) fn look_at<R: Wait, D: Disk>(
+    rt: &R,
+    alloc: Global,
+    hall: &Hall,
+    pass: &mut HallPass,
+    at: usize,
+    file: &mut Option<KeptFile<D>>,
+) -> Result<Look, TurnFault>
+    requires pass { IsHallPassOf hall.now pass.old }
+    requires within { at < length (rooms_of hall.now) }
+    ensures pass { IsHallPassOf hall.now pass.new }
+    ensures version { IfOk result (λ look. look.version ≡ length (seen_log hall.now at pass.new)) }
+    ensures no_less { length (seen_log hall.now at pass.old) ≤ length (seen_log hall.now at pass.new) }
+{
+    match file {
+        Some(file) if file.room() == at => keep_turn(rt, alloc, hall, pass, file),
+        Some(_) => Err(TurnFault::Look(Refusal::NoRoom)),
+        None => match glance(rt, hall, pass, at) {
+            Ok(look) => Ok(look),
+            Err(why) => Err(TurnFault::Look(why)),
+        },
+    }
+}
+
+/// A look at the room at a place that tells no operations, as `Hall::look` is refused.
+pub(crate) fn glance<R: Wait>(
+    rt: &R,
+    hall: &Hall,
+    pass: &mut HallPass,
+    at: usize,
+) -> Result<Look, Refusal>
+    requires pass { IsHallPassOf hall.now pass.old }
+    requires within { at < length (rooms_of hall.now) }
+    ensures pass { IsHallPassOf hall.now pass.new }
+    ensures version { IfOk result (λ look. look.version ≡ length (seen_log hall.now at pass.new)) }
+    ensures no_less { length (seen_log hall.now at pass.old) ≤ length (seen_log hall.now at pass.new) }
+{
+    match hall.look(rt, pass, at, u32::MAX) {
+        Ok(look) => Ok(look),
+        Err(why) => Err(why),
     }
 }

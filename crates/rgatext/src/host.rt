@@ -1,5 +1,5 @@
 //! Serves rooms over WebSockets on loopback: a thread for each connection, and one for each room that looks at it meanwhile.
-ghost use Rattle.std.specs.Prelude.{◌≡◌, ◌↔◌, false, length, Err, IfOk};
+ghost use Rattle.std.specs.Prelude.{◌≡◌, ◌<◌, ◌↔◌, false, length, Err};
 ghost use Rattle.std.specs.Thread.{IsSync};
 ghost use Rattle.ws_server.specs.Halls.{rooms_of, IsHallPassOf};
 ghost use Rattle.ws_server.specs.Names.{names_fit};
@@ -9,45 +9,49 @@ use crate::listener::{closed, fitting, listen, serve_all};
 use crate::rooms::{Opened, open_rooms};
 use crate::serving::{Serving, Shared};
 use crate::stop::{await_stop, remove_stop};
+use crate::warnings::Warnings;
 use crate::watch::{Ended, LOOKS, Watched, watch};
 use commands::Stop;
-use kept_rooms::{Assigned, Waiting, assign_rooms};
+use kept_rooms::{Assigned, assign_rooms};
 use line_engine::ServeFault;
 use log::{Log, warn};
-use opid::{Refusal, Site};
-use std::alloc::{AllocError, Global};
+use opid::Refusal;
+use std::alloc::Global;
 use std::fs::{File, Files};
 use std::io::Print;
 use std::net::{Net, TcpListener, TcpStream};
 use std::sync::Wait;
 use std::sync::atomic::{AtomicBool, Ordering};
-use std::thread;
 use std::thread::Threads;
 use std::time::Clock;
+use std::{array, io, thread};
 use ws_server::names_fit;
 
-// Tells which site the rooms are opened at, where they are kept.
-fn tell_site<R: Print>(rt: &R, serving: &Serving<'_>, site: Site) -> Result<(), Stop>
+// Tells which site the rooms are opened at, where they are kept: in one line where it is the same for all.
+fn tell_sites<R: Print>(rt: &R, serving: &Serving<'_>, rooms: &[Watched]) -> Result<(), Stop>
     ensures fits { (result ≡ Err (Stop.Refused Refusal.BadField)) → ⊥ }
 {
-    if serving.keep.is_none() {
+    if !serving.is_kept() {
         return Ok(());
     }
-    match println!(rt; "site {}", site.number()) {
+    let told = match rooms {
+        [first, rest @ ..] if rest.iter().all(|it| it.site == first.site) => {
+            println!(rt; "site {}", first.site.number())
+        }
+        _ => tell_each_site(rt, rooms),
+    };
+    match told {
         Ok(()) => Ok(()),
         Err(_) => Err(Stop::Fault(ServeFault::Write)),
     }
 }
 
-// How far each room is kept, for those who wait.
-fn waiting_of(alloc: Global, watched: &[Watched]) -> Result<Vec<Waiting>, AllocError>
-    ensures { IfOk result (λ waiting. length waiting.items ≡ length watched.now) }
-{
-    let mut waiting = Vec::new(alloc);
-    for room in watched {
-        waiting.push(Waiting::new(room.kept(waiting.len())))?;
+// The same, in a line for each room.
+fn tell_each_site<R: Print>(rt: &R, rooms: &[Watched]) -> io::Result<()> {
+    for it in rooms {
+        println!(rt; "site {} {}", it.name, it.site.number())?;
     }
-    Ok(waiting)
+    Ok(())
 }
 
 // Serves connections until all have ended, and looks at the rooms meanwhile and once more then. Where no thread can be had that looks, no
@@ -68,26 +72,26 @@ fn serve_watched<
     serving: &Serving<'_>,
     stop: Option<&str>,
     connections: &Connections,
+    warnings: &Warnings,
 ) -> Result<(), Stop>
     requires pass { IsHallPassOf opened.hall opened.pass }
-    requires counted { length opened.watched.items ≡ length (rooms_of opened.hall) }
+    requires turns { length opened.turns.items ≡ length (rooms_of opened.hall) }
+    requires watched { length opened.watched.items ≡ length (rooms_of opened.hall) }
     ensures fits { (result ≡ Err (Stop.Refused Refusal.BadField)) → ⊥ }
 {
     let Opened {
         hall,
         mut pass,
+        turns,
         watched,
-        site: _,
         lock,
     } = opened;
-    let Ok(waiting) = waiting_of(alloc, watched.as_slice()) else {
-        return Err(Stop::Fault(ServeFault::Memory));
-    };
     let (ended, is_lost) = (&Ended::new(), &AtomicBool::new(false));
     let shared = Shared {
         hall: &hall,
-        waiting: waiting.as_slice(),
+        turns: turns.as_slice(),
         connections,
+        warnings,
         is_ending: &AtomicBool::new(false),
         rhythm: serving.rhythm(),
     };
@@ -96,12 +100,12 @@ fn serve_watched<
         rt,
         move |scope| -> Result<(), Stop>
             requires { IsSync R.row × IsHallPassOf shared.hall.now pass
-                × (length shared.waiting.now ≡ length (rooms_of shared.hall.now))
+                × (length shared.turns.now ≡ length (rooms_of shared.hall.now))
                 × (length watched.items ≡ length (rooms_of shared.hall.now)) }
             ensures { (result ≡ Err (Stop.Refused Refusal.BadField)) → ⊥ }
         {
             let Ok(rooms) = assign_rooms(alloc, shared.hall, &mut pass, watched, LOOKS) else {
-                return Err(closed(rt, Stop::Socket));
+                return Err(closed(rt, alloc, warnings, serving, Stop::Socket));
             };
             let mut is_watched = true;
             for it in rooms {
@@ -110,24 +114,16 @@ fn serve_watched<
                     pass: watching,
                     item: room,
                 } = it;
-                let Some(told) = shared.waiting.get(place) else {
+                if place >= shared.hall.len() {
                     is_watched = false;
                     break;
-                };
+                }
                 let watcher = scope.spawn(
                     move ||
-                        requires { IsSync R.row × IsHallPassOf shared.hall.now watching }
+                        requires { IsSync R.row × IsHallPassOf shared.hall.now watching × (place < length (rooms_of shared.hall.now))
+                            × (length shared.turns.now ≡ length (rooms_of shared.hall.now)) }
                     {
-                        if !watch(
-                            rt,
-                            alloc,
-                            shared.hall,
-                            watching,
-                            room,
-                            place,
-                            told,
-                            shared.rhythm,
-                        ) {
+                        if !watch(rt, alloc, shared, watching, room, place) {
                             is_lost.store(true, Ordering::SeqCst);
                         }
                     },
@@ -135,13 +131,13 @@ fn serve_watched<
                 is_watched &= watcher.is_ok();
             }
             let served = match stop {
-                _ if !is_watched => Err(closed(rt, Stop::Socket)),
+                _ if !is_watched => Err(closed(rt, alloc, warnings, serving, Stop::Socket)),
                 None => serve_all(rt, alloc, shared, pass, listener, serving),
                 Some(path) => {
                     let door = scope.spawn(
                         move || -> Result<(), Stop>
                             requires { IsSync R.row × IsHallPassOf shared.hall.now pass
-                                × (length shared.waiting.now ≡ length (rooms_of shared.hall.now)) }
+                                × (length shared.turns.now ≡ length (rooms_of shared.hall.now)) }
                         {
                             let served = serve_all(rt, alloc, shared, pass, listener, serving);
                             ended.tell(rt);
@@ -160,11 +156,11 @@ fn serve_watched<
                             );
                             fitting(door.join(rt))
                         }
-                        Err(_) => Err(closed(rt, Stop::Socket)),
+                        Err(_) => Err(closed(rt, alloc, warnings, serving, Stop::Socket)),
                     }
                 }
             };
-            for it in shared.waiting {
+            for it in shared.turns {
                 it.end(rt);
             }
             served
@@ -173,6 +169,68 @@ fn serve_watched<
     remove_stop(rt, stop);
     drop(lock);
     whole(!is_lost.load(Ordering::SeqCst), fitting(served))
+}
+
+// The same, while a thread of its own tells what is warned of.
+fn serve_warned<
+    R: Net<Listener = TcpListener, Stream = TcpStream>
+        + Files<File = File>
+        + Clock
+        + Threads
+        + Wait
+        + Log
+        + Sync,
+>(
+    rt: &R,
+    alloc: Global,
+    opened: Opened,
+    listener: TcpListener,
+    serving: &Serving<'_>,
+    stop: Option<&str>,
+    connections: &Connections,
+) -> Result<(), Stop>
+    requires pass { IsHallPassOf opened.hall opened.pass }
+    requires turns { length opened.turns.items ≡ length (rooms_of opened.hall) }
+    requires watched { length opened.watched.items ≡ length (rooms_of opened.hall) }
+    ensures fits { (result ≡ Err (Stop.Refused Refusal.BadField)) → ⊥ }
+{
+    let all = Warnings::new(alloc);
+    let warnings = &all;
+    let served = thread::scope(
+        thread::scope_env(),
+        rt,
+        move |scope| -> Result<(), Stop>
+            requires { IsSync R.row × IsHallPassOf opened.hall opened.pass
+                × (length opened.turns.items ≡ length (rooms_of opened.hall))
+                × (length opened.watched.items ≡ length (rooms_of opened.hall)) }
+            ensures { (result ≡ Err (Stop.Refused Refusal.BadField)) → ⊥ }
+        {
+            let teller = scope.spawn(
+                move ||
+                    requires { IsSync R.row }
+                { warnings.tell(rt) },
+            );
+            let served = match teller {
+                Ok(_) => serve_watched(
+                    rt,
+                    alloc,
+                    opened,
+                    listener,
+                    serving,
+                    stop,
+                    connections,
+                    warnings,
+                ),
+                Err(_) => Err(closed(rt, alloc, warnings, serving, Stop::Socket)),
+            };
+            warnings.end(rt);
+            served
+        },
+    );
+    // (where no thread tells them)
+    warnings.end(rt);
+    warnings.tell(rt);
+    fitting(served)
 }
 
 // How it ends where all connections have ended so, and all that was to be kept is, or isn't.
@@ -190,15 +248,15 @@ fn whole(is_whole: bool, served: Result<(), Stop>) -> Result<(), Stop>
 
 /// Serves a room for each name on the port of 127.0.0.1, prints `listening` and the port once it listens, accepts so many
 /// connections, waits for all and ends. With a folder, each room opens over what its file there stands for, `site` and its number are
-/// printed next, what a room's log gains goes to its file, which answers wait for unless turns are taken each `every` seconds, and the
-/// file `stop` in the folder ends the server. Takes a thread for each connection that is there, one for each room and one more, and a few
-/// bytes for each connection that has ended.
+/// printed next, for each room by its name where they differ, what a room's log gains goes to its file, which answers wait for unless
+/// turns are taken each `every` seconds, and the file `stop` in the folder ends the server. Takes a thread for each connection that is
+/// there, one for each room and two more, and a few bytes for each connection that has ended.
 ///
-/// A connection's fault ends it alone, and is warned of at the end, in order of acceptance; a limit that comes near, a last connection,
-/// and a file that can't be written are warned of when they are met. Names that don't fit are refused with `BadField`, a kept log that
-/// has operations of the site with `SiteUsed`, and a file that stands for no log with `BadSnapshot`; `Files` where a file can't be had;
-/// a listener, a connection or a thread that can't be had ends it with `Socket`, once the connections that were accepted have ended;
-/// and the last write to a file that fails with `Write`.
+/// A connection's fault ends it alone, and is warned of at the end, in order of acceptance. Where rooms are kept a limit that comes near, a
+/// last connection, a room that is left out, and a file that can't be written are warned of when they are met. Names that don't fit are
+/// refused with `BadField`; where no room is left, with `SiteUsed`, `BadSnapshot` or `Files` as `open_rooms` tells; a listener, a
+/// connection or a thread that can't be had ends it with `Socket`, once the connections that were accepted have ended; and the last write
+/// to a file that fails with `Write`.
 pub(crate) fn host<
     R: Net<Listener = TcpListener, Stream = TcpStream>
         + Files<File = File>
@@ -212,18 +270,34 @@ pub(crate) fn host<
     ensures unfit { (names_fit serving.now.names.now ≡ false) ↔ (result ≡ Err (Stop.Refused Refusal.BadField)) }
 {
     if !names_fit(serving.names) {
+        tell_unfit(rt, serving);
         return Err(Stop::Refused(Refusal::BadField));
     }
     let path = stop_path(alloc, serving.keep)?;
     let stop = path.as_ref().map(|path| path.as_str());
     let opened = open_rooms(rt, alloc, serving.keep, serving.site, serving.names)?;
     remove_stop(rt, stop);
-    let listener = listen(rt, serving.port)?;
-    tell_site(rt, serving, opened.site)?;
+    let listener = listen(rt, serving)?;
+    tell_sites(rt, serving, opened.watched.as_slice())?;
     let connections = Connections::new(alloc);
-    serve_watched(rt, alloc, opened, listener, serving, stop, &connections)?;
+    serve_warned(rt, alloc, opened, listener, serving, stop, &connections)?;
     tell_ends(rt, connections);
     Ok(())
+}
+
+// Warns of the first name that doesn't fit by itself, where rooms are to be kept, and tells the rule.
+fn tell_unfit<R: Log>(rt: &R, serving: &Serving<'_>) {
+    if !serving.is_kept() {
+        return;
+    }
+    let rule = "1 to 64 names, all different, each of 1 to 32 characters a-z, 0-9 and -";
+    for name in serving.names {
+        if !names_fit(array::from_ref(name)) {
+            warn!(rt; "room {name}: rooms have {rule}");
+            return;
+        }
+    }
+    warn!(rt; "rooms have {rule}");
 }
 
 // Warns of each connection that ended with a fault.

@@ -3,7 +3,6 @@ ghost use Rattle.std.specs.Prelude.{◌≡◌, Err, IfOk};
 
 use commands::Stop;
 use keeper::{Found, HostFile, KeptFile, OpenFault, find};
-use kept_rooms::TurnFault;
 use line_engine::ServeFault;
 use log::{Log, warn};
 use opid::Refusal;
@@ -11,24 +10,6 @@ use std::alloc::Global;
 use std::fs;
 use std::fs::{File, Files, OpenOptions, TryLockError};
 use versions::Doc;
-
-/// The file in which a room is kept, with its path.
-#[derive(Drop)]
-pub(crate) struct RoomFile {
-    pub(crate) path: String,
-    pub(crate) file: KeptFile<HostFile>,
-}
-
-impl RoomFile {
-    /// Warns of a turn that kept nothing.
-    pub(crate) fn tell_failure<R: Log>(&self, rt: &R, why: &TurnFault, do_answers_wait: bool) {
-        if do_answers_wait {
-            warn!(rt; "{}: {why}; it is tried again, and answers wait", self.path);
-        } else {
-            warn!(rt; "{}: {why}; it is tried again at each turn", self.path);
-        }
-    }
-}
 
 /// Takes the folder for this server alone, for as long as the file that is answered is open: a second server that keeps its rooms
 /// there is refused, until this one has ended, however it ends.
@@ -70,8 +51,16 @@ pub(crate) fn lock_folder<R: Files<File = File> + Log>(
     }
 }
 
-/// The file of the room with this name, whose place is told, and the document of the log that stands in it: an empty one where there was
-/// none. A last line that was cut short is left out, and warned of. Nothing is written yet.
+/// A room's file, its path, and the document of the log that stands in it.
+#[derive(Drop)]
+pub(crate) struct RoomFile {
+    pub(crate) path: String,
+    pub(crate) file: KeptFile<HostFile>,
+    pub(crate) doc: Doc,
+}
+
+/// The file of the room with this name, whose place is told, with an empty document where there was none. A last line that was cut short is
+/// left out, and warned of. Nothing is written yet.
 ///
 /// `BadSnapshot` where a whole line is no part of a log that goes on with those before it, `Files` where the file can't be had or read;
 /// either is warned of, with its name. `Memory`.
@@ -81,9 +70,9 @@ pub(crate) fn open_file<R: Files<File = File> + Log>(
     folder: &str,
     name: &str,
     place: usize,
-) -> Result<(RoomFile, Doc), Stop>
+) -> Result<RoomFile, Stop>
     ensures fits { (result ≡ Err (Stop.Refused Refusal.BadField)) → ⊥ }
-    ensures unreserved { IfOk result (λ kept. kept.1.room ≡ 0) }
+    ensures unreserved { IfOk result (λ kept. kept.doc.room ≡ 0) }
 {
     let Ok(path) = format!(in alloc; "{folder}/{name}.ops") else {
         return Err(Stop::Fault(ServeFault::Memory));
@@ -101,12 +90,20 @@ pub(crate) fn open_file<R: Files<File = File> + Log>(
             return Err(Stop::Files);
         }
     };
+    // (whoever has lost the folder's lock, as where that file was deleted, doesn't write here all the same)
+    if let Err(why) = file.try_lock() {
+        match why {
+            TryLockError::WouldBlock => warn!(rt; "{path}: another server keeps the room there"),
+            TryLockError::Error(why) => warn!(rt; "{path}: {why}"),
+        }
+        return Err(Stop::Files);
+    }
     match find(alloc, HostFile::new(file), place) {
         Ok(Found { file, doc, torn }) => {
             if torn > 0 {
                 warn!(rt; "{path}: the last line was cut short: its {torn} bytes are left out");
             }
-            Ok((RoomFile { path, file }, doc))
+            Ok(RoomFile { path, file, doc })
         }
         Err(unopened) => Err(stop_of(rt, path.as_str(), &unopened.why)),
     }

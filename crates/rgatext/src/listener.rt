@@ -4,6 +4,7 @@ ghost use Rattle.std.specs.Thread.{IsSync};
 ghost use Rattle.ws_server.specs.Halls.{rooms_of, IsHallPassOf};
 
 use crate::serving::{Serving, Shared, serve};
+use crate::warnings::Warnings;
 use commands::Stop;
 use line_engine::ServeFault;
 use log::{Log, warn};
@@ -22,14 +23,21 @@ use ws_server::HallPass;
 const TARGET: &str = "rgatext::host";
 
 /// A listener at the port, once it was told of.
-pub(crate) fn listen<R: Net<Listener = TcpListener, Stream = TcpStream> + Print>(
+pub(crate) fn listen<R: Net<Listener = TcpListener, Stream = TcpStream> + Print + Log>(
     rt: &R,
-    port: u16,
+    serving: &Serving<'_>,
 ) -> Result<TcpListener, Stop>
     ensures fits { (result ≡ Err (Stop.Refused Refusal.BadField)) → ⊥ }
 {
-    let Ok(listener) = TcpListener::bind(rt, ("127.0.0.1", port)) else {
-        return Err(Stop::Socket);
+    let port = serving.port;
+    let listener = match TcpListener::bind(rt, ("127.0.0.1", port)) {
+        Ok(listener) => listener,
+        Err(why) => {
+            if serving.is_kept() {
+                warn!(rt; target: TARGET, "127.0.0.1:{port}: {why}");
+            }
+            return Err(Stop::Socket);
+        }
     };
     match println!(rt; "listening {port}") {
         Ok(()) => Ok(listener),
@@ -37,10 +45,10 @@ pub(crate) fn listen<R: Net<Listener = TcpListener, Stream = TcpStream> + Print>
     }
 }
 
-/// Serves so many connections, each by a thread, until all have ended. Once the last is accepted, or one can't be had,
-/// nobody listens any more (docs/decisions, P17), which is warned of; or once the server is to end. A thread's handle is given up at once,
-/// so that a thread that has ended leaves nothing behind (docs/decisions, P16).
-pub(crate) fn serve_all<R: Clock + Threads + Wait + Log + Sync>(
+/// Serves so many connections, each by a thread, until all have ended. Once the last is accepted, or one can't be had, nobody listens any
+/// more (docs/decisions, P17), which is warned of where rooms are kept; or once the server is to end. A thread's handle is given up at
+/// once, so that a thread that has ended leaves nothing behind (docs/decisions, P16).
+pub(crate) fn serve_all<R: Clock + Threads + Wait + Sync>(
     rt: &R,
     alloc: Global,
     shared: Shared<'_>,
@@ -49,45 +57,68 @@ pub(crate) fn serve_all<R: Clock + Threads + Wait + Log + Sync>(
     serving: &Serving<'_>,
 ) -> Result<(), Stop>
     requires pass { IsHallPassOf shared.hall.now pass }
-    requires counted { length shared.waiting.now ≡ length (rooms_of shared.hall.now) }
+    requires counted { length shared.turns.now ≡ length (rooms_of shared.hall.now) }
     ensures fits { (result ≡ Err (Stop.Refused Refusal.BadField)) → ⊥ }
 {
-    let (conns, may_be_hung_up) = (serving.conns, serving.keep.is_some());
+    let conns = serving.conns;
     let draws = shared.draws();
     let served = thread::scope(
         thread::scope_env(),
         rt,
         move |scope| -> Result<(), Stop>
             requires { IsSync R.row × IsHallPassOf shared.hall.now pass
-                × (length shared.waiting.now ≡ length (rooms_of shared.hall.now)) }
+                × (length shared.turns.now ≡ length (rooms_of shared.hall.now)) }
             ensures { (result ≡ Err (Stop.Refused Refusal.BadField)) → ⊥ }
         {
             for n in 0..conns {
-                let stream = accept(rt, alloc, &listener)?;
+                let stream = accept(rt, alloc, &listener, shared.warnings, serving)?;
                 if shared.is_ending.load(Ordering::SeqCst) {
                     return Ok(());
                 }
                 let given = match shared.hall.split(alloc, &mut pass, draws) {
                     Ok(given) => given,
-                    Err(why) => return Err(closed(rt, Stop::of(why))),
+                    Err(why) => return Err(closed(
+                        rt,
+                        alloc,
+                        shared.warnings,
+                        serving,
+                        Stop::of(why),
+                    )),
                 };
-                let Ok(kept) = handle_of(&stream, may_be_hung_up) else {
-                    return Err(closed(rt, Stop::Fault(ServeFault::Memory)));
+                let Ok(kept) = handle_of(&stream, serving.is_kept()) else {
+                    return Err(closed(
+                        rt,
+                        alloc,
+                        shared.warnings,
+                        serving,
+                        Stop::Fault(ServeFault::Memory),
+                    ));
                 };
                 if shared.connections.add(rt, kept).is_err() {
-                    return Err(closed(rt, Stop::Fault(ServeFault::Memory)));
+                    return Err(closed(
+                        rt,
+                        alloc,
+                        shared.warnings,
+                        serving,
+                        Stop::Fault(ServeFault::Memory),
+                    ));
                 }
                 let worker = scope.spawn(
                     move ||
                         requires { IsSync R.row × IsHallPassOf shared.hall.now given
-                            × (length shared.waiting.now ≡ length (rooms_of shared.hall.now)) }
+                            × (length shared.turns.now ≡ length (rooms_of shared.hall.now)) }
                     { serve(rt, alloc, shared, given, stream, n as usize) },
                 );
                 if worker.is_err() {
-                    return Err(closed(rt, Stop::Socket));
+                    return Err(closed(rt, alloc, shared.warnings, serving, Stop::Socket));
                 }
             }
-            warn!(rt; target: TARGET, "the last of {conns} connections is accepted: nobody listens any more");
+            if serving.is_kept() {
+                let text = format!(in alloc;
+                    "the last of {conns} connections is accepted: nobody listens any more"
+                );
+                shared.warnings.add(rt, TARGET, text);
+            }
             Ok(())
         },
     );
@@ -96,10 +127,12 @@ pub(crate) fn serve_all<R: Clock + Threads + Wait + Log + Sync>(
 
 // The next connection, which sends what it has at once: a reply that waits to be longer would hold up a client that
 // sends many requests before it reads. One that can't be had is warned of.
-fn accept<R: Log>(
+fn accept<R: Wait>(
     rt: &R,
     alloc: Global,
     listener: &TcpListener,
+    warnings: &Warnings,
+    serving: &Serving<'_>,
 ) -> Result<Arc<TcpStream, Global>, Stop>
     ensures fits { (result ≡ Err (Stop.Refused Refusal.BadField)) → ⊥ }
 {
@@ -109,27 +142,48 @@ fn accept<R: Log>(
             let _ = stream.set_nodelay(true);
             match Arc::new(alloc, stream) {
                 Ok(stream) => Ok(stream),
-                Err(_) => Err(closed(rt, Stop::Fault(ServeFault::Memory))),
+                Err(_) => Err(closed(
+                    rt,
+                    alloc,
+                    warnings,
+                    serving,
+                    Stop::Fault(ServeFault::Memory),
+                )),
             }
         }
         Err(why) => {
-            warn_closed(rt, &why);
+            warn_closed(rt, alloc, warnings, serving, &why);
             Err(Stop::Socket)
         }
     }
 }
 
-/// Warns that nobody listens any more, and passes on how `serve` ends by that.
-pub(crate) fn closed<R: Log>(rt: &R, stop: Stop) -> Stop
+/// Warns that nobody listens any more, where rooms are kept, and passes on how `serve` ends by that.
+pub(crate) fn closed<R: Wait>(
+    rt: &R,
+    alloc: Global,
+    warnings: &Warnings,
+    serving: &Serving<'_>,
+    stop: Stop,
+) -> Stop
     ensures { result ≡ stop }
 {
-    warn_closed(rt, &stop);
+    warn_closed(rt, alloc, warnings, serving, &stop);
     stop
 }
 
-// Warns that nobody listens any more, and why.
-fn warn_closed<R: Log, W: fmt::Display>(rt: &R, why: &W) {
-    warn!(rt; target: TARGET, "no further connection is accepted: {why}");
+// Warns that nobody listens any more, and why, where rooms are kept.
+fn warn_closed<R: Wait, W: fmt::Display>(
+    rt: &R,
+    alloc: Global,
+    warnings: &Warnings,
+    serving: &Serving<'_>,
+    why: &W,
+) {
+    if serving.is_kept() {
+        let text = format!(in alloc; "no further connection is accepted: {why}");
+        warnings.add(rt, TARGET, text);
+    }
 }
 
 // Another handle of the stream, if there is to be one.

@@ -10,6 +10,7 @@ mod listener;
 mod rooms;
 mod serving;
 mod stop;
+mod warnings;
 mod watch;
 
 use command_line::plan;

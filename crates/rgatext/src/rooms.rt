@@ -1,37 +1,43 @@
 //! The rooms before the first connection: over what the files of a folder stand for, or empty where nothing is kept.
-ghost use Rattle.std.specs.Prelude.{◌≡◌, true, length, Err, IfOk};
+ghost use Rattle.std.specs.Prelude.{◌≡◌, true, length, All, Err, IfOk, OnOk};
 ghost use Rattle.ws_server.specs.Halls.{rooms_of, IsHallPassOf};
 ghost use Rattle.ws_server.specs.Names.{names_fit};
 
-use crate::kept::{lock_folder, open_file, sync_folder};
+use crate::kept::{RoomFile, lock_folder, open_file, sync_folder};
+use crate::listener::fitting;
 use crate::watch::Watched;
 use commands::Stop;
 use journal::free_site;
-use kept_rooms::open_hall;
+use keeper::HostFile;
+use kept_rooms::{Opening, RoomTurns, open_hall};
 use line_engine::ServeFault;
 use log::{Log, warn};
-use opid::{Refusal, Site};
-use std::alloc::Global;
+use opid::{Refusal, SITES, Site};
+use snapshot::lacks_site;
+use std::alloc::{AllocError, Global};
 use std::fs::{File, Files};
 use versions::Doc;
 use ws_server::{Hall, HallPass};
 
-/// The rooms, a pass of each, what is watched of them, and the site that they are opened at.
+// From so many of 32 sites on that have operations in a log it is warned of.
+const MANY_SITES: usize = 28;
+
+/// The rooms, a pass of each, their turns, and what is watched of them.
 #[derive(Drop)]
 pub(crate) struct Opened {
     pub(crate) hall: Hall,
     pub(crate) pass: HallPass,
+    pub(crate) turns: Vec<RoomTurns<HostFile>>,
     pub(crate) watched: Vec<Watched>,
-    pub(crate) site: Site,
     // The folder is this server's for as long as this is open.
     pub(crate) lock: Option<File>,
 }
 
-/// A room for each name: over what its file in the folder stands for, if there is a folder, and else an empty one. Their site is the one
-/// that is named; else the least that no log has an operation of, which is 0 where nothing is kept.
+/// A room for each name: over what its file in the folder stands for, if there is a folder, and else an empty one. Its site is the one that
+/// is named; else the least that its log has no operation of, which is 0 where nothing is kept.
 ///
-/// `BadSnapshot` and `Files` as `open_file` tells; `SiteUsed` where a log has operations of the site, or none is left, which is warned of;
-/// and `Memory`.
+/// A room whose file can't be had, stands for no log, or leaves no site is left out, which is warned of, as long as there is another one:
+/// else `Files`, `BadSnapshot` and `SiteUsed`. `Memory`.
 pub(crate) fn open_rooms<R: Files<File = File> + Log>(
     rt: &R,
     alloc: Global,
@@ -41,80 +47,193 @@ pub(crate) fn open_rooms<R: Files<File = File> + Log>(
 ) -> Result<Opened, Stop>
     requires fit { names_fit names.now ≡ true }
     ensures passes { IfOk result (λ opened. IsHallPassOf opened.hall opened.pass) }
-    ensures counted { IfOk result (λ opened. length opened.watched.items ≡ length (rooms_of opened.hall)) }
+    ensures turns { IfOk result (λ opened. length opened.turns.items ≡ length (rooms_of opened.hall)) }
+    ensures watched { IfOk result (λ opened. length opened.watched.items ≡ length (rooms_of opened.hall)) }
     ensures fits { (result ≡ Err (Stop.Refused Refusal.BadField)) → ⊥ }
 {
     let lock = match folder {
         Some(folder) => Some(lock_folder(rt, alloc, folder)?),
         None => None,
     };
-    let mut watched = Vec::new(alloc);
-    let mut docs = Vec::new(alloc);
+    let mut rooms = Rooms::new(alloc);
+    let mut left_out = Vec::new(alloc);
+    let mut fault = Stop::Files;
     for name in names {
-        let (room, doc) = open_room(rt, alloc, folder, name, watched.len())?;
-        let Ok(()) = watched.push(room) else {
-            return Err(Stop::Fault(ServeFault::Memory));
-        };
-        let Ok(()) = docs.push(doc) else {
-            return Err(Stop::Fault(ServeFault::Memory));
-        };
+        match open_room(rt, alloc, folder, name, rooms.names.len(), site) {
+            Ok(room) => {
+                let Ok(()) = rooms.add(room) else {
+                    return Err(Stop::Fault(ServeFault::Memory));
+                };
+            }
+            Err(Stop::Fault(why)) => return Err(Stop::Fault(why)),
+            Err(why) => {
+                fault = why;
+                let Ok(()) = left_out.push(name) else {
+                    return Err(Stop::Fault(ServeFault::Memory));
+                };
+            }
+        }
+    }
+    if rooms.names.is_empty() {
+        fitting(Err(fault))?;
+        return Err(Stop::Files);
+    }
+    for name in &left_out {
+        warn!(rt; "room {name} is left out: whoever opens it gets 4; put its file right, and start the server anew");
     }
     if let Some(folder) = folder {
         sync_folder(rt, folder)?;
     }
-    let site = choose_site(rt, docs.as_slice(), site)?;
-    match open_hall(alloc, names, site, docs) {
+    let Rooms {
+        names,
+        openings,
+        turns,
+        watched,
+    } = rooms;
+    match open_hall(alloc, names.as_slice(), openings) {
         Ok((hall, pass)) => Ok(Opened {
             hall,
             pass,
+            turns,
             watched,
-            site,
             lock,
         }),
         Err(unopened) => {
-            if let (Refusal::SiteUsed, Some(room)) = (unopened.why, watched.get(unopened.place)) {
-                room.tell_used(rt, site);
-            }
-            Err(Stop::of(unopened.why))
+            fitting(Err(Stop::of(unopened.why)))?;
+            Err(Stop::Files)
         }
     }
 }
 
-// What is watched of the room with this name, whose place is told, and the document of what is kept of it.
+// Rooms before their hall is there.
+#[derive(Drop)]
+struct Rooms {
+    names: Vec<String>,
+    openings: Vec<Opening>,
+    turns: Vec<RoomTurns<HostFile>>,
+    watched: Vec<Watched>,
+}
+
+impl Rooms {
+    // None yet.
+    fn new(alloc: Global) -> Rooms
+        ensures unreserved { All (λ it. it.doc.room ≡ 0) result.openings.items }
+        ensures openings { length result.openings.items ≡ length result.names.items }
+        ensures turns { length result.turns.items ≡ length result.names.items }
+        ensures watched { length result.watched.items ≡ length result.names.items }
+    {
+        Rooms {
+            names: Vec::new(alloc),
+            openings: Vec::new(alloc),
+            turns: Vec::new(alloc),
+            watched: Vec::new(alloc),
+        }
+    }
+
+    // Adds one. After an error there may be a part of it.
+    fn add(&mut self, room: Room) -> Result<(), AllocError>
+        requires room { room.opening.doc.room ≡ 0 }
+        requires unreserved { All (λ it. it.doc.room ≡ 0) self.old.openings.items }
+        requires openings { length self.old.openings.items ≡ length self.old.names.items }
+        requires turns { length self.old.turns.items ≡ length self.old.names.items }
+        requires watched { length self.old.watched.items ≡ length self.old.names.items }
+        ensures unreserved { OnOk result (All (λ it. it.doc.room ≡ 0) self.new.openings.items) }
+        ensures openings { OnOk result (length self.new.openings.items ≡ length self.new.names.items) }
+        ensures turns { OnOk result (length self.new.turns.items ≡ length self.new.names.items) }
+        ensures watched { OnOk result (length self.new.watched.items ≡ length self.new.names.items) }
+    {
+        let Room {
+            name,
+            opening,
+            turns,
+            watched,
+        } = room;
+        self.names.push(name)?;
+        self.openings.push(opening)?;
+        self.turns.push(turns)?;
+        self.watched.push(watched)?;
+        Ok(())
+    }
+}
+
+// A room before its hall is there.
+#[derive(Drop)]
+struct Room {
+    name: String,
+    opening: Opening,
+    turns: RoomTurns<HostFile>,
+    watched: Watched,
+}
+
+// The room with this name, whose place is told: over what its file in the folder stands for, if there is a folder.
 fn open_room<R: Files<File = File> + Log>(
     rt: &R,
     alloc: Global,
     folder: Option<&str>,
     name: &String,
     place: usize,
-) -> Result<(Watched, Doc), Stop>
-    ensures unreserved { IfOk result (λ room. room.1.room ≡ 0) }
+    site: Option<Site>,
+) -> Result<Room, Stop>
+    ensures unreserved { IfOk result (λ room. room.opening.doc.room ≡ 0) }
     ensures fits { (result ≡ Err (Stop.Refused Refusal.BadField)) → ⊥ }
 {
     let Ok(title) = name.clone() else {
         return Err(Stop::Fault(ServeFault::Memory));
     };
-    match folder {
-        Some(folder) => {
-            let (file, doc) = open_file(rt, alloc, folder, name.as_str(), place)?;
-            Ok((Watched::new(title, Some(file)), doc))
-        }
-        None => Ok((Watched::new(title, None), Doc::new(alloc))),
-    }
+    let Ok(name) = name.clone() else {
+        return Err(Stop::Fault(ServeFault::Memory));
+    };
+    let Some(folder) = folder else {
+        let doc = Doc::new(alloc);
+        let Some(site) = site.or(free_site(&doc)) else {
+            return Err(Stop::Refused(Refusal::SiteUsed));
+        };
+        return Ok(Room {
+            name,
+            opening: Opening { doc, site },
+            turns: RoomTurns::new(place, None),
+            watched: Watched::new(title, None, site),
+        });
+    };
+    let RoomFile { path, file, doc } = open_file(rt, alloc, folder, name.as_str(), place)?;
+    let site = choose_site(rt, path.as_str(), &doc, site)?;
+    Ok(Room {
+        name,
+        opening: Opening { doc, site },
+        turns: RoomTurns::new(place, Some(file)),
+        watched: Watched::new(title, Some(path), site),
+    })
 }
 
-// The site that is named, or the least that no log has an operation of.
-fn choose_site<R: Log>(rt: &R, docs: &[Doc], site: Option<Site>) -> Result<Site, Stop>
+// The site that is named, or the least that the log has no operation of. It is warned of where the log has operations of it, where none is
+// left, and where few are.
+fn choose_site<R: Log>(rt: &R, path: &str, doc: &Doc, named: Option<Site>) -> Result<Site, Stop>
     ensures fits { (result ≡ Err (Stop.Refused Refusal.BadField)) → ⊥ }
 {
-    if let Some(site) = site {
-        return Ok(site);
+    let Some(site) = named.or(free_site(doc)) else {
+        warn!(rt; "{path}: each of the 32 sites has operations in its log: go on in a new document with its text (examples/renew.py)");
+        return Err(Stop::Refused(Refusal::SiteUsed));
+    };
+    if !lacks_site(doc, site) {
+        warn!(rt; "{path}: its log has operations of site {}", site.number());
+        return Err(Stop::Refused(Refusal::SiteUsed));
     }
-    match free_site(docs) {
-        Some(site) => Ok(site),
-        None => {
-            warn!(rt; "each of the 32 sites has operations in a kept log: go on in new documents with the same texts (examples/renew.py)");
-            Err(Stop::Refused(Refusal::SiteUsed))
+    let used = used_sites(doc);
+    if used >= MANY_SITES {
+        warn!(rt; "{path}: {used} of the 32 sites have operations in its log");
+    }
+    Ok(site)
+}
+
+// How many sites have operations in the log.
+fn used_sites(doc: &Doc) -> usize {
+    let mut used = 0usize;
+    for number in 0..SITES as u8 {
+        if let Ok(site) = Site::new(number) {
+            if !lacks_site(doc, site) {
+                used = used.saturating_add(1);
+            }
         }
     }
+    used
 }

@@ -3,8 +3,10 @@ ghost use Rattle.std.specs.Prelude.{◌≡◌, length};
 ghost use Rattle.ws_server.specs.Halls.{rooms_of, IsHallPassOf};
 
 use crate::ends::Connections;
+use crate::warnings::Warnings;
 use crate::watch::{LOOKS, Rhythm};
-use kept_rooms::{KeptConnection, Waiting, serve_kept};
+use keeper::HostFile;
+use kept_rooms::{KeptConnection, RoomTurns, serve_kept};
 use opid::Site;
 use std::alloc::Global;
 use std::net::TcpStream;
@@ -31,11 +33,16 @@ pub(crate) struct Serving<'a> {
 }
 
 impl Serving<'_> {
+    /// Whether its rooms are kept. Where they aren't nothing is warned of but how connections ended.
+    pub(crate) fn is_kept(&self) -> bool {
+        self.keep.is_some()
+    }
+
     /// When the rooms are looked at.
     pub(crate) fn rhythm(&self) -> Rhythm {
         Rhythm {
             every: Duration::from_secs(self.every.unwrap_or(SECONDS) as u64),
-            do_answers_wait: self.keep.is_some() && self.every.is_none(),
+            do_answers_wait: self.is_kept() && self.every.is_none(),
         }
     }
 }
@@ -58,8 +65,9 @@ impl Gate for Open {
 #[derive(Clone, Copy)]
 pub(crate) struct Shared<'a> {
     pub(crate) hall: &'a Hall,
-    pub(crate) waiting: &'a [Waiting],
+    pub(crate) turns: &'a [RoomTurns<HostFile>],
     pub(crate) connections: &'a Connections,
+    pub(crate) warnings: &'a Warnings,
     pub(crate) is_ending: &'a AtomicBool,
     pub(crate) rhythm: Rhythm,
 }
@@ -85,18 +93,19 @@ pub(crate) fn serve<R: Wait + Clock>(
     place: usize,
 )
     requires pass { IsHallPassOf shared.hall.now pass }
-    requires counted { length shared.waiting.now ≡ length (rooms_of shared.hall.now) }
+    requires counted { length shared.turns.now ≡ length (rooms_of shared.hall.now) }
 {
     let Shared {
         hall,
-        waiting,
+        turns,
         connections,
+        warnings: _,
         is_ending,
         rhythm,
     } = shared;
     let served = if rhythm.do_answers_wait {
         match KeptConnection::open(alloc, hall, pass, &*stream) {
-            Ok(mut it) => serve_kept(rt, alloc, waiting, &mut it, &mut Open, is_ending),
+            Ok(mut it) => serve_kept(rt, alloc, turns, &mut it, &mut Open, is_ending),
             Err(why) => Err(why),
         }
     } else {

@@ -1,21 +1,23 @@
-//! A thread for each room looks at it while connections are served: it keeps what the room's log has gained, and warns of what comes to an
-//! end.
-ghost use Rattle.std.specs.Prelude.{◌≡◌};
-ghost use Rattle.ws_server.specs.Halls.{IsHallPassOf};
+//! A thread for each room looks at it while connections are served: it keeps what the room's log has gained and nobody waits for, tries
+//! again where a turn has failed, and warns of what comes to an end.
+ghost use Rattle.std.specs.Prelude.{◌≡◌, ◌<◌, length};
+ghost use Rattle.ws_server.specs.Halls.{rooms_of, IsHallPassOf};
 
-use crate::kept::RoomFile;
-use keeper::Kept;
-use kept_rooms::{TurnFault, Waiting, keep_turn};
-use log::{Log, warn};
-use opid::{Refusal, Site};
+use crate::serving::Shared;
+use crate::warnings::Warnings;
+use kept_rooms::TurnFault;
+use opid::Site;
 use shared_room::Look;
-use std::alloc::Global;
+use std::alloc::{AllocError, Global};
 use std::sync::{Condvar, CondvarTimeouts, Mutex, Wait};
-use std::time::{Clock, Duration};
-use ws_server::{Hall, HallPass};
+use std::time::{Clock, Duration, Instant};
+use ws_server::HallPass;
 
 /// How often a room is looked at at most, by who watches it and where answers wait: each millisecond for more than 30 years.
 pub(crate) const LOOKS: u64 = 1 << 40;
+
+// The module under whose name it is warned.
+const TARGET: &str = "rgatext::watch";
 
 // From so much on it is warned of: seven eighths of what a room takes.
 const MANY_CALLS: u32 = 917_504;
@@ -23,6 +25,9 @@ const MANY_CALLS: u32 = 917_504;
 const MANY_OPERATIONS: u32 = 114_688;
 
 const MANY_SESSIONS: u32 = 56;
+
+// A turn that fails is warned of again after so many seconds, as long as no turn succeeds.
+const AGAIN: u64 = 60;
 
 // So many milliseconds pass before a turn that failed is tried again, while answers wait for it; then the last of them.
 const PAUSES: [u64; 7] = [100, 200, 400, 800, 1_600, 3_200, 5_000];
@@ -77,13 +82,15 @@ impl Rhythm {
     }
 }
 
-/// A room as it is watched: its name, the file in which it is kept, if it is, how many turns have failed since the last one that didn't,
-/// and what was warned of.
+/// A room as it is watched: its name, the path of its file, if it has one, the site that it was opened at, how many turns have failed since
+/// the last one that didn't, and what was warned of, and when.
 #[derive(Drop)]
 pub(crate) struct Watched {
-    name: String,
-    kept: Option<RoomFile>,
+    pub(crate) name: String,
+    pub(crate) site: Site,
+    path: Option<String>,
     failures: usize,
+    told: Option<Instant>,
     has_many_calls: bool,
     has_many_operations: bool,
     has_many_sessions: bool,
@@ -91,129 +98,161 @@ pub(crate) struct Watched {
 
 impl Watched {
     /// A room of which nothing was warned yet.
-    pub(crate) fn new(name: String, kept: Option<RoomFile>) -> Watched {
+    pub(crate) fn new(name: String, path: Option<String>, site: Site) -> Watched {
         Watched {
             name,
-            kept,
+            site,
+            path,
             failures: 0,
+            told: None,
             has_many_calls: false,
             has_many_operations: false,
             has_many_sessions: false,
         }
     }
 
-    /// How far it is kept, at this place.
-    pub(crate) fn kept(&self, place: usize) -> Kept {
-        match &self.kept {
-            Some(it) => it.file.kept(),
-            None => Kept::nothing(place),
-        }
-    }
-
-    /// Warns that its log has operations of the site that it was to be opened at.
-    pub(crate) fn tell_used<R: Log>(&self, rt: &R, site: Site) {
-        if let Some(it) = &self.kept {
-            warn!(rt; "{}: its log has operations of site {}", it.path, site.number());
-        }
-    }
-
-    // One turn: looks at the room, keeps what its log has gained, if it is kept, and warns.
-    fn turn<R: Wait + Log>(
+    // Warns of what a turn has seen, or why it kept nothing.
+    fn tell<R: Wait + Clock>(
         &mut self,
         rt: &R,
-        alloc: Global,
-        hall: &Hall,
-        pass: &mut HallPass,
-        place: usize,
+        to: &To<'_>,
+        turned: Result<Look, TurnFault>,
         do_answers_wait: bool,
-    )
-        requires { IsHallPassOf hall.now pass.old }
-        ensures { IsHallPassOf hall.now pass.new }
-    {
-        match look_at(rt, alloc, hall, pass, place, &mut self.kept) {
+    ) {
+        match turned {
             Ok(look) => {
-                self.failures = 0;
-                self.warn(rt, &look);
+                self.succeed(rt, to);
+                self.warn(rt, to, &look);
             }
-            Err(why) => self.fail(rt, &why, do_answers_wait),
+            Err(why) => self.fail(rt, to, &why, do_answers_wait),
         }
     }
 
-    // A turn that kept nothing, where something was to be kept, is warned of once, until one succeeds again.
-    fn fail<R: Log>(&mut self, rt: &R, why: &TurnFault, do_answers_wait: bool) {
-        let Some(it) = &self.kept else {
+    // A turn that kept what there was, where some before it had failed, is told of.
+    fn succeed<R: Wait>(&mut self, rt: &R, to: &To<'_>) {
+        if let (Some(path), true) = (&self.path, self.failures > 0) {
+            to.add(rt, format!(in to.alloc; "{path}: it is kept again"));
+        }
+        self.failures = 0;
+        self.told = None;
+    }
+
+    // A turn that kept nothing, where something was to be kept, is warned of, and again each minute until one succeeds.
+    fn fail<R: Wait + Clock>(
+        &mut self,
+        rt: &R,
+        to: &To<'_>,
+        why: &TurnFault,
+        do_answers_wait: bool,
+    ) {
+        if self.path.is_none() {
             return;
-        };
-        if self.failures == 0 {
-            it.tell_failure(rt, why, do_answers_wait);
         }
         self.failures = self.failures.saturating_add(1);
+        if self.was_told(rt) {
+            return;
+        }
+        self.told = Instant::now(rt).ok();
+        let Some(path) = &self.path else {
+            return;
+        };
+        let text = if do_answers_wait {
+            format!(in to.alloc; "{path}: {why}; it is tried again, and answers wait")
+        } else {
+            format!(in to.alloc; "{path}: {why}; it is tried again at each turn")
+        };
+        to.add(rt, text);
     }
 
-    // Warns once of each limit that comes near.
-    fn warn<R: Log>(&mut self, rt: &R, look: &Look) {
+    // Whether it was warned of within the last minute.
+    fn was_told<R: Clock>(&self, rt: &R) -> bool {
+        match &self.told {
+            Some(told) => match told.elapsed(rt) {
+                Ok(time) => time < Duration::from_secs(AGAIN),
+                Err(_) => true,
+            },
+            None => false,
+        }
+    }
+
+    // Warns once of each limit that comes near, where the room is kept.
+    fn warn<R: Wait>(&mut self, rt: &R, to: &To<'_>, look: &Look) {
+        if self.path.is_none() {
+            return;
+        }
+        let name = &self.name;
         if look.calls >= MANY_CALLS && !self.has_many_calls {
             self.has_many_calls = true;
-            warn!(rt; "room {}: {} of 1048576 calls are recorded", self.name, look.calls);
+            let text = format!(in to.alloc;
+                "room {name}: {} of 1048576 calls are recorded",
+                look.calls
+            );
+            to.add(rt, text);
         }
         if look.version >= MANY_OPERATIONS && !self.has_many_operations {
             self.has_many_operations = true;
-            warn!(rt; "room {}: its log has {} of 131072 operations", self.name, look.version);
+            let text = format!(in to.alloc;
+                "room {name}: its log has {} of 131072 operations",
+                look.version
+            );
+            to.add(rt, text);
         }
         if look.sessions >= MANY_SESSIONS && !self.has_many_sessions {
             self.has_many_sessions = true;
-            warn!(rt; "room {}: {} of 64 sessions are there", self.name, look.sessions);
+            let text = format!(in to.alloc;
+                "room {name}: {} of 64 sessions are there",
+                look.sessions
+            );
+            to.add(rt, text);
         }
     }
 }
 
-// Looks at the room at a place, and keeps what its log has gained, if it is kept in this file.
-fn look_at<R: Wait>(
-    rt: &R,
+// To whom it is told what is warned of.
+#[derive(Clone, Copy)]
+struct To<'a> {
     alloc: Global,
-    hall: &Hall,
-    pass: &mut HallPass,
-    place: usize,
-    kept: &mut Option<RoomFile>,
-) -> Result<Look, TurnFault>
-    requires { IsHallPassOf hall.now pass.old }
-    ensures { IsHallPassOf hall.now pass.new }
-{
-    let is_other = kept.as_ref().is_some_and(|it| it.file.room() != place);
-    if place >= hall.len() || is_other {
-        return Err(TurnFault::Look(Refusal::NoRoom));
-    }
-    if let Some(it) = kept {
-        return keep_turn(rt, alloc, hall, pass, &mut it.file);
-    }
-    match hall.look(rt, pass, place, u32::MAX) {
-        Ok(look) => Ok(look),
-        Err(why) => Err(TurnFault::Look(why)),
+    warnings: &'a Warnings,
+}
+
+impl To<'_> {
+    fn add<R: Wait>(&self, rt: &R, text: Result<String, AllocError>) {
+        self.warnings.add(rt, TARGET, text);
     }
 }
 
-/// Takes the turns of the room at a place, and tells how far it is kept; a last one once all connections have ended: whether all that was
-/// to be kept is.
-pub(crate) fn watch<R: Wait + Clock + Log>(
+/// Takes turns of the room at a place, each after a rest, and a last one once all connections have ended: whether all that was to be kept
+/// is.
+pub(crate) fn watch<R: Wait + Clock>(
     rt: &R,
     alloc: Global,
-    hall: &Hall,
+    shared: Shared<'_>,
     mut pass: HallPass,
     mut room: Watched,
     place: usize,
-    waiting: &Waiting,
-    rhythm: Rhythm,
 ) -> bool
-    requires { IsHallPassOf hall.now pass }
+    requires pass { IsHallPassOf shared.hall.now pass }
+    requires within { place < length (rooms_of shared.hall.now) }
+    requires counted { length shared.turns.now ≡ length (rooms_of shared.hall.now) }
 {
+    let Shared {
+        hall,
+        turns,
+        connections: _,
+        warnings,
+        is_ending: _,
+        rhythm,
+    } = shared;
+    let turns = &turns[place];
+    let to = To { alloc, warnings };
     for _ in rt.forever() {
         let is_last = if room.failures > 0 {
-            waiting.pause(rt, rhythm.pause(room.failures - 1))
+            turns.pause(rt, rhythm.pause(room.failures - 1))
         } else {
-            waiting.next_turn(rt, rhythm.every)
+            turns.rest(rt, rhythm.every)
         };
-        room.turn(rt, alloc, hall, &mut pass, place, rhythm.do_answers_wait);
-        waiting.tell(rt, room.kept(place));
+        let turned = turns.take(rt, alloc, hall, &mut pass, place);
+        room.tell(rt, &to, turned, rhythm.do_answers_wait);
         if is_last {
             return room.failures == 0;
         }

@@ -1,18 +1,18 @@
 -- The next site is the one of the next number.
 use Rattle.std.proofs.Common.{arith, refl, subst, below_more}
-use Rattle.journal.specs.Sites.{IsFree}
+use Rattle.snapshot.specs.Snapshot.{LacksSite}
 use Rattle.journal.proofs.free.free_site.Goals as goal
-use Rattle.journal.proofs.free.free_site.Goals.{in-Ok+else-is_free, in_default}
+use Rattle.journal.proofs.free.free_site.Goals.{in-Ok+else-lacks_site, in_default}
 
-pub returns-then-is_free-clause-least : goal.returns-then-is_free-clause-least
-returns-then-is_free-clause-least c = λ s below. c.loop-number.invariant s (omega (arith, below, c.in-Ok.ensures.value))
+pub returns-then-lacks_site-clause-least : goal.returns-then-lacks_site-clause-least
+returns-then-lacks_site-clause-least c = λ s below. c.loop-number.invariant s (omega (arith, below, c.in-Ok.ensures.value))
 
 pub loop-number-preserved : goal.loop-number-preserved
 loop-number-preserved c =
-    let here : IsFree c.loop-number.number c.args.docs.now → ⊥ =
+    let here : LacksSite c.loop-number.number c.args.doc.now.log → ⊥ =
     elim c.match-new.branch [
-      | in-Ok+else-is_free w ↦
-          subst (λ s. IsFree s c.args.docs.now → ⊥) w.in-Ok.ensures.value (w.is_free.ensures.no w.if-is_free.false)
+      | in-Ok+else-lacks_site w ↦
+          subst (λ s. LacksSite s c.args.doc.now.log → ⊥) w.in-Ok.ensures.value (w.lacks_site.ensures.no w.if-lacks_site.false)
       | in_default w ↦ absurd (omega (arith, w.in_default.ensures.refused.0 refl, c.loop-number-test.true))
     ] in
     below_more _ _ c.loop-number.invariant here

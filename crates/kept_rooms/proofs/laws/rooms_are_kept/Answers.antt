@@ -1,6 +1,7 @@
 -- The first pass has seen no call, and one that is split off what the other has.
 use Rattle.std.proofs.Common.{refl}
 use Rattle.kept_rooms.proofs.Opened.{opened_file, alike_split, alike_file}
+use Rattle.kept_rooms.proofs.Turned.{grown_file}
 use Rattle.kept_rooms.proofs.laws.rooms_are_kept.Goals as goal
 
 pub returns-clause-opened : goal.returns-clause-opened
@@ -11,3 +12,6 @@ returns-clause-split g c hall old new given count = alike_split hall old old new
 
 pub returns-clause-alike : goal.returns-clause-alike
 returns-clause-alike g c = alike_file g.D.Disk.honest g.D.Disk.seen g.D.Disk.may_leave g.D.Disk.fresh
+
+pub returns-clause-grows : goal.returns-clause-grows
+returns-clause-grows g c = grown_file g.D.Disk.honest g.D.Disk.seen g.D.Disk.may_leave g.D.Disk.fresh c.grows_with_its_log.ensures

@@ -1,48 +1,48 @@
--- Each document that is taken becomes the next replica.
+-- What is taken becomes the next replica.
 use Rattle.std.proofs.Common.{◌≡◌, ◌+◌, List, ◌∷◌, ◌++◌, ◌∙◌, [], map, take, All, ap, sym, refl, arith}
 use Rattle.std.proofs.lemmas.List.{take_more}
 use Rattle.std.proofs.lemmas.Option.{slice_get_within, get_or_from_slice_get}
 use Rattle.std.proofs.lemmas.List.Elements.{All-same, All-push, All-head, All-drop, All-map}
 use Rattle.std.specs.Vec.Iter.{into_iter_len}
-use Rattle.versions.specs.Document.{Document}
 use Rattle.replica.specs.Deliver.{ReplicaState}
 use Rattle.snapshot.specs.Snapshot.{LacksSite}
 use Rattle.ws_server.proofs.Opened.{left_after}
 use Rattle.ws_server.proofs.Passes.{map_next}
-use Rattle.kept_rooms.specs.Opening.{over_document}
+use Rattle.kept_rooms.specs.declared.opening.Opening.{Opening}
+use Rattle.kept_rooms.specs.Openings.{replica_over}
 use Rattle.kept_rooms.proofs.opening.open_hall.Goals as goal
 
 pub open_over-requires : goal.open_over-requires
 open_over-requires c =
-    let P : Document → Type 0 = λ doc. doc.room ≡ 0 in
+    let P : Opening → Type 0 = λ it. it.doc.room ≡ 0 in
     let left = sym c.loop-place.invariant.rest ∙ c.in-Some.ensures.items in
-    All-head P c.in-Some.doc _ (All-same P _ _ (sym left) (All-drop P c.loop-place.place c.args.docs.items c.requires.unreserved))
+    All-head P c.in-Some.opening _ (All-same P _ _ (sym left) (All-drop P c.loop-place.place c.args.openings.items c.requires.unreserved))
 
 pub loop-place-preserved : goal.loop-place-preserved
 loop-place-preserved c =
-    let docs = c.args.docs.items in
+    let all = c.args.openings.items in
     let at = c.loop-place.place in
-    let here = left_after docs at c.in-Some.doc _ (sym c.loop-place.invariant.rest ∙ c.in-Some.ensures.items) in
+    let here = left_after all at c.in-Some.opening _ (sym c.loop-place.invariant.rest ∙ c.in-Some.ensures.items) in
     let less : into_iter_len c.next.new.self + 1 ≡ into_iter_len c.loop-place.rest = c.in-Some.ensures.len in
-    let next = take_more docs at c.in-Some.doc (slice_get_within docs at c.in-Some.doc here.0)
-    ∙ ap (λ (d : Document). take at docs ++ d ∷ []) (get_or_from_slice_get docs at c.in-Some.doc c.in-Some.doc here.0) in
+    let next = take_more all at c.in-Some.opening (slice_get_within all at c.in-Some.opening here.0)
+    ∙ ap (λ (o : Opening). take at all ++ o ∷ []) (get_or_from_slice_get all at c.in-Some.opening c.in-Some.opening here.0) in
     record {
       rest = here.1;
       left = omega (arith, c.loop-place.invariant.left, less);
       made = c.in-Ok-push.ensures.items
           ∙ ap (λ (xs : List ReplicaState). xs ++ c.in-Ok.replica ∷ []) c.loop-place.invariant.made
-          ∙ ap (λ (r : ReplicaState). map (over_document c.args.site) (take at docs) ++ r ∷ []) c.in-Ok.ensures.opened
-          ∙ sym (map_next (over_document c.args.site) docs at c.in-Some.doc here.0);
-      unused = All-same (λ (doc : Document). LacksSite c.args.site doc.log) _ _ next
-          (All-push (λ (doc : Document). LacksSite c.args.site doc.log) (take at docs) c.in-Some.doc
+          ∙ ap (λ (r : ReplicaState). map replica_over (take at all) ++ r ∷ []) c.in-Ok.ensures.opened
+          ∙ sym (map_next replica_over all at c.in-Some.opening here.0);
+      unused = All-same (λ (it : Opening). LacksSite it.site it.doc.log) _ _ next
+          (All-push (λ (it : Opening). LacksSite it.site it.doc.log) (take at all) c.in-Some.opening
           c.loop-place.invariant.unused c.in-Ok.ensures.unused);
     }
 
 pub over-requires-clause-none_held : goal.over-requires-clause-none_held
 over-requires-clause-none_held c =
     All-same (λ (r : ReplicaState). r.held ≡ []) _ _ c.loop-place.invariant.made
-    (All-map (λ (r : ReplicaState). r.held ≡ []) (over_document c.args.site)
-    (take c.loop-place.place c.args.docs.items) (each (take c.loop-place.place c.args.docs.items)))
+    (All-map (λ (r : ReplicaState). r.held ≡ []) replica_over
+    (take c.loop-place.place c.args.openings.items) (each (take c.loop-place.place c.args.openings.items)))
   where
-    each : (docs : List Document) → All (λ (doc : Document). (over_document c.args.site doc).held ≡ []) docs
-    each docs k d within = refl
+    each : (all : List Opening) → All (λ (it : Opening). (replica_over it).held ≡ []) all
+    each all k it within = refl

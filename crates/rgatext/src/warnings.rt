@@ -1,0 +1,105 @@
+//! Warnings of a server that keeps its rooms: they wait for a thread that tells them, so that no turn and no connection waits for whoever
+//! reads standard error.
+use log::{Log, warn};
+use std::alloc::{AllocError, Global};
+use std::mem;
+use std::sync::{Condvar, Mutex, Wait};
+
+// So many wait at most. Of what is warned of meanwhile it is only counted how much it is.
+const MOST: usize = 64;
+
+// What is to be told, under the name of a module.
+#[derive(Drop)]
+struct Warning {
+    target: &'static str,
+    text: String,
+}
+
+#[derive(Drop)]
+struct Queue {
+    all: Vec<Warning>,
+    // How many found no place.
+    left_out: u64,
+    is_ending: bool,
+}
+
+impl Queue {
+    // Whether there was a place for it.
+    fn add(&mut self, warning: Warning) -> bool {
+        if self.all.len() >= MOST {
+            return false;
+        }
+        self.all.push(warning).is_ok()
+    }
+}
+
+/// What is to be warned of, in its order.
+#[derive(Drop)]
+pub(crate) struct Warnings {
+    alloc: Global,
+    queue: Mutex<Queue>,
+    changed: Condvar,
+}
+
+impl Warnings {
+    /// Nothing yet.
+    pub(crate) fn new(alloc: Global) -> Warnings {
+        Warnings {
+            alloc,
+            queue: Mutex::new(Queue {
+                all: Vec::new(alloc),
+                left_out: 0,
+                is_ending: false,
+            }),
+            changed: Condvar::new(),
+        }
+    }
+
+    /// Adds a text under the name of a module. Where too many wait, or there is no memory, it is left out, and counted.
+    pub(crate) fn add<R: Wait>(
+        &self,
+        rt: &R,
+        target: &'static str,
+        text: Result<String, AllocError>,
+    ) {
+        let mut queue = self.queue.lock(rt);
+        let is_added = match text {
+            Ok(text) => queue.add(Warning { target, text }),
+            Err(_) => false,
+        };
+        if !is_added {
+            queue.left_out = queue.left_out.saturating_add(1);
+        }
+        drop(queue);
+        self.changed.notify_all();
+    }
+
+    /// Nothing is added any more.
+    pub(crate) fn end<R: Wait>(&self, rt: &R) {
+        self.queue.lock(rt).is_ending = true;
+        self.changed.notify_all();
+    }
+
+    /// Warns of what was added and is, until nothing is added any more.
+    pub(crate) fn tell<R: Wait + Log>(&self, rt: &R) {
+        for _ in rt.forever() {
+            let queue = self.queue.lock(rt);
+            let mut queue = self.changed.wait_while(rt, queue, |it| {
+                it.all.is_empty() && it.left_out == 0 && !it.is_ending
+            });
+            let all = mem::replace(&mut queue.all, Vec::new(self.alloc));
+            let left_out = queue.left_out;
+            queue.left_out = 0;
+            drop(queue);
+            if all.is_empty() && left_out == 0 {
+                return;
+            }
+            for it in &all {
+                warn!(rt; target: it.target, "{}", it.text);
+            }
+            if left_out > 0 {
+                warn!(rt; "{left_out} warnings were left out, since nobody read those before");
+            }
+        }
+    }
+}
