@@ -3,7 +3,7 @@ import assert from "node:assert/strict";
 import { MOST } from "../examples/web/document.js";
 import { Room, until } from "./room.mjs";
 import { whole } from "./vectors.mjs";
-import { deletedBy, end, textOf, typedBy, Way } from "./way.mjs";
+import { deletedBy, end, roomOf, textOf, typedBy, Way } from "./way.mjs";
 
 /** How many units so many characters of a text have from a place on. */
 const units = (text, at, count) => [...text].slice(at, at + count).join("").length;
@@ -52,11 +52,7 @@ class Player {
   }
 
   async play() {
-    this.room = new Room(0);
-    const characters = [...this.text];
-    for (let at = 0; at < characters.length; at += MOST) {
-      await typedBy(this.room, (await textOf(this.room)).length, characters.slice(at, at + MOST).join(""));
-    }
+    this.room = await roomOf(this.text, 0);
     this.way = new Way(this.room);
     await this.way.comesTo("up to date", this.text);
     let site = 0;

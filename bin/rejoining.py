@@ -1,8 +1,6 @@
 """Plays the cases of examples/vectors/rejoining.json with examples/client.py and the program, for bin/try_client."""
 from client import JoinAnew, Lost, Pipe, Session
-
-
-MOST = 64  # characters of a submission, and operations of a reply
+from past import MOST
 
 
 def whole(text):

@@ -8,18 +8,7 @@ import { Ended, played } from "../examples/web/rgatext.js";
 import { pause } from "../examples/web/seat.js";
 import { dice, Room, until } from "./room.mjs";
 import { vectors, whole } from "./vectors.mjs";
-import { begin, end, endsAs, keptRun, textOf, typedBy, Way } from "./way.mjs";
-
-/** A run of the program at a site where one session typed a text. */
-async function roomOf(text, site) {
-  const room = new Room(site);
-  const { s } = await room.ask({ t: "join", u: 16 });
-  for (let at = 0, n = 1; at < text.length; at += MOST, n += 1) {
-    await room.ask({ t: "ins", s, n, v: at, k: at, x: text.slice(at, at + MOST) });
-    await room.ask({ t: "pull", s, have: at, max: MOST });
-  }
-  return room;
-}
+import { begin, end, endsAs, keptRun, roomOf, textOf, typedBy, Way } from "./way.mjs";
 
 /** A case of the vectors: putting in what is shown costs what differs, and deletes nothing that the user wasn't shown. */
 async function chooses({ name, shown, room, late, operations }) {

@@ -91,6 +91,17 @@ const READER = 31;
 
 export const textOf = async (room) => (await room.ask({ t: "read" })).x;
 
+/** A run of the program at a site where one session typed a text. */
+export async function roomOf(text, site) {
+  const room = new Room(site);
+  const { s } = await room.ask({ t: "join", u: 16 });
+  for (let at = 0, n = 1; at < text.length; at += MOST, n += 1) {
+    await room.ask({ t: "ins", s, n, v: at, k: at, x: text.slice(at, at + MOST) });
+    await room.ask({ t: "pull", s, have: at, max: MOST });
+  }
+  return room;
+}
+
 /** A room with a text of a session, and an editor that has it as its own or others' text. */
 export async function begin(text, isOwn = true) {
   const room = new Room(1);
