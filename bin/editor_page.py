@@ -10,11 +10,18 @@ import time
 
 from client import Session, Socket
 from selenium.webdriver.common.keys import Keys
-from windows import AREA, Cable, Handler, Mirror, Server, Window
+from windows import AREA, ELSEWHERE, Cable, Handler, Mirror, Server, Window
 
 top = sys.argv[1]
 PROGRAM = top + "/bin/rgatext"
 OPERATIONS = 131_072  # of a room
+
+
+def serve_pages():
+    """Serves the examples at a port of this machine: the origin of their pages."""
+    pages = http.server.ThreadingHTTPServer(("127.0.0.1", 0), functools.partial(Handler, directory=top + "/examples"))
+    threading.Thread(target=pages.serve_forever, daemon=True).start()
+    return f"http://127.0.0.1:{pages.server_address[1]}"
 
 
 def until(is_so, what, seconds=20):
@@ -240,6 +247,23 @@ def tries_kept_run():
         kept.kill()
 
 
+def tries_origins():
+    """A server that keeps its rooms lets pages of this machine in, from each port and by each name, and those of another name where that is
+    named."""
+    elsewhere = PAGES.replace("127.0.0.1", ELSEWHERE)
+    kept = Server(PROGRAM, "notes", folder=tempfile.mkdtemp())
+    open_to = Server(PROGRAM, "--origin", elsewhere, "notes", folder=tempfile.mkdtemp())
+    for page in (PAGES, PAGES.replace("127.0.0.1", "localhost"), serve_pages()):
+        window = Window(page, kept.port)
+        until(lambda: window.state == "up to date", f"a page of {page}")
+        window.quit()
+    for there, is_in in ((kept, False), (open_to, True)):
+        window = Window(elsewhere, there.port)
+        until(lambda: window.state.startswith("up to date" if is_in else "offline"), f"a page of {elsewhere}, {is_in}")
+        window.quit()
+        there.kill()
+
+
 def tries_65_windows():
     line = Socket(f"ws://127.0.0.1:{server.port}", "notes")
     sessions = [line({"t": "join"})["s"] for _ in range(62)]
@@ -363,9 +387,7 @@ def tries_codemirror_in_a_full_room():
 
 
 windows = []
-pages = http.server.ThreadingHTTPServer(("127.0.0.1", 0), functools.partial(Handler, directory=top + "/examples"))
-threading.Thread(target=pages.serve_forever, daemon=True).start()
-PAGES = f"http://127.0.0.1:{pages.server_address[1]}"
+PAGES = serve_pages()
 server = Server(PROGRAM, "notes", "pasted", "full", "mirror", "scarce")
 cable = Cable(server.port)
 try:
@@ -383,7 +405,7 @@ try:
         windows[0].run("scrollTo(0, 0)")
         windows[0].driver.save_screenshot(sys.argv[2])
         clear("a picture")
-    rooms = (tries_kept_run, tries_65_windows, tries_full_room, tries_bad_addresses)
+    rooms = (tries_kept_run, tries_origins, tries_65_windows, tries_full_room, tries_bad_addresses)
     for attempt in (*rooms, tries_codemirror, tries_codemirror_in_a_full_room, tries_pastes):
         attempt()
         print(attempt.__name__.removeprefix("tries_").replace("_", " "))

@@ -1,6 +1,7 @@
 """What bin/try_kept, bin/try_serving and bin/try_together have in common: servers that keep their rooms, what stands in their files,
 and editors that type."""
 import atexit
+import hashlib
 import json
 import os
 import pathlib
@@ -128,11 +129,22 @@ def unfolded(objects):
     return operations
 
 
+def digest_line(digest):
+    """The line that tells the SHA-256 of all bytes before it."""
+    return f'{{"sha256":"{digest.hexdigest()}"}}'.encode()
+
+
 def kept(file):
-    """The operations that stand in a kept file, whose lines are parts of a log one after another, each of 1 to 64 operations."""
-    operations = []
+    """The operations that stand in a kept file, whose lines are parts of a log one after another, each of 1 to 64 operations, or the
+    digest of all bytes before them."""
+    operations, digest = [], hashlib.sha256()
     for line in file.read_bytes().split(b"\n")[:-1]:
+        expected = digest_line(digest)
+        digest.update(line + b"\n")
         told = json.loads(line)
+        if "sha256" in told:
+            expect("a digest", line, expected)
+            continue
         part = unfolded(told["ops"])
         expect("a kept line", (sorted(told), told["r"], told["from"], 0 < len(part) <= 64), (["from", "ops", "r"], "ops", len(operations), True))
         operations += part

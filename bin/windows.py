@@ -14,6 +14,7 @@ from selenium import webdriver
 from selenium.webdriver.common.by import By
 
 CODEMIRROR = "usr/share/javascript/codemirror"  # where Debian has it, below the root
+ELSEWHERE = "pages.test"  # a name that the windows take for this machine's
 AREA = "document.getElementById('text')"
 
 
@@ -110,7 +111,8 @@ class Window:
     def __init__(self, pages, port, room="notes"):
         self.pages = pages
         options = webdriver.ChromeOptions()
-        for word in ("--headless", "--no-sandbox", "--disable-gpu", "--window-size=800,720"):
+        names = f"--host-resolver-rules=MAP {ELSEWHERE} 127.0.0.1"
+        for word in ("--headless", "--no-sandbox", "--disable-gpu", "--window-size=800,720", names):
             options.add_argument(word)
         self.driver = webdriver.Chrome(options=options)
         self.open(port, room)

@@ -14,6 +14,7 @@ an old document can't bring them to the new one."""
 import argparse
 import contextlib
 import fcntl
+import hashlib
 import json
 import os
 import pathlib
@@ -22,7 +23,9 @@ import subprocess
 import sys
 
 PROGRAM = pathlib.Path(__file__).resolve().parent.parent / "bin" / "rgatext"
+SITES = 32
 MOST = 64  # characters of an insertion, and operations of a line
+UNREADABLE = ValueError, KeyError, TypeError, AttributeError, RecursionError  # what is raised where a text isn't what it should be
 
 
 class Unrenewed(Exception):
@@ -40,21 +43,40 @@ def run(program, *words, given):
     return told.stdout.decode()
 
 
+def digest_line(digest):
+    """The line that tells the digest of all bytes before it."""
+    return b'{"sha256":"%s"}' % digest.hexdigest().encode()
+
+
+def digested(lines):
+    """A kept file with these lines, each with the digest of all bytes before it behind it."""
+    digest, data = hashlib.sha256(), bytearray()
+    for line in lines:
+        digest.update(line + b"\n")
+        told = digest_line(digest)
+        digest.update(told + b"\n")
+        data += b"%s\n%s\n" % (line, told)
+    return bytes(data)
+
+
 def kept_operations(data):
-    """The operations and runs that stand in a kept file. A last line that was cut short, inside a character perhaps, is left out."""
-    operations = []
+    """The operations and runs that stand in a kept file, of which a line may tell the digest of all bytes before it. A last line that was
+    cut short, inside a character perhaps, is left out."""
+    operations, digest = [], hashlib.sha256()
     whole, _, _ = data.rpartition(b"\n")
     for number, line in enumerate(whole.split(b"\n") if whole else [], 1):
-        try:
-            operations += json.loads(line)["ops"]
-        except (ValueError, KeyError, TypeError):
-            raise Unrenewed(f"line {number} is none of a kept room") from None
+        if line != digest_line(digest):
+            try:
+                operations += json.loads(line)["ops"]
+            except UNREADABLE:
+                raise Unrenewed(f"line {number} is none of a kept room, or its digest differs (examples/mend.py)") from None
+        digest.update(line + b"\n")
     return operations
 
 
-def snapshot(file):
-    """The snapshot that a kept file stands for."""
-    return json.dumps({"format": 2, "ops": kept_operations(file.read_bytes())}, separators=(",", ":"))
+def snapshot(operations):
+    """The snapshot with these operations and runs."""
+    return json.dumps({"format": 2, "ops": operations}, separators=(",", ":"))
 
 
 def typed(text):
@@ -66,11 +88,11 @@ def typed(text):
 
 
 def renewed(program, file):
-    """The lines of the file that keeps a document with the text of this one, written by site 0."""
-    text = run(program, "text", given=snapshot(file)).removesuffix("\n")
+    """The file that keeps a new document with the text of this one, written by site 0."""
+    text = run(program, "text", given=snapshot(kept_operations(file.read_bytes()))).removesuffix("\n")
     requests = [*typed(text), *({"t": "ops", "after": at, "max": MOST} for at in range(0, len(text), MOST))]
     replies = run(program, "lines", given="".join(json.dumps(it) + "\n" for it in requests)).split("\n")
-    return "".join(line + "\n" for line in replies if line and json.loads(line)["r"] == "ops")
+    return digested(line.encode() for line in replies if line and json.loads(line)["r"] == "ops")
 
 
 @contextlib.contextmanager
@@ -110,9 +132,9 @@ def renew_folder(program, old, new):
         try:
             for file in files:
                 with told_of(file):
-                    lines = renewed(program, file)
-                with told_of(made / file.name), open(made / file.name, "w", encoding="utf-8") as written:
-                    written.write(lines)
+                    fresh = renewed(program, file)
+                with told_of(made / file.name), open(made / file.name, "xb") as written:
+                    written.write(fresh)
                     written.flush()
                     os.fsync(written.fileno())
             made.rename(new)
@@ -135,7 +157,10 @@ def main():
             renew_folder(words.program, words.kept, words.fresh)
         else:
             with told_of(words.kept):
-                sys.stdout.write(f"{snapshot(words.kept)}\n" if words.snapshot else renewed(words.program, words.kept))
+                if words.snapshot:
+                    print(snapshot(kept_operations(words.kept.read_bytes())))
+                else:
+                    sys.stdout.buffer.write(renewed(words.program, words.kept))
     except Unrenewed as why:
         sys.exit(f"renew.py: {why}; nothing was made")
 

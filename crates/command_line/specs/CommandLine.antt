@@ -1,7 +1,9 @@
 -- The command line, as `clap` reads it: `rgatext lines [--site N] [--resume] [--snapshot]`, `rgatext text [--version V]`,
--- `rgatext world [--sites N]` and `rgatext serve --port P [--site N] [--conns C] [--keep FOLDER] [--every SECONDS] NAME...`.
+-- `rgatext world [--sites N]` and `rgatext serve --port P [--site N] [--conns C] [--keep FOLDER] [--every SECONDS] [--origin ORIGIN]...
+-- [--report] NAME...`.
 use Rattle.std.specs.Prelude.{◌≡◌, ◌≤◌, ◌⊎◌, ℕ, Bool, false, List, [], ◌∷◌, Option, Some, None, bytes_eq, codes, true, pos, map, option_map}
 use Rattle.std.specs.Prelude.{string_bytes, IfSome}
+use Rattle.std.specs.Option.{unwrap_or}
 use Rattle.std.specs.Str.Parse.{IsNumeral, digits_value, without_leading_plus}
 use Rattle.clap.specs.Words.{App, IsAmong, Kinds, Row, Rule, Text, all_of, first_of, new_app, new_rule, with_rule, with_subcommand}
 use Rattle.clap.specs.declared.builder.action.ArgAction.TheVariants.{Append, SetTrue}
@@ -25,9 +27,12 @@ site_option = record (valued_option (codes "site")) { parser = Some (vp.Signed (
 abbrev pub site_or_zero_option : Rule
 site_or_zero_option = record site_option { defaults = codes "0" ∷ [] }
 
--- `--version V`, a whole number of 32 bits
+-- `--version V`, a whole number of 32 bits; to `clap` it has another name, since an option of that name is its own
 abbrev pub version_option : Rule
-version_option = record (valued_option (codes "version")) { parser = Some (vp.Signed (pos 0) (pos 4294967295)) }
+version_option = record (valued_option (codes "number")) {
+  long = Some (codes "version");
+  parser = Some (vp.Signed (pos 0) (pos 4294967295));
+}
 
 -- `--sites N`, a whole number from 1 to 32, or 2
 abbrev pub sites_option : Rule
@@ -37,12 +42,9 @@ sites_option = record (valued_option (codes "sites")) { parser = Some (vp.Signed
 abbrev pub port_option : Rule
 port_option = record (valued_option (codes "port")) { required = true; parser = Some (vp.Signed (pos 1) (pos 65535)) }
 
--- `--conns C`, a whole number from 1 to 65,536, or 65,536
+-- `--conns C`, a whole number from 1 to 65,536
 abbrev pub conns_option : Rule
-conns_option = record (valued_option (codes "conns")) {
-  parser = Some (vp.Signed (pos 1) (pos 65536));
-  defaults = codes "65536" ∷ [];
-}
+conns_option = record (valued_option (codes "conns")) { parser = Some (vp.Signed (pos 1) (pos 65536)) }
 
 -- `--keep FOLDER`
 abbrev pub keep_option : Rule
@@ -51,6 +53,10 @@ keep_option = valued_option (codes "keep")
 -- `--every SECONDS`, a whole number from 1 to 3600
 abbrev pub every_option : Rule
 every_option = record (valued_option (codes "every")) { parser = Some (vp.Signed (pos 1) (pos 3600)) }
+
+-- `--origin ORIGIN`, again and again
+abbrev pub origin_option : Rule
+origin_option = record (valued_option (codes "origin")) { action = Some Append }
 
 -- the names, of which there is at least one
 abbrev pub name_words : Rule
@@ -76,15 +82,15 @@ world_command = with_rule (new_app (codes "world")) sites_option
 -- the subcommand `serve`
 unfoldable pub serve_command : App
 serve_command =
-    with_rule (with_rule (with_rule (with_rule (with_rule (with_rule (new_app (codes "serve")) port_option) site_option)
-    conns_option) keep_option) every_option) name_words
+    with_rule (with_rule (with_rule (with_rule (with_rule (with_rule (with_rule (with_rule (new_app (codes "serve")) port_option) site_option)
+    conns_option) keep_option) every_option) origin_option) (flag_option (codes "report"))) name_words
 
--- the program, which asks for a subcommand
+-- the program, which asks for a subcommand, and tells its version
 unfoldable pub rgatext : App
 rgatext =
     let a = with_subcommand (with_subcommand (with_subcommand (with_subcommand (new_app (codes "rgatext")) lines_command.top)
     text_command.top) world_command.top) serve_command.top in
-    record a { top = record a.top { subcommand_required = true } }
+    record a { top = record a.top { subcommand_required = true; has_version = true } }
 
 -- the number that a text of decimal digits is
 abbrev pub number_in : Text → ℕ
@@ -106,13 +112,15 @@ is_set None = false
 abbrev pub AsksIn : Text → List Row → Plan → Type 0
 AsksIn name rows (Lines site resume snapshot) = (name ≡ codes "lines") × ReadsTo 31 (first_of (codes "site") rows) (Some site)
     × (resume ≡ is_set (first_of (codes "resume") rows)) × (snapshot ≡ is_set (first_of (codes "snapshot") rows))
-AsksIn name rows (TextOf version) = (name ≡ codes "text") × ReadsTo 4294967295 (first_of (codes "version") rows) version
+AsksIn name rows (TextOf version) = (name ≡ codes "text") × ReadsTo 4294967295 (first_of (codes "number") rows) version
 AsksIn name rows (World sites) = (name ≡ codes "world") × (1 ≤ sites) × ReadsTo 32 (first_of (codes "sites") rows) (Some sites)
-AsksIn name rows (Serve port site conns keep every names) = (name ≡ codes "serve")
+AsksIn name rows (Serve port site conns keep every origins report names) = (name ≡ codes "serve")
     × (1 ≤ port) × ReadsTo 65535 (first_of (codes "port") rows) (Some port) × ReadsTo 31 (first_of (codes "site") rows) site
-    × (1 ≤ conns) × ReadsTo 65536 (first_of (codes "conns") rows) (Some conns)
+    × IfSome conns (λ count. 1 ≤ count) × ReadsTo 65536 (first_of (codes "conns") rows) conns
     × (option_map string_bytes keep ≡ first_of (codes "keep") rows)
     × IfSome every (λ seconds. 1 ≤ seconds) × ReadsTo 3600 (first_of (codes "every") rows) every
+    × (map string_bytes origins.items ≡ unwrap_or (all_of (codes "origin") rows) [])
+    × (report ≡ is_set (first_of (codes "report") rows))
     × (all_of (codes "name") rows ≡ Some (map string_bytes names.items))
 
 -- the subcommand that was met asks for the plan

@@ -1,13 +1,15 @@
 //! The words of `serve`.
 ghost use Rattle.std.specs.Prelude.{◌≡◌, ◌≤◌, Some, Option, ℕ, false, IfOk, IfSome, IfNone, map, option_map, string_bytes};
-ghost use Rattle.std.specs.Prelude.{codes};
+ghost use Rattle.std.specs.Prelude.{codes, []};
+ghost use Rattle.std.specs.Option.{unwrap_or};
 ghost use Rattle.clap.specs.Words.{app_of, found_of, rows_of, rule_of, new_app, with_rule};
 ghost use Rattle.clap.specs.declared.builder.command.Command.TheViews.{out-Command};
 ghost use Rattle.plans.specs.declared.plan.Plan.{Plan};
 ghost use Rattle.command_line.specs.CommandLine.{serve_command, port_option, site_option, conns_option, keep_option, every_option};
+ghost use Rattle.command_line.specs.CommandLine.{origin_option, flag_option};
 ghost use Rattle.command_line.specs.CommandLine.{name_words, AsksIn, AsksNothing, ReadsTo};
 
-use crate::words::{new_command, site_arg, site_in, valued_arg};
+use crate::words::{flag, flag_arg, new_command, site_arg, site_in, valued_arg};
 use clap::{Arg, ArgAction, ArgMatches, Command, value_parser};
 use opid::Site;
 use plans::Plan;
@@ -18,10 +20,26 @@ pub(crate) fn serve_command<'a>(alloc: Global) -> Result<Command<'a>, AllocError
     ensures shape { IfOk result (λ made. app_of made ≡ serve_command) }
     ensures local { IfOk result (λ made. (out-Command made).has_globals ≡ false) }
 {
+    let serve = kept_command(alloc)?;
+    let serve = serve.arg(origin_arg(alloc))?;
+    let serve = serve.arg(flag_arg(
+        alloc,
+        "report",
+        "Tells each minute on standard error how the rooms are",
+    ))?;
+    serve.arg(name_arg(alloc))
+}
+
+// The subcommand with what it is told of its connections and of keeping alone.
+fn kept_command<'a>(alloc: Global) -> Result<Command<'a>, AllocError>
+    ensures shape { IfOk result (λ made. app_of made
+        ≡ with_rule (with_rule (with_rule (with_rule (with_rule (new_app (codes "serve")) port_option) site_option) conns_option)
+        keep_option) every_option) }
+    ensures local { IfOk result (λ made. (out-Command made).has_globals ≡ false) }
+{
     let serve = line_command(alloc)?;
     let serve = serve.arg(keep_arg(alloc))?;
-    let serve = serve.arg(every_arg(alloc))?;
-    serve.arg(name_arg(alloc))
+    serve.arg(every_arg(alloc))
 }
 
 // The subcommand with what it is told of its connections alone.
@@ -55,10 +73,9 @@ fn conns_arg<'a>(alloc: Global) -> Arg<'a>
         alloc,
         "conns",
         "C",
-        "How many connections are accepted, 1 to 65536",
+        "How many connections are accepted in all, 1 to 65536; unless it is named 65536, with --keep at one time",
     )
     .value_parser(value_parser!(u32).range(1..=65536))
-    .default_value("65536")
 }
 
 fn keep_arg<'a>(alloc: Global) -> Arg<'a>
@@ -86,6 +103,19 @@ fn every_arg<'a>(alloc: Global) -> Arg<'a>
     .value_parser(value_parser!(u32).range(1..=3600))
 }
 
+fn origin_arg<'a>(alloc: Global) -> Arg<'a>
+    ensures rule { rule_of result ≡ origin_option }
+    ensures local { result.global ≡ false }
+{
+    valued_arg(
+        alloc,
+        "origin",
+        "ORIGIN",
+        "A page's origin that may connect too, or * for all; pages of this machine may",
+    )
+    .action(ArgAction::Append)
+}
+
 fn name_arg<'a>(alloc: Global) -> Arg<'a>
     ensures rule { rule_of result ≡ name_words }
     ensures local { result.global ≡ false }
@@ -108,10 +138,10 @@ pub(crate) fn serve_plan(alloc: Global, used: &ArgMatches<'_>) -> Result<Option<
     let Some(site) = asked_site_in(used.get_str("site")) else {
         return Ok(None);
     };
-    let Some(conns) = conns_in(used.get_str("conns")) else {
+    let Some(conns) = asked_count_in(used.get_str("conns"), 65_536) else {
         return Ok(None);
     };
-    let Some(every) = asked_every_in(used.get_str("every")) else {
+    let Some(every) = asked_count_in(used.get_str("every"), 3600) else {
         return Ok(None);
     };
     let Some(words) = used.get_strs("name") else {
@@ -119,12 +149,15 @@ pub(crate) fn serve_plan(alloc: Global, used: &ArgMatches<'_>) -> Result<Option<
     };
     let keep = owned_word(alloc, used.get_str("keep"))?;
     let names = owned(alloc, words)?;
+    let origins = owned_or_none(alloc, used.get_strs("origin"))?;
     Ok(Some(Plan::Serve {
         port,
         site,
         conns,
         keep,
         every,
+        origins,
+        report: flag(used, "report"),
         names,
     }))
 }
@@ -150,6 +183,17 @@ fn owned(alloc: Global, words: &[&str]) -> Result<Vec<String>, AllocError>
     Ok(names)
 }
 
+// The words, if there are any, as texts of their own.
+fn owned_or_none(alloc: Global, words: Option<&[&str]>) -> Result<Vec<String>, AllocError>
+    ensures { IfOk result (λ texts. map string_bytes texts.items
+        ≡ unwrap_or (option_map (λ all. map (λ w. w.now) all.now) words.entry) []) }
+{
+    match words {
+        Some(words) => owned(alloc, words),
+        None => Ok(Vec::new(alloc)),
+    }
+}
+
 fn port_in(text: Option<&str>) -> Option<u16>
     ensures some { IfSome result (λ port. (1 ≤ port) × ReadsTo 65535 (option_map (λ t. t.now) text.entry) (Some port)) }
     ensures none { IfNone result ((port : ℕ) → 1 ≤ port → ReadsTo 65535 (option_map (λ t. t.now) text.entry) (Some port) → ⊥) }
@@ -173,37 +217,28 @@ fn asked_site_in(text: Option<&str>) -> Option<Option<Site>>
     }
 }
 
-fn conns_in(text: Option<&str>) -> Option<u32>
-    ensures some { IfSome result (λ conns. (1 ≤ conns) × ReadsTo 65536 (option_map (λ t. t.now) text.entry) (Some conns)) }
-    ensures none { IfNone result ((conns : ℕ) → 1 ≤ conns → ReadsTo 65536 (option_map (λ t. t.now) text.entry) (Some conns) → ⊥) }
-{
-    match text?.parse::<u32>() {
-        Ok(conns) if 1 <= conns && conns <= 65_536 => Some(conns),
-        _ => None,
-    }
-}
-
-fn asked_every_in(text: Option<&str>) -> Option<Option<u32>>
-    ensures some { IfSome result (λ every. IfSome every (λ seconds. 1 ≤ seconds)
-        × ReadsTo 3600 (option_map (λ t. t.now) text.entry) every) }
-    ensures none { IfNone result ((every : Option ℕ) → IfSome every (λ seconds. 1 ≤ seconds)
-        → ReadsTo 3600 (option_map (λ t. t.now) text.entry) every → ⊥) }
+// A number from 1 to the most, if there is a text.
+fn asked_count_in(text: Option<&str>, most: u32) -> Option<Option<u32>>
+    ensures some { IfSome result (λ asked. IfSome asked (λ count. 1 ≤ count)
+        × ReadsTo most (option_map (λ t. t.now) text.entry) asked) }
+    ensures none { IfNone result ((asked : Option ℕ) → IfSome asked (λ count. 1 ≤ count)
+        → ReadsTo most (option_map (λ t. t.now) text.entry) asked → ⊥) }
 {
     if text.is_none() {
         return Some(None);
     }
-    match every_in(text) {
-        Some(every) => Some(Some(every)),
+    match count_in(text, most) {
+        Some(count) => Some(Some(count)),
         None => None,
     }
 }
 
-fn every_in(text: Option<&str>) -> Option<u32>
-    ensures some { IfSome result (λ every. (1 ≤ every) × ReadsTo 3600 (option_map (λ t. t.now) text.entry) (Some every)) }
-    ensures none { IfNone result ((every : ℕ) → 1 ≤ every → ReadsTo 3600 (option_map (λ t. t.now) text.entry) (Some every) → ⊥) }
+fn count_in(text: Option<&str>, most: u32) -> Option<u32>
+    ensures some { IfSome result (λ count. (1 ≤ count) × ReadsTo most (option_map (λ t. t.now) text.entry) (Some count)) }
+    ensures none { IfNone result ((count : ℕ) → 1 ≤ count → ReadsTo most (option_map (λ t. t.now) text.entry) (Some count) → ⊥) }
 {
     match text?.parse::<u32>() {
-        Ok(every) if 1 <= every && every <= 3600 => Some(every),
+        Ok(count) if 1 <= count && count <= most => Some(count),
         _ => None,
     }
 }

@@ -16,16 +16,20 @@ use opid::Site;
 use plans::{Plan, PlanFault, Sites};
 use std::alloc::{AllocError, Global};
 
+// The program's version.
+const VERSION: &str = "0.1.0";
+
 /// The plan that the words ask for, of which the first is the program's own name.
 ///
 /// `lines` serves standard input: `--site N` gives the room's site, 0 to 31, or 0 where it isn't given; with `--resume`
 /// the first line is a snapshot, and with `--snapshot` one is written last. `text` prints a snapshot's reading:
 /// `--version V`, 0 to 4,294,967,295, names the version, and else it is the newest. `world` plays the script on standard
 /// input: `--sites N` gives how many sites there are, 1 to 32, or 2 where it isn't given. `serve` serves rooms of the names
-/// that follow: `--port P` gives the port, 1 to 65535; `--site N` the site, 0 to 31; `--conns C`, 1 to 65,536, or 65,536 where
-/// it isn't given, the number of connections; `--keep FOLDER` where the rooms' logs are kept; and `--every SECONDS`, 1 to 3600, how
-/// long a turn of keeping waits for the next, where answers don't wait for one. `--help` and `help`, also of a
-/// subcommand, are answered by `Help`; all other words by `Words`, which says what is wrong with them; want of memory by
+/// that follow: `--port P` gives the port, 1 to 65535; `--site N` the site, 0 to 31; `--conns C`, 1 to 65,536, the number of
+/// connections; `--keep FOLDER` where the rooms' logs are kept; `--every SECONDS`, 1 to 3600, how long a turn of keeping waits for the
+/// next, where answers don't wait for one; `--origin ORIGIN`, again and again, whose pages may connect; and `--report` asks for a line each
+/// minute. `--help` and `help`, also of a subcommand, and `--version` are answered by `Help`; all other words by `Words`, which says what
+/// is wrong with them; want of memory by
 /// `Memory`. Takes time and memory in proportion to the words.
 pub fn plan(alloc: Global, words: &[String]) -> Result<Plan, PlanFault>
     ensures planned { IfOk result (λ made. AsksForPlan (subcommand_of rgatext (map string_bytes words.now)) made) }
@@ -45,7 +49,7 @@ fn command<'a>(alloc: Global) -> Result<Command<'a>, AllocError>
     let top = without_serve(alloc)?;
     let serve = serve_command(alloc)?;
     let top = top.subcommand(serve)?;
-    Ok(top.subcommand_required(true))
+    Ok(top.subcommand_required(true).version(VERSION))
 }
 
 // The same without `serve`, and no subcommand has to be there.
@@ -149,13 +153,9 @@ fn version_arg<'a>(alloc: Global) -> Arg<'a>
     ensures rule { rule_of result ≡ version_option }
     ensures local { result.global ≡ false }
 {
-    valued_arg(
-        alloc,
-        "version",
-        "V",
-        "The version, the newest unless given",
-    )
-    .value_parser(value_parser!(u32).range(0..=4294967295))
+    valued_arg(alloc, "number", "V", "The version, the newest unless given")
+        .long("version")
+        .value_parser(value_parser!(u32).range(0..=4294967295))
 }
 
 fn sites_arg<'a>(alloc: Global) -> Arg<'a>
@@ -167,7 +167,7 @@ fn sites_arg<'a>(alloc: Global) -> Arg<'a>
         .default_value("2")
 }
 
-fn flag_arg<'a>(alloc: Global, name: &'a str, help: &'a str) -> Arg<'a>
+pub(crate) fn flag_arg<'a>(alloc: Global, name: &'a str, help: &'a str) -> Arg<'a>
     ensures rule { rule_of result ≡ flag_option name.now }
     ensures local { result.global ≡ false }
 {
@@ -211,7 +211,7 @@ fn plan_named(alloc: Global, name: &str, used: &ArgMatches<'_>) -> Result<Option
             })),
             None => Ok(None),
         },
-        "text" => match version_in(used.get_str("version")) {
+        "text" => match version_in(used.get_str("number")) {
             Some(version) => Ok(Some(Plan::Text { version })),
             None => Ok(None),
         },
@@ -224,7 +224,7 @@ fn plan_named(alloc: Global, name: &str, used: &ArgMatches<'_>) -> Result<Option
     }
 }
 
-fn flag(used: &ArgMatches<'_>, name: &str) -> bool
+pub(crate) fn flag(used: &ArgMatches<'_>, name: &str) -> bool
     ensures { result ≡ is_set (first_of name.now (rows_of (found_of used.now))) }
 {
     match used.get_str(name) {

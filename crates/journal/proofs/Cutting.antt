@@ -25,7 +25,8 @@ longer : (b : ℕ) (lines : List (List ℕ)) → 0 < length lines → 0 < length
 longer b [] h = absurd (omega arith)
 longer b (line ∷ lines) h = omega arith
 
-some_line : (front : List ℕ) → 0 < length (whole_lines (front ++ 10 ∷ []))
+-- bytes that end with LF have a line
+pub some_line : (front : List ℕ) → 0 < length (whole_lines (front ++ 10 ∷ []))
 some_line [] = omega arith
 some_line (b ∷ bs) =
     let lines = whole_lines (bs ++ 10 ∷ []) in

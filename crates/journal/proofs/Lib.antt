@@ -1,5 +1,6 @@
 mod Cutting
 mod Plain
+pub mod Digests
 mod Telling
 pub mod ReadLines
 pub mod WrittenLines

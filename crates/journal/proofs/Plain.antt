@@ -27,16 +27,16 @@ use Rattle.wire_json.specs.Line.{IsLine}
 -- ---- fixed characters, digits and quoted texts
 
 -- no byte is LF
-abbrev has_none : List ℕ → Bool
+abbrev pub has_none : List ℕ → Bool
 has_none [] = true
 has_none (x ∷ xs) = not (x == 10) && has_none xs
 
-is_other : (x : ℕ) → not (x == 10) ≡ true → x ≢ 10
+pub is_other : (x : ℕ) → not (x == 10) ≡ true → x ≢ 10
 is_other x e same =
     let q = rw (eq-eqb x 10 same) at e in
     cc
 
-fixed : (xs : List ℕ) → has_none xs ≡ true → IsLine xs
+pub fixed : (xs : List ℕ) → has_none xs ≡ true → IsLine xs
 fixed [] e = All-nil (λ byte. byte ≢ 10)
 fixed (x ∷ xs) e =
     let p = and_parts _ _ e in

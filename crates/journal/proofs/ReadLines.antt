@@ -8,9 +8,10 @@ use Rattle.opid.specs.Operations.{Operation}
 use Rattle.opid.specs.Lawful.{IsLawful, GoesOn}
 use Rattle.opid.proofs.Gathered.{take_none}
 use Rattle.wire_json.specs.Line.{IsLine}
-use Rattle.journal.specs.Journal.{IsEnded, EndsLines, whole_lines, line_told, TellLog, TellNone, StandsFor, StandsForNone}
+use Rattle.journal.specs.Journal.{IsEnded, EndsLines, whole_lines, line_told, with_end, TellLog, TellNone, StandsFor, StandsForNone}
 use Rattle.journal.specs.Journal.{IsFirstFault}
 use Rattle.journal.proofs.Cutting.{whole-line, whole-none, whole-append}
+use Rattle.journal.proofs.Digests.{joined, joined-append}
 use Rattle.journal.proofs.Telling.{told_both, told_behind, told_first, told_one, no_part}
 
 -- the first k lines of the bytes take the first `at` of them, and tell this log
@@ -21,6 +22,7 @@ pub record Reads (bytes : List ℕ) (at k : ℕ) (log : List Operation) : Type 0
   pub count : length done ≡ k
   pub few : k ≤ at
   pub cut : whole_lines bytes ≡ done ++ whole_lines (drop at bytes)
+  pub before : joined done ≡ take at bytes
   pub tells : TellLog done log
 
 pub no_log : TellLog [] []
@@ -38,6 +40,7 @@ reads_none bytes log e = record {
   count = refl;
   few = omega arith;
   cut = ap whole_lines (sym (drop_none bytes));
+  before = sym (take_none bytes 0 refl);
   tells = subst (TellLog []) (sym e) no_log;
 }
 
@@ -69,53 +72,62 @@ lines_cut bytes at k len line log r x =
     ∙ ap (λ (bs : List ℕ). line ∷ whole_lines bs) (drop-drop (len + 1) at bytes))
 
 -- the bytes up to behind its LF
-ended_more : (bytes : List ℕ) (at len : ℕ) (line : List ℕ) → IsNext bytes at len line → IsEnded (take (at + (len + 1)) bytes)
-ended_more bytes at len line x =
+pub upto_next : (bytes : List ℕ) (at len : ℕ) (line : List ℕ) → IsNext bytes at len line
+    → take (at + (len + 1)) bytes ≡ take at bytes ++ with_end line
+upto_next bytes at len line x =
     let rest = drop at bytes in
     let size : length (take len rest) ≡ len = length-take-le len rest (omega (arith, x.within)) in
-    let longer : len + 1 ≡ length (take len rest ++ 10 ∷ []) = omega (arith, size, length-append (take len rest) (10 ∷ [])) in
-    let one : take (len + 1) rest ≡ take len rest ++ 10 ∷ [] =
+    let longer : len + 1 ≡ length (with_end (take len rest)) = omega (arith, size, length-append (take len rest) (10 ∷ [])) in
+    let one : take (len + 1) rest ≡ with_end (take len rest) =
     ap (take (len + 1)) (x.cut ∙ sym (append_assoc (take len rest) (10 ∷ []) (drop (len + 1) rest)))
-    ∙ ap (λ n. take n ((take len rest ++ 10 ∷ []) ++ drop (len + 1) rest)) longer
-    ∙ take-append_seam (take len rest ++ 10 ∷ []) (drop (len + 1) rest) in
-    inr (
-      take at bytes ++ take len rest,
-      take-add at (len + 1) bytes ∙ ap (λ (t : List ℕ). take at bytes ++ t) one
-          ∙ sym (append_assoc (take at bytes) (take len rest) (10 ∷ [])),
-    )
+    ∙ ap (λ n. take n (with_end (take len rest) ++ drop (len + 1) rest)) longer
+    ∙ take-append_seam (with_end (take len rest)) (drop (len + 1) rest) in
+    take-add at (len + 1) bytes ∙ ap (λ (t : List ℕ). take at bytes ++ t) (one ∙ ap with_end (sym x.is))
+
+ended_more : (bytes : List ℕ) (at len : ℕ) (line : List ℕ) → IsNext bytes at len line → IsEnded (take (at + (len + 1)) bytes)
+ended_more bytes at len line x =
+    inr (take at bytes ++ line, upto_next bytes at len line x ∙ sym (append_assoc (take at bytes) line (10 ∷ [])))
 
 pub reads_more : (bytes : List ℕ) (at k len : ℕ) (line : List ℕ) (log ops log' : List Operation) → Reads bytes at k log
-    → IsNext bytes at len line → line_told (length log) line ≡ Ok ops → log' ≡ log ++ ops → IsLawful log' → length log' ≤ 131072
-    → Reads bytes (at + (len + 1)) (k + 1) log'
-reads_more bytes at k len line log ops log' r x told grown lawful few = record {
-  within = omega (arith, x.within, length-drop at bytes);
-  ended = ended_more bytes at len line x;
-  done = r.done ++ line ∷ [];
-  count = omega (arith, length-append r.done (line ∷ []), r.count);
-  few = omega (arith, r.few);
-  cut = lines_cut bytes at k len line log r x
-      ∙ sym (append_assoc r.done (line ∷ []) (whole_lines (drop (at + (len + 1)) bytes)));
-  tells = record {
-    told = told_both 0 r.done (line ∷ []) log ops r.tells.told
-        (told_one (0 + length log) line ops (subst (λ n. line_told n line ≡ Ok ops) (sym (zero-add (length log))) told))
-        ∙ ap Ok (sym grown);
-    lawful = lawful;
-    few = few;
-  };
-}
+    → IsNext bytes at len line → line_told (take at bytes) (length log) line ≡ Ok ops → log' ≡ log ++ ops → IsLawful log'
+    → length log' ≤ 131072 → Reads bytes (at + (len + 1)) (k + 1) log'
+reads_more bytes at k len line log ops log' r x told grown lawful few =
+    let both : joined (r.done ++ line ∷ []) ≡ take (at + (len + 1)) bytes =
+    joined-append r.done (line ∷ []) ∙ ap (λ (t : List ℕ). joined r.done ++ t) (append-nil (with_end line))
+    ∙ ap (λ (t : List ℕ). t ++ with_end line) r.before ∙ sym (upto_next bytes at len line x) in
+    record {
+      within = omega (arith, x.within, length-drop at bytes);
+      ended = ended_more bytes at len line x;
+      done = r.done ++ line ∷ [];
+      count = omega (arith, length-append r.done (line ∷ []), r.count);
+      few = omega (arith, r.few);
+      cut = lines_cut bytes at k len line log r x
+          ∙ sym (append_assoc r.done (line ∷ []) (whole_lines (drop (at + (len + 1)) bytes)));
+      before = both;
+      tells = record {
+        told = told_both [] 0 r.done (line ∷ []) log ops r.tells.told
+            (told_one (joined r.done) (0 + length log) line ops
+            (subst (λ n. line_told (joined r.done) n line ≡ Ok ops) (sym (zero-add (length log)))
+            (subst (λ (b : List ℕ). line_told b (length log) line ≡ Ok ops) (sym r.before) told)))
+            ∙ ap Ok (sym grown);
+        lawful = lawful;
+        few = few;
+      };
+    }
 
 -- ---- a line that tells no next part
 
--- the line tells none that may follow the log
-abbrev pub MayNot : List Operation → List ℕ → Type 0
-MayNot log line = (ops : List Operation) → line_told (length log) line ≡ Ok ops → GoesOn log ops → length log + length ops ≤ 131072 → ⊥
+-- behind these bytes the line tells none that may follow the log
+abbrev pub MayNot : List ℕ → List Operation → List ℕ → Type 0
+MayNot before log line = (ops : List Operation) → line_told before (length log) line ≡ Ok ops → GoesOn log ops
+    → length log + length ops ≤ 131072 → ⊥
 
-none_behind : (done : List (List ℕ)) (line : List ℕ) (rest : List (List ℕ)) (log : List Operation) → TellLog done log → MayNot log line
-    → TellNone (done ++ (line ∷ rest))
+none_behind : (done : List (List ℕ)) (line : List ℕ) (rest : List (List ℕ)) (log : List Operation) → TellLog done log
+    → MayNot (joined done) log line → TellNone (done ++ (line ∷ rest))
 none_behind done line rest log d not = λ total t.
-    let b = told_behind 0 done (line ∷ rest) log total d.told t.told in
-    let f = told_first (0 + length log) line rest b.0 b.1 in
-    let told = subst (λ n. line_told n line ≡ Ok f.0) (zero-add (length log)) f.2 in
+    let b = told_behind [] 0 done (line ∷ rest) log total d.told t.told in
+    let f = told_first (joined done) (0 + length log) line rest b.0 b.1 in
+    let told = subst (λ n. line_told (joined done) n line ≡ Ok f.0) (zero-add (length log)) f.2 in
     no_part log f.0 f.1 total (append_assoc log f.0 f.1 ∙ ap (λ (l : List Operation). log ++ l) f.3 ∙ b.2) t.lawful t.few (not f.0 told)
 
 -- the bytes stand for no log, and it is the line's fault
@@ -124,8 +136,9 @@ pub record IsRefuted (bytes : List ℕ) (n : ℕ) : Type 0 where
   pub none : StandsForNone bytes
 
 pub refuted : (bytes : List ℕ) (at k len : ℕ) (line : List ℕ) (log : List Operation) → Reads bytes at k log → IsNext bytes at len line
-    → MayNot log line → IsRefuted bytes (k + 1)
-refuted bytes at k len line log r x not =
+    → MayNot (take at bytes) log line → IsRefuted bytes (k + 1)
+refuted bytes at k len line log r x nots =
+    let not = subst (λ (b : List ℕ). MayNot b log line) (sym r.before) nots in
     let rest = whole_lines (drop (at + (len + 1)) bytes) in
     let all = lines_cut bytes at k len line log r x in
     let front : take k (whole_lines bytes) ≡ r.done =

@@ -10,6 +10,7 @@ use Rattle.opid.proofs.Logs.{IsLawful-take}
 use Rattle.wire_json.specs.Line.{IsLine}
 use Rattle.journal.specs.Journal.{IsEnded, behind_byte, whole_lines, log_told, TellLog, StandsFor}
 use Rattle.journal.proofs.Cutting.{whole-none, whole-append}
+use Rattle.journal.proofs.Digests.{joined}
 use Rattle.journal.proofs.Telling.{told_both, told_behind, told_first, told_one}
 
 -- ---- lines
@@ -36,22 +37,22 @@ lines_behind (x ∷ a) last h = ap (λ ls. cond (eqb x 10) ([] ∷ ls) (behind_b
 
 -- ---- what they tell
 
-pub told_front : (n : ℕ) (a b : List (List ℕ)) (total : List Operation) → log_told n (a ++ b) ≡ Ok total → (ops : List Operation)
-    × (log_told n a ≡ Ok ops)
-told_front n [] b total e = ([], refl)
-told_front n (line ∷ a) b total e =
-    let f = told_first n line (a ++ b) total e in
-    let one = told_one n line f.0 f.2 in
-    let rest = told_behind n (line ∷ []) (a ++ b) f.0 total one e in
-    let ih = told_front (n + length f.0) a b rest.0 rest.1 in
-    (f.0 ++ ih.0, told_both n (line ∷ []) a f.0 ih.0 one ih.1)
+pub told_front : (before : List ℕ) (n : ℕ) (a b : List (List ℕ)) (total : List Operation) → log_told before n (a ++ b) ≡ Ok total
+    → (ops : List Operation) × (log_told before n a ≡ Ok ops)
+told_front before n [] b total e = ([], refl)
+told_front before n (line ∷ a) b total e =
+    let f = told_first before n line (a ++ b) total e in
+    let one = told_one before n line f.0 f.2 in
+    let rest = told_behind before n (line ∷ []) (a ++ b) f.0 total one e in
+    let ih = told_front (before ++ joined (line ∷ [])) (n + length f.0) a b rest.0 rest.1 in
+    (f.0 ++ ih.0, told_both before n (line ∷ []) a f.0 ih.0 one ih.1)
 
 -- the first of lines that tell a log tell a beginning of it
 pub front_tells : (a b : List (List ℕ)) (log : List Operation) → TellLog (a ++ b) log
     → (count : ℕ) × (count ≤ length log) × TellLog a (take count log)
 front_tells a b log t =
-    let front = told_front 0 a b log t.told in
-    let rest = told_behind 0 a b front.0 log front.1 t.told in
+    let front = told_front [] 0 a b log t.told in
+    let rest = told_behind [] 0 a b front.0 log front.1 t.told in
     let size : length front.0 ≤ length log = omega (arith, length-append front.0 rest.0, ap (length {A = Operation}) rest.2) in
     let is : take (length front.0) log ≡ front.0 = ap (take (length front.0)) (sym rest.2) ∙ take-append_seam front.0 rest.0 in (
       length front.0,
@@ -76,7 +77,7 @@ behind bytes last log h s = subst (λ ls. TellLog ls log) (sym (lines_behind byt
 pub adds : (front rest : List ℕ) (log more : List Operation) → IsEnded front → StandsFor front log → StandsFor (front ++ rest) more
     → (length log ≤ length more) × (log ≡ take (length log) more)
 adds front rest log more e s t =
-    let b = told_behind 0 (whole_lines front) (whole_lines rest) log more s.told (ap (log_told 0) (sym (whole-append front rest e))
+    let b = told_behind [] 0 (whole_lines front) (whole_lines rest) log more s.told (ap (log_told [] 0) (sym (whole-append front rest e))
     ∙ t.told) in
     let is : take (length log) more ≡ log = ap (take (length log)) (sym b.2) ∙ take-append_seam log b.0 in
     (omega (arith, length-append log b.0, ap (length {A = Operation}) b.2), sym is)

@@ -1,7 +1,10 @@
--- Which log a journal's bytes stand for: lines of JSON (RFC 8259), each an object that tells a part of the log, one after another. The
--- format is the server's own.
+-- Which log a journal's bytes stand for: lines of JSON (RFC 8259), each an object that tells a part of the log, one after another, or
+-- the digest of all bytes before it. The format is the server's own.
 use Rattle.std.specs.Prelude.{◌≡◌, ◌≤◌, ◌+◌, ◌-◌, ◌==◌, ◌⊎◌, ℕ, if◌then◌else◌, Result, Ok, Err, List, [], ◌∷◌, ◌++◌, length, take, drop}
+use Rattle.std.specs.Prelude.{codes, bytes_eq}
 use Rattle.std.specs.List.{AllByRecursion}
+use Rattle.hex.specs.Hex.{encode_lower}
+use Rattle.sha2.specs.Sha256.{sha256}
 use Rattle.opid.specs.declared.refusal.Refusal.{Refusal}
 use Rattle.opid.specs.declared.refusal.Refusal.TheVariants.{BadField}
 use Rattle.opid.specs.Operations.{Operation}
@@ -40,25 +43,37 @@ pub record EndsLines (n : ℕ) (bytes : List ℕ) : Type 0 where
 
 -- ---- the log that lines tell
 
+-- the line that tells the SHA-256 of these bytes (FIPS 180-4) in lower-case hex digits
+abbrev pub digest_line : List ℕ → List ℕ
+digest_line bytes = codes "{\"sha256\":\"" ++ encode_lower (sha256 bytes) ++ codes "\"}"
+
 -- the operations of a part, whose first has to have this number
 abbrev pub part_from : ℕ → ℕ × List Operation → Result (List Operation) Refusal
 part_from n part = if part.0 == n then Ok part.1 else Err BadField
 
--- the operations that a line tells, of which the first has this number
-abbrev pub line_told : ℕ → List ℕ → Result (List Operation) Refusal
-line_told n line = part_told line >>= part_from n
+-- the operations of the part that a line tells, of which the first has this number
+abbrev pub next_part : ℕ → List ℕ → Result (List Operation) Refusal
+next_part n line = part_told line >>= part_from n
 
--- the operations that lines tell as parts one after another, of which the first begins with this number
-abbrev pub log_told : ℕ → List (List ℕ) → Result (List Operation) Refusal
-log_told n [] = Ok []
-log_told n (line ∷ lines) = do
-  ops ← line_told n line
-  more ← log_told (n + length ops) lines
+-- the same of a line behind these bytes: none where it is the digest of the bytes
+abbrev pub line_told : List ℕ → ℕ → List ℕ → Result (List Operation) Refusal
+line_told before n line = if bytes_eq line (digest_line before) then Ok [] else next_part n line
+
+-- a line with its LF
+abbrev pub with_end : List ℕ → List ℕ
+with_end line = line ++ 10 ∷ []
+
+-- the operations that lines tell behind these bytes, one part after another, of which the first begins with this number
+abbrev pub log_told : List ℕ → ℕ → List (List ℕ) → Result (List Operation) Refusal
+log_told before n [] = Ok []
+log_told before n (line ∷ lines) = do
+  ops ← line_told before n line
+  more ← log_told (before ++ with_end line) (n + length ops) lines
   Ok (ops ++ more)
 
 -- the lines tell this log, which is lawful and has at most 131,072 operations
 pub record TellLog (lines : List (List ℕ)) (log : List Operation) : Type 0 where
-  pub told : log_told 0 lines ≡ Ok log
+  pub told : log_told [] 0 lines ≡ Ok log
   pub lawful : IsLawful log
   pub few : length log ≤ 131072
 
@@ -88,10 +103,15 @@ IsFaultOf bytes (Line n) = IsFirstFault n (whole_lines bytes)
 
 -- ---- the lines of operations
 
--- the lines of parts, of which the first begins with this number: each is the text of an `ops` reply
-abbrev pub lines_of : ℕ → List (List Operation) → List ℕ
-lines_of n [] = []
-lines_of n (part ∷ parts) = text (Ops n part) ++ 10 ∷ lines_of (n + length part) parts
+-- the two lines of a part behind these bytes: the text of an `ops` reply, and the digest of all bytes up to behind it
+abbrev pub part_lines : List ℕ → ℕ → List Operation → List ℕ
+part_lines before n part = with_end (text (Ops n part)) ++ with_end (digest_line (before ++ with_end (text (Ops n part))))
+
+-- the lines of parts behind these bytes, of which the first begins with this number
+abbrev pub lines_of : List ℕ → ℕ → List (List Operation) → List ℕ
+lines_of before n [] = []
+lines_of before n (part ∷ parts) =
+    part_lines before n part ++ lines_of (before ++ part_lines before n part) (n + length part) parts
 
 -- 1 to 64 operations, which are within their ranges
 pub record FitsLine (ops : List Operation) : Type 0 where
@@ -99,9 +119,9 @@ pub record FitsLine (ops : List Operation) : Type 0 where
   pub few : length ops ≤ 64
   pub in_range : AllByRecursion IsOperationInRange ops
 
--- the bytes are the lines of these operations in parts, of which the first has this number
-pub record AreLinesOf (n : ℕ) (ops : List Operation) (bytes : List ℕ) : Type 0 where
+-- the bytes are the lines of these operations in parts, behind bytes that were before them, and the first has this number
+pub record AreLinesOf (before : List ℕ) (n : ℕ) (ops : List Operation) (bytes : List ℕ) : Type 0 where
   pub parts : List (List Operation)
   pub whole : concatenated parts ≡ ops
   pub each : AllByRecursion FitsLine parts
-  pub written : bytes ≡ lines_of n parts
+  pub written : bytes ≡ lines_of before n parts

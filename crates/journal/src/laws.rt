@@ -12,8 +12,10 @@ pub fn journals_grow()
     ensures whole { (n : ℕ) (bytes : List ℕ) (log : List Operation) → EndsLines n bytes → StandsFor bytes log
         → StandsFor (take n bytes) log }
     ensures grown { (bytes more : List ℕ) (log ops : List Operation) → IsEnded bytes → StandsFor bytes log
-        → AreLinesOf (length log) ops more → IsLawful (log ++ ops) → length (log ++ ops) ≤ 131072 → StandsFor (bytes ++ more) (log ++ ops) }
-    ensures ended { (n : ℕ) (bytes more : List ℕ) (ops : List Operation) → IsEnded bytes → AreLinesOf n ops more → IsEnded (bytes ++ more) }
+        → AreLinesOf bytes (length log) ops more → IsLawful (log ++ ops) → length (log ++ ops) ≤ 131072
+        → StandsFor (bytes ++ more) (log ++ ops) }
+    ensures ended { (n : ℕ) (bytes more : List ℕ) (ops : List Operation) → IsEnded bytes → AreLinesOf bytes n ops more
+        → IsEnded (bytes ++ more) }
 {}
 
 /// Bytes stand for at most one log.

@@ -1,8 +1,9 @@
-//! Journals: a document's log as lines, each of which tells a part of it, in a file that only grows.
+//! Journals: a document's log as lines, each of which tells a part of it, or the digest of all before it, in a file that only grows.
 //!
 //! Which log a journal's bytes stand for is told by `specs/Journal.antt`.
 #![tactic(auto)]
 
+mod digest;
 mod fault;
 mod free;
 pub mod laws;
@@ -14,4 +15,4 @@ pub use fault::JournalFault;
 pub use free::free_site;
 pub use mark::Mark;
 pub use reading::{Journal, read_journal};
-pub use writing::write_lines;
+pub use writing::{Lines, write_lines};

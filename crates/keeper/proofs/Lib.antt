@@ -2,3 +2,4 @@ mod TornFiles
 mod Moments
 mod Replays
 mod Steps
+mod Tails

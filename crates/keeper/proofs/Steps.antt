@@ -1,16 +1,18 @@
 -- What a kept file is after each call of its disk.
 use Rattle.std.proofs.Common.{◌≡◌, ℕ, ◌+◌, ◌≤◌, Bool, true, false, List, [], ◌++◌, length, take, drop, refl, sym, ap, ◌∙◌, subst, arith}
-use Rattle.std.proofs.Common.{length-append}
+use Rattle.std.proofs.Common.{length-append, ◌⊎◌, inl, inr, Result, Ok, Err, OnOk, OnErr}
 use Rattle.std.proofs.lemmas.List.{length-drop}
 use Rattle.journal.specs.Journal.{AreLinesOf, IsEnded, EndsLines}
-use Rattle.std.proofs.lemmas.List.{take-take, take-append-le, length-take, take_all}
+use Rattle.std.proofs.lemmas.List.{append-nil, take-take, take-append-le, length-take, take_all}
 use Rattle.opid.specs.Operations.{Operation}
 use Rattle.opid.specs.Lawful.{IsLawful}
 use Rattle.journal.specs.Journal.{StandsFor}
 use Rattle.journal.specs.declared.mark.Mark.{Mark}
+use Rattle.sha2.specs.Hashers.{Holds256}
 use Rattle.keeper.specs.Disk.{Only, IsHeld, Follows, IsCut, IsTorn}
 use Rattle.keeper.specs.Turn.{OpensAs, IsFront}
-use Rattle.keeper.specs.Kept.{KeepsAt, IsClean, IsTurn}
+use Rattle.keeper.specs.Kept.{KeepsAt, IsClean, IsTurn, HasWritten}
+use Rattle.keeper.specs.declared.kept.KeptFile.{KeptFile}
 use Rattle.journal.proofs.ReadLines.{whole_stands}
 use Rattle.keeper.proofs.TornFiles.{grows, tears, stays_cut, front_longer, opens_longer}
 
@@ -40,6 +42,7 @@ module _ {D : Type 0} (honest : D → Type 0) (seen : D → List ℕ) (may_leave
         is_honest = still k.is_honest;
         within = same_front mark.length (seen disk) (seen new) k.within same;
         front = subst (λ (f : List ℕ). IsFront f mark.version log) (sym same) k.front;
+        hashed = subst (Holds256 mark.digest) (sym same) k.hashed;
         synced = λ c left.
             let from = follows c left in
             ap (take mark.length) from.2.front ∙ take-take mark.length from.2.size from.0 from.2.no_shorter ∙ k.synced from.0 from.1
@@ -64,6 +67,7 @@ module _ {D : Type 0} (honest : D → Type 0) (seen : D → List ℕ) (may_leave
         is_honest = still k.is_honest;
         within = omega (arith, k.within, ap (length {A = ℕ}) same);
         front = subst (λ (f : List ℕ). IsFront (take mark.length f) mark.version log) (sym same) k.front;
+        hashed = subst (λ (f : List ℕ). Holds256 mark.digest (take mark.length f)) (sym same) k.hashed;
         synced = λ c left. k.synced c (crash c left) ∙ ap (take mark.length) (sym same);
         opens = λ c left. k.opens c (crash c left);
         clean = dirty new mark.length;
@@ -84,6 +88,7 @@ module _ {D : Type 0} (honest : D → Type 0) (seen : D → List ℕ) (may_leave
         is_honest = on.is_honest;
         within = on.within;
         front = on.front;
+        hashed = on.hashed;
         synced = on.synced;
         opens = on.opens;
         clean = λ e. record {
@@ -101,7 +106,7 @@ module _ {D : Type 0} (honest : D → Type 0) (seen : D → List ℕ) (may_leave
 
   -- after lines were appended, if that failed or not
   pub after_append : (disk new : D) (mark next : Mark) (log : List Operation) (lines : List ℕ)
-      → KeepsAt honest seen may_leave fresh disk mark true log → IsTurn mark next log lines
+      → KeepsAt honest seen may_leave fresh disk mark true log → IsTurn (seen disk) mark next log lines
       → (honest disk → honest new) → (honest disk → (more : List ℕ) × (seen new ≡ seen disk ++ more))
       → (honest disk → Only (seen disk) (may_leave disk) → (c : List ℕ) → may_leave new c → IsTorn (seen disk) lines c)
       → KeepsAt honest seen may_leave fresh new mark false log
@@ -116,6 +121,7 @@ module _ {D : Type 0} (honest : D → Type 0) (seen : D → List ℕ) (may_leave
         is_honest = still k.is_honest;
         within = same_front mark.length (seen disk) (seen new) k.within front;
         front = subst (λ (f : List ℕ). IsFront f mark.version log) (sym front) k.front;
+        hashed = subst (Holds256 mark.digest) (sym front) k.hashed;
         synced = λ c left.
             let torn = crash clean.only c left in
             ap (take mark.length) torn.is ∙ take-append-le mark.length (seen disk) (take torn.size lines ++ torn.last) k.within ∙ sym front;
@@ -126,7 +132,7 @@ module _ {D : Type 0} (honest : D → Type 0) (seen : D → List ℕ) (may_leave
   -- and after the sync that succeeds the mark stands behind them
   pub after_turn : (disk mid new : D) (mark next : Mark) (log : List Operation) (lines : List ℕ)
       → KeepsAt honest seen may_leave fresh disk mark true log → KeepsAt honest seen may_leave fresh mid mark false log
-      → IsTurn mark next log lines
+      → IsTurn (seen disk) mark next log lines
       → (honest disk → seen mid ≡ seen disk ++ lines) → (honest disk → fresh mid ≤ fresh disk)
       → (honest mid → honest new) → (honest mid → seen new ≡ seen mid)
       → (honest mid → IsHeld (fresh mid) (seen mid) (may_leave mid) → Only (seen mid) (may_leave new) × (fresh new ≡ 0))
@@ -149,6 +155,7 @@ module _ {D : Type 0} (honest : D → Type 0) (seen : D → List ℕ) (may_leave
         within = omega (arith, size);
         front = subst (λ (f : List ℕ). IsFront f next.version log) (sym front) (subst (λ n. IsFront (seen disk ++ lines) n log)
             (sym turn.version) all);
+        hashed = subst (Holds256 next.digest) (sym front) turn.hashed;
         synced = λ c left. ap (take next.length) (only c left);
         opens = λ c left. record {
           count = length log;
@@ -166,6 +173,7 @@ module _ {D : Type 0} (honest : D → Type 0) (seen : D → List ℕ) (may_leave
     is_honest = k.is_honest;
     within = k.within;
     front = front_longer (take mark.length (seen disk)) mark.version log more k.front lawful few;
+    hashed = k.hashed;
     synced = k.synced;
     opens = λ c left. opens_longer mark.version mark.version log more c (omega arith) (k.opens c left);
     clean = k.clean;
@@ -179,9 +187,10 @@ module _ {D : Type 0} (honest : D → Type 0) (seen : D → List ℕ) (may_leave
       → (honest mid → honest new) → (honest mid → file ≡ seen mid) → (honest mid → seen new ≡ seen mid)
       → (honest mid → fresh new ≤ fresh mid)
       → (honest mid → (c : List ℕ) → may_leave new c → may_leave mid c)
-      → StandsFor file log → EndsLines mark.length file → mark.version ≡ length log → (b ≡ true → mark.length ≡ length file)
+      → StandsFor file log → EndsLines mark.length file → Holds256 mark.digest (take mark.length file)
+      → mark.version ≡ length log → (b ≡ true → mark.length ≡ length file)
       → KeepsAt honest seen may_leave fresh new mark b log
-  found_at disk mid new file mark b log h held still1 same1 durable still2 reads same2 fresher crash stands ends version ended =
+  found_at disk mid new file mark b log h held still1 same1 durable still2 reads same2 fresher crash stands ends hashed version ended =
       let h2 = still1 h in
       let now = durable h held in
       let is : seen new ≡ file = same2 h2 ∙ sym (reads h2) in
@@ -200,6 +209,7 @@ module _ {D : Type 0} (honest : D → Type 0) (seen : D → List ℕ) (may_leave
           stands = subst (λ (f : List ℕ). StandsFor (take mark.length f) (take mark.version log)) (sym is)
               (subst (StandsFor (take mark.length file)) (sym all) (whole_stands mark.length file log ends stands));
         };
+        hashed = subst (λ (f : List ℕ). Holds256 mark.digest (take mark.length f)) (sym is) hashed;
         synced = λ c left. ap (take mark.length) (only c left);
         opens = λ c left. record {
           count = length log;
@@ -212,16 +222,45 @@ module _ {D : Type 0} (honest : D → Type 0) (seen : D → List ℕ) (may_leave
       }
 
 -- the lines of a turn's operations, of which the first follows those that are kept
-pub turn_is : (mark next : Mark) (log ops : List Operation) (lines : List ℕ) → AreLinesOf mark.version ops lines
-    → next.version ≡ mark.version + length ops → next.length ≡ mark.length + length lines
-    → ops ≡ drop mark.version log → mark.version ≤ length log → IsTurn mark next log lines
-turn_is mark next log ops lines are version size is le = record {
-  are = subst (λ (xs : List Operation). AreLinesOf mark.version xs lines) is are;
+pub turn_is : (file : List ℕ) (mark next : Mark) (log ops : List Operation) (lines : List ℕ) → AreLinesOf file mark.version ops lines
+    → next.version ≡ mark.version + length ops → next.length ≡ mark.length + length lines → Holds256 next.digest (file ++ lines)
+    → ops ≡ drop mark.version log → mark.version ≤ length log → IsTurn file mark next log lines
+turn_is file mark next log ops lines are version size hashed is le = record {
+  are = subst (λ (xs : List Operation). AreLinesOf file mark.version xs lines) is are;
   version = omega (arith, version, ap (length {A = Operation}) is, length-drop mark.version log, le);
   size = size;
+  hashed = hashed;
+}
+
+-- What was written behind a file that was cut to its mark was written behind the one before.
+pub written_since : {D : Type 0} (seen : D → List ℕ) (old mid new : KeptFile D) (ops : List Operation) → mid.mark ≡ old.mark
+    → seen mid.disk ≡ take old.mark.length (seen old.disk) → HasWritten seen mid new ops → HasWritten seen old new ops
+written_since seen old mid new ops same cut w =
+    let front : take mid.mark.length (seen mid.disk) ≡ take old.mark.length (seen old.disk) =
+    ap (λ (m : Mark). take m.length (seen mid.disk)) same ∙ ap (take old.mark.length) cut
+    ∙ take-take old.mark.length old.mark.length (seen old.disk) (omega arith) in
+    record {
+      lines = w.lines;
+      are = subst (λ (m : Mark). AreLinesOf (take old.mark.length (seen old.disk)) m.version ops w.lines) same
+          (subst (λ (f : List ℕ). AreLinesOf f mid.mark.version ops w.lines) front w.are);
+      is = w.is ∙ ap (λ (f : List ℕ). f ++ w.lines) front;
+    }
+
+-- no operations have no lines
+pub none_written : {D : Type 0} (seen : D → List ℕ) (old new : KeptFile D) (ops : List Operation) → ops ≡ []
+    → seen new.disk ≡ take old.mark.length (seen old.disk) → HasWritten seen old new ops
+none_written seen old new ops none cut = record {
+  lines = [];
+  are = record { parts = []; whole = sym none; each = tt; written = refl };
+  is = cut ∙ sym (append-nil (take old.mark.length (seen old.disk)));
 }
 
 -- where there are no more, all are kept
 pub none_left : (version : ℕ) (log ops : List Operation) → ops ≡ [] → ops ≡ drop version log → version ≤ length log → version ≡ length log
 none_left version log ops none is le =
     omega (arith, ap (length {A = Operation}) none, ap (length {A = Operation}) is, length-drop version log, le)
+
+-- after a call that succeeds this is so, and after one that fails that
+pub one_or_other : {T E : Type 0} (r : Result T E) (P Q : Type 0) → OnOk r P → OnErr r Q → P ⊎ Q
+one_or_other (Ok t) P Q p q = inl p
+one_or_other (Err e) P Q p q = inr q

@@ -16,7 +16,7 @@ grows file lines version log f are =
     let size : length (take version log) ≡ version = length-take-le version log f.begins in
     let stands : StandsFor (file ++ lines) (take version log ++ drop version log) =
     grown file lines (take version log) (drop version log) f.ended f.stands
-    (subst (λ n. AreLinesOf n (drop version log) lines) (sym size) are)
+    (subst (λ n. AreLinesOf file n (drop version log) lines) (sym size) are)
     (subst IsLawful (sym whole) f.lawful) (subst (λ (l : List Operation). length l ≤ 131072) (sym whole) f.few) in
     record {
       lawful = f.lawful;

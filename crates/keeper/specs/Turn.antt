@@ -23,13 +23,13 @@ pub record IsFront (file : List ℕ) (version : ℕ) (log : List Operation) : Ty
 -- whole lines to which the lines of the log's other operations are appended stand for the log, and are whole lines
 abbrev pub StaysWhole : Type 0
 StaysWhole = (file lines : List ℕ) (version : ℕ) (log : List Operation) → IsFront file version log
-    → AreLinesOf version (drop version log) lines
+    → AreLinesOf file version (drop version log) lines
     → IsFront (file ++ lines) (length log) log
 
 -- where a crash tears that, what is left opens as a beginning of the log with these first operations
 abbrev pub Tears : Type 0
-Tears = (file lines : List ℕ) (version : ℕ) (log : List Operation) → IsFront file version log → AreLinesOf version (drop version log) lines
-    → (c : List ℕ) → IsTorn file lines c → OpensAs version log c
+Tears = (file lines : List ℕ) (version : ℕ) (log : List Operation) → IsFront file version log
+    → AreLinesOf file version (drop version log) lines → (c : List ℕ) → IsTorn file lines c → OpensAs version log c
 
 -- what opens so, and begins with whole lines that stand for these first operations, opens so when it is cut anywhere behind them
 abbrev pub StaysCut : Type 0

@@ -1,5 +1,5 @@
 //! A file as it is kept: what a read returns, and what a crash may leave.
-ghost use Rattle.std.specs.Prelude.{◌≡◌, ◌≤◌, ◌++◌, List, ℕ, length, take, IfOk, OnOk};
+ghost use Rattle.std.specs.Prelude.{◌≡◌, ◌≤◌, ◌++◌, List, ℕ, length, take, IfOk, IsOk, OnOk};
 ghost use Rattle.keeper.specs.Disk.{Only, IsHeld, Follows, IsCut, IsTorn, Elapses, HasCause};
 
 use std::alloc::Global;
@@ -10,6 +10,9 @@ use std::io;
 pub trait Disk: Drop {
     /// It does what the clauses say: a premise of each.
     ghost honest: { Self → Type 0 };
+
+    /// Nobody else has changed it, as far as that is seen.
+    ghost is_own: { Self → Type 0 };
 
     /// The bytes that a read returns.
     ghost seen: { Self → List ℕ };
@@ -39,6 +42,11 @@ pub trait Disk: Drop {
         ensures time { honest self.old
             → Elapses (moment self.old) (moment self.new) (left_since self.old) (left_since self.new) (may_leave self.new) }
         ensures cause { honest self.old → HasCause (faults self.old) (faults self.new) result };
+
+    /// Whether nobody else has changed it. A file that is honest is nobody else's.
+    fn check(&self) -> io::Result<()>
+        ensures honest { honest self.now → IsOk result }
+        ensures own { IfOk result (λ _. is_own self.now) };
 
     /// Cuts the file to a length that it has. Where that fails, these bytes are there all the same.
     fn cut(&mut self, len: u64) -> io::Result<()>

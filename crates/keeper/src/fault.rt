@@ -18,6 +18,9 @@ pub enum KeepFault {
     /// The log would have more than 131,072 operations.
     #[error("there are more than 131,072 operations")]
     Full,
+    /// Somebody else has changed the file: nothing was written.
+    #[error("{0}")]
+    Strayed(io::Error),
     /// The file can't be cut, written or synced.
     #[error("{0}")]
     File(io::Error),
@@ -44,6 +47,9 @@ pub enum OpenFault {
     /// The line of this number, from 1 on, tells no part that may follow those before it.
     #[error("line {0} doesn't go on with the log")]
     Line(usize),
+    /// So many bytes stand behind the last whole line, and they are no line that was cut short.
+    #[error("its last {0} bytes are no line that was cut short")]
+    Tail(usize),
     /// The file can't be synced or read.
     #[error("{0}")]
     File(io::Error),

@@ -6,23 +6,33 @@ use crate::disk::Disk;
 use std::alloc::Global;
 use std::fs::File;
 use std::io;
-use std::io::{Read, Write};
+use std::io::{Error, Read, Write};
+use std::os::unix::fs::MetadataExt;
 
 /// A file that was opened at its beginning, to be read and appended to.
 #[derive(Drop)]
 pub struct HostFile {
     file: File,
+    // It was left with so many bytes at least, and at most: both are one, unless a call has failed since.
+    least: u64,
+    most: u64,
 }
 
 impl HostFile {
     /// This file.
     pub fn new(file: File) -> Self {
-        HostFile { file }
+        HostFile {
+            file,
+            least: 0,
+            most: u64::MAX,
+        }
     }
 }
 
 impl Disk for HostFile {
     ghost honest = { λ m. ⊥ };
+
+    ghost is_own = { λ m. Unit {0} };
 
     ghost seen = { λ m. [] };
 
@@ -43,18 +53,49 @@ impl Disk for HostFile {
     fn read(&mut self, alloc: Global) -> io::Result<Vec<u8>> {
         let mut bytes = Vec::new(alloc);
         self.file.read_to_end(&mut bytes)?;
+        self.least = bytes.len() as u64;
+        self.most = self.least;
         Ok(bytes)
     }
 
+    fn check(&self) -> io::Result<()> {
+        let known = self.file.metadata()?;
+        if known.nlink() == 0 {
+            return Err(Error::other("the file was deleted or replaced"));
+        }
+        if known.len() < self.least || self.most < known.len() {
+            return Err(Error::other("somebody else wrote to the file, or shortened it"));
+        }
+        Ok(())
+    }
+
     fn cut(&mut self, len: u64) -> io::Result<()> {
-        self.file.set_len(len)
+        // (it is never made longer: that would fill in zeros)
+        if self.file.metadata()?.len() < len {
+            return Err(Error::other("somebody else shortened the file"));
+        }
+        self.least = self.least.min(len);
+        self.file.set_len(len)?;
+        self.least = len;
+        self.most = len;
+        Ok(())
     }
 
     fn append(&mut self, bytes: &[u8]) -> io::Result<()> {
-        self.file.write_all(bytes)
+        let more = bytes.len() as u64;
+        self.most = self.most.saturating_add(more);
+        self.file.write_all(bytes)?;
+        self.least = self.least.saturating_add(more);
+        Ok(())
     }
 
     fn sync(&mut self) -> io::Result<()> {
-        self.file.sync_data()
+        // (the system may drop what it couldn't write, and the file's length with it)
+        let least = self.least;
+        self.least = 0;
+        self.file.sync_data()?;
+        self.least = least;
+        // (what was changed meanwhile isn't kept)
+        self.check()
     }
 }

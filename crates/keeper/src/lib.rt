@@ -11,10 +11,12 @@ mod kept;
 pub mod laws;
 mod memory;
 mod opening;
+mod torn;
 
 pub use disk::Disk;
 pub use fault::{KeepFault, OpenFault};
 pub use host::HostFile;
 pub use kept::{Kept, KeptFile};
 pub use memory::MemoryFile;
-pub use opening::{Found, Unopened, find};
+pub use opening::{Found, FoundFile, Unopened, find};
+pub use torn::TornFile;

@@ -127,6 +127,8 @@ fn redo(bytes: &mut Vec<u8>, call: &Call) -> Result<(), AllocError>
 impl Disk for MemoryFile {
     ghost honest = { λ m. Unit {0} };
 
+    ghost is_own = { λ m. Unit {0} };
+
     ghost seen = { λ m. seen_after m.first.items m.calls.items };
 
     ghost may_leave = { λ m c. LeftAfter m.first.items m.calls.items c };
@@ -148,6 +150,10 @@ impl Disk for MemoryFile {
             return Err(Error::from(ErrorKind::Other));
         }
         Ok(replayed(alloc, &self.first, &self.calls)?)
+    }
+
+    fn check(&self) -> io::Result<()> {
+        Ok(())
     }
 
     fn cut(&mut self, len: u64) -> io::Result<()> {

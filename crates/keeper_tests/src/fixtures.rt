@@ -1,10 +1,46 @@
 //! A log, and what is read of bytes.
 use causal_clock::{Clock, Op};
 use journal::read_journal;
-use keeper::{KeptFile, MemoryFile};
+use keeper::{Disk, Found, FoundFile, KeptFile, MemoryFile, OpenFault, find};
 use opid::{OpKind, Site};
 use std::alloc::{AllocError, Global};
 use std::test::Fail;
+use versions::Doc;
+
+/// A file that was opened, the document that stands in it, and how many bytes behind its last whole line were saved.
+#[derive(Drop)]
+pub(crate) struct Opened<D: Disk> {
+    pub(crate) file: KeptFile<D>,
+    pub(crate) doc: Doc,
+    pub(crate) torn: usize,
+}
+
+/// Opens a file, and saves what stands behind its last whole line in memory.
+pub(crate) fn open_file<D: Disk>(
+    alloc: Global,
+    disk: D,
+    room: usize,
+) -> Result<Opened<D>, OpenFault> {
+    let (found, doc) = match find(alloc, disk, room) {
+        Ok(Found { file, doc }) => (file, doc),
+        Err(unopened) => return Err(unopened.why),
+    };
+    match found {
+        FoundFile::Whole(file) => Ok(Opened { file, doc, torn: 0 }),
+        FoundFile::Torn(torn) => {
+            let len = torn.tail().len();
+            let mut beside = MemoryFile::new(alloc, Vec::new(alloc));
+            match torn.save(&mut beside) {
+                Ok(file) => Ok(Opened {
+                    file,
+                    doc,
+                    torn: len,
+                }),
+                Err(why) => Err(OpenFault::File(why)),
+            }
+        }
+    }
+}
 
 /// So many insertions at the head, by site 0.
 pub(crate) fn letters(alloc: Global, count: usize) -> Result<Vec<Op>, Fail> {

@@ -1,7 +1,7 @@
 //! A file of the system, of which no contract knows anything.
-use crate::fixtures::{letters, part, stands_for};
+use crate::fixtures::{letters, open_file, part, stands_for};
 use causal_clock::Op;
-use keeper::{Disk, HostFile, find};
+use keeper::{Disk, HostFile, KeepFault};
 use std::alloc::Global;
 use std::fs::{File, Files, OpenOptions};
 use std::test::Fail;
@@ -21,7 +21,7 @@ fn open<R: Files<File = File>>(rt: &R) -> io::Result<HostFile> {
 
 // Opens it, and keeps 30 operations more than were kept; then a line is begun behind them.
 fn go_on<R: Files<File = File>>(rt: &R, alloc: Global, ops: &[Op], round: u8) -> io::Result<bool> {
-    let Ok(mut found) = find(alloc, open(rt)?, usize::from(round)) else {
+    let Ok(mut found) = open_file(alloc, open(rt)?, usize::from(round)) else {
         return Ok(false);
     };
     let from = usize::from(round) * 30;
@@ -31,6 +31,9 @@ fn go_on<R: Files<File = File>>(rt: &R, alloc: Global, ops: &[Op], round: u8) ->
     all &= found.file.version() as usize == from + 30;
     let mut torn = open(rt)?;
     torn.append(b"{\"from\":30,")?;
+    // (which the file that is open sees: it keeps nothing more)
+    let strayed = found.file.keep(alloc, part(ops, from + 30, from + 31));
+    all &= matches!(&strayed, Err(KeepFault::Strayed(_)));
     Ok(all)
 }
 

@@ -1,7 +1,7 @@
 //! Turns on a disk of which calls fail.
-use crate::fixtures::{each_crash_leaves, letters, part};
+use crate::fixtures::{each_crash_leaves, letters, open_file, part};
 use causal_clock::Op;
-use keeper::{KeepFault, Kept, KeptFile, MemoryFile, OpenFault, find};
+use keeper::{KeepFault, Kept, KeptFile, MemoryFile, OpenFault};
 use std::alloc::{AllocError, Global};
 use std::test::Fail;
 
@@ -36,9 +36,9 @@ fn fail_after(
     written: usize,
 ) -> Result<bool, AllocError> {
     let disk = MemoryFile::failing(alloc, Vec::new(alloc), after, failures, written);
-    match find(alloc, disk, 7) {
+    match open_file(alloc, disk, 7) {
         Ok(mut found) => take_turns(alloc, &mut found.file, ops),
-        Err(unopened) => Ok(after < 2 && matches!(&unopened.why, OpenFault::File(_))),
+        Err(why) => Ok(after < 2 && matches!(&why, OpenFault::File(_))),
     }
 }
 
@@ -97,7 +97,7 @@ fn nothing_is_kept_without_a_call(rt: HostRuntime) -> Result<(), Fail> {
         ops.extend_from_slice(&op)?;
     }
     let disk = MemoryFile::failing(alloc, Vec::new(alloc), 2, 1000, 0);
-    let all = match find(alloc, disk, 7) {
+    let all = match open_file(alloc, disk, 7) {
         Ok(mut found) => keep_nothing(alloc, &mut found.file)
             && keep_too_many(alloc, &mut found.file, &ops)?,
         Err(_) => false,

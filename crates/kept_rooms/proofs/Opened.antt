@@ -1,6 +1,7 @@
 -- What the first pass of a hall has seen of its rooms, and a pass that was split off.
 use Rattle.std.proofs.Common.{◌≡◌, ℕ, zero, suc, ◌<◌, List, [], ◌∷◌, length, map, Option, Some, None, slice_get}
-use Rattle.std.proofs.Common.{◌++◌, ◌+◌, string_bytes}
+use Rattle.std.proofs.Common.{◌++◌, ◌+◌, string_bytes, All}
+use Rattle.std.proofs.lemmas.List.Elements.{All-nil, All-cons}
 use Rattle.std.specs.List.{range_with_len}
 use Rattle.std.proofs.Common.{refl, ap, ap₂, sym, subst, ◌∙◌, arith}
 use Rattle.std.proofs.lemmas.List.{length-map}
@@ -9,7 +10,7 @@ use Rattle.room.specs.Machine.{State, room_over}
 use Rattle.room.specs.History.{state_of}
 use Rattle.shared_room.specs.declared.pass.Pass.{Pass}
 use Rattle.shared_room.specs.declared.shared.SharedRoom.{SharedRoom}
-use Rattle.shared_room.specs.Views.{View, view, opening}
+use Rattle.shared_room.specs.Views.{View, view, left, opening}
 use Rattle.ws_server.specs.declared.hall.Hall.{Hall}
 use Rattle.ws_server.specs.declared.hall.HallPass.{HallPass}
 use Rattle.ws_server.specs.Halls.{rooms_of, first_view, IsOpenedOver, AreSplit}
@@ -130,3 +131,14 @@ range_more n =
     let e : n + 1 ≡ suc n = omega arith in
     let f : n ≡ 0 + n = omega arith in
     ap (range_with_len 0) e ∙ range_suc 0 n n f
+
+-- a pass that was split off has so many draws of each room
+pub draws_split : (count n : ℕ) (old new given : List Pass) → AreSplit count n old new given → All (λ (p : Pass). left p ≡ count) given
+draws_split count zero old new given split =
+    let P : Pass → Type 0 = λ p. left p ≡ count in
+    subst (All P) (sym split.1) (All-nil P)
+draws_split count (suc n) (p ∷ old) (q ∷ new) (r ∷ given) split =
+    All-cons (λ (p : Pass). left p ≡ count) r given (ap (λ (v : View). v.left) split.1) (draws_split count n old new given split.2)
+draws_split count (suc n) [] new given split = absurd split
+draws_split count (suc n) (p ∷ old) [] given split = absurd split
+draws_split count (suc n) (p ∷ old) (q ∷ new) [] split = absurd split

@@ -2,6 +2,7 @@
 ghost use Rattle.std.specs.Prelude.{◌≡◌, ◌⊎◌, length, map, All, IfOk, IfErr};
 ghost use Rattle.std.specs.List.{range_with_len};
 ghost use Rattle.opid.specs.declared.refusal.Refusal.TheVariants as Why;
+ghost use Rattle.shared_room.specs.Views.{left};
 ghost use Rattle.ws_server.specs.Halls.{rooms_of, IsHallPassOf};
 ghost use Rattle.kept_rooms.specs.SeenLogs.{SeeAlike};
 
@@ -39,6 +40,7 @@ pub fn assign_rooms<T: Drop>(
     ensures places { IfOk result (λ all. map (λ it. it.place) all.items ≡ range_with_len 0 (length (rooms_of hall.now))) }
     ensures items { IfOk result (λ all. map (λ it. it.item) all.items ≡ items.items) }
     ensures passes { IfOk result (λ all. All (λ it. IsHallPassOf hall.now it.pass × SeeAlike hall.now pass.old it.pass) all.items) }
+    ensures draws { IfOk result (λ all. All (λ it. All (λ p. left p ≡ count) it.pass.passes.items) all.items) }
     ensures cause { IfErr result (λ why. (why ≡ Why.Worn) ⊎ (why ≡ Why.Memory)) }
 {
     let mut all = Vec::new(alloc);

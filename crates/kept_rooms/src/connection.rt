@@ -1,5 +1,5 @@
 //! A connection whose output waits: it goes out once what the connection was answered is kept.
-ghost use Rattle.std.specs.Prelude.{◌≡◌, ◌<◌, ◌≤◌, length, IfOk};
+ghost use Rattle.std.specs.Prelude.{◌≡◌, ◌<◌, ◌≤◌, [], length, IfOk, OnOk};
 ghost use Rattle.tungstenite.specs.Socket.{Reads};
 ghost use Rattle.ws_server.specs.Halls.{rooms_of, IsHallPassOf, IsConnOf};
 ghost use Rattle.ws_server.specs.Serving.{IsNew, ServesTurn};
@@ -16,7 +16,7 @@ use std::io::{Read, Write};
 use std::sync::Wait;
 use std::time::Clock;
 use tungstenite::{NoMask, WebSocket};
-use ws_server::{Conn, Hall, HallPass, Witness, serve_one, shake_hands};
+use ws_server::{Conn, Hall, HallPass, HandshakeFault, Origins, Witness, serve_one, shake_hands};
 
 /// A connection to the rooms of a hall, with its stream and its pass, which nothing else has. Its output waits until it is released.
 #[derive(Drop)]
@@ -34,7 +34,8 @@ impl<'a, S: Read + Write + Drop> KeptConnection<'a, S> {
         hall: &'a Hall,
         pass: HallPass,
         stream: S,
-    ) -> Result<KeptConnection<'a, S>, ServeFault>
+        origins: Origins<'_>,
+    ) -> Result<KeptConnection<'a, S>, HandshakeFault>
         requires { IsHallPassOf hall.now pass }
         ensures hall { IfOk result (λ it. it.hall ≡ hall.entry) }
         ensures pass { IfOk result (λ it. IsHallPassOf it.hall.now it.pass) }
@@ -42,7 +43,7 @@ impl<'a, S: Read + Write + Drop> KeptConnection<'a, S> {
         ensures given { IfOk result (λ it. it.pass ≡ pass) }
         ensures taken { IfOk result (λ it. IsOfHandshake it.socket × IsNew it.conn) }
     {
-        match shake_hands(alloc, HeldStream::new(alloc, stream)) {
+        match shake_hands(alloc, HeldStream::new(alloc, stream), origins) {
             Ok(socket) => Ok(KeptConnection {
                 hall,
                 pass,
@@ -53,13 +54,24 @@ impl<'a, S: Read + Write + Drop> KeptConnection<'a, S> {
         }
     }
 
+    /// The place in the hall of the room that it opened, if it opened one. Constant time.
+    pub fn opened(&self) -> Option<usize>
+        ensures { result ≡ self.now.conn.opened }
+    {
+        self.conn.opened()
+    }
+
     /// How many bytes of output wait. Constant time.
-    pub fn waiting(&self) -> usize {
+    pub fn waiting(&self) -> usize
+        ensures { result ≡ length self.now.socket.stream.held.items }
+    {
         self.socket.get_ref().waiting()
     }
 
     /// Whether a read was put off since output waits. Constant time.
-    pub fn is_put_off(&self) -> bool {
+    pub fn is_put_off(&self) -> bool
+        ensures { result ≡ self.now.socket.stream.is_put_off }
+    {
         self.socket.get_ref().is_put_off()
     }
 
@@ -106,6 +118,7 @@ impl<'a, S: Read + Write + Drop> KeptConnection<'a, S> {
         ensures hall { self.new.hall ≡ self.old.hall }
         ensures pass { IsHallPassOf self.new.hall.now self.new.pass }
         ensures conn { self.new.conn ≡ self.old.conn }
+        ensures socket { self.new.socket ≡ self.old.socket }
         ensures covered { IfOk result (λ kept. AreCovered self.new.hall.now self.new.conn.opened self.new.pass kept) }
     {
         let kept = match self.conn.opened() {
@@ -130,10 +143,11 @@ impl<'a, S: Read + Write + Drop> KeptConnection<'a, S> {
         ensures hall { self.new.hall ≡ self.old.hall }
         ensures pass { self.new.pass ≡ self.old.pass }
         ensures conn { self.new.conn ≡ self.old.conn }
+        ensures nothing { OnOk result (self.new.socket.stream.held.items ≡ []) }
     {
         match self.socket.get_mut().write_out() {
-            Ok(()) => Ok(()),
-            Err(_) => Err(ServeFault::Write),
+            Ok(()) if self.waiting() == 0 => Ok(()),
+            _ => Err(ServeFault::Write),
         }
     }
 }

@@ -1,5 +1,5 @@
 //! A stream whose output waits until it may go out.
-ghost use Rattle.std.specs.Prelude.{◌≡◌, [], OnOk, length, true};
+ghost use Rattle.std.specs.Prelude.{◌≡◌, [], IfOk, OnOk, length, true, false};
 ghost use Rattle.std.specs.Io.{ReadsAtMost, WritesAtMost};
 ghost use Rattle.std.specs.Io.KnownBytes.{Appends, Keeps, ReadConsumes, WriteAppends, append_known};
 
@@ -55,6 +55,7 @@ impl<S: Write> HeldStream<S> {
     pub(crate) fn write_out(&mut self) -> io::Result<()>
         ensures sent { OnOk result (Appends (S.contents self.old.stream) (S.contents self.new.stream) self.old.held.items) }
         ensures nothing { OnOk result (self.new.held.items ≡ []) }
+        ensures goes_on { self.new.is_put_off ≡ false }
     {
         self.is_put_off = false;
         self.stream.write_all(self.held.as_slice())?;
@@ -76,6 +77,7 @@ impl<S: Read> Read for HeldStream<S> {
         ensures bytes { ReadConsumes (S.remaining self.old.stream) (S.remaining self.new.stream) result buf.new }
         ensures held { self.new.held ≡ self.old.held }
         ensures put_off { (self.old.held.items ≡ [] → ⊥) → (self.new.is_put_off ≡ true) × (self.new.stream ≡ self.old.stream) }
+        ensures goes_on { self.old.held.items ≡ [] → self.new.is_put_off ≡ self.old.is_put_off }
     {
         if !self.held.is_empty() {
             self.is_put_off = true;
@@ -94,6 +96,8 @@ impl<S: Write> Write for HeldStream<S> {
         ensures bytes { WriteAppends (append_known (S.contents self.old.stream) self.old.held.items)
             (append_known (S.contents self.new.stream) self.new.held.items) result buf.now }
         ensures waits { self.new.stream ≡ self.old.stream }
+        ensures whole { IfOk result (λ n. n ≡ length buf.now) }
+        ensures goes_on { self.new.is_put_off ≡ self.old.is_put_off }
     {
         self.held.extend_from_slice(buf)?;
         Ok(buf.len())

@@ -10,7 +10,7 @@ use line_engine::ServeFault;
 use shared_room::Look;
 use std::alloc::Global;
 use std::sync::{Condvar, CondvarTimeouts, Mutex, MutexGuard, Wait};
-use std::time::{Clock, Duration};
+use std::time::{Clock, Duration, Instant};
 use ws_server::{Hall, HallPass};
 
 // How long an answer waits for one turn at most, in seconds.
@@ -19,13 +19,17 @@ const LONGEST: u64 = 30;
 // What is known of a room.
 #[derive(Drop)]
 struct Reached {
-    // How far it is kept.
+    // How far it is kept, and in how many bytes of its file.
     kept: Kept,
-    // Which turn was begun last, and whether it is being taken.
+    len: u64,
+    // Which turn was begun last, when, and whether it is being taken.
     number: u64,
+    begun: Option<Instant>,
     is_taken: bool,
     // Whether it kept nothing. Then the room's keeper alone takes the next one.
     has_failed: bool,
+    // Whether the file isn't the room's any more. Then no turn keeps anything.
+    is_astray: bool,
     // Whether the last turn is to come, or was taken.
     is_ending: bool,
 }
@@ -46,18 +50,80 @@ impl<D: Disk> RoomTurns<D> {
     /// Of the room at this place, where nobody waits. Constant time, and no memory.
     pub fn new(place: usize, file: Option<KeptFile<D>>) -> RoomTurns<D> {
         let kept = kept_in(&file, place);
+        let len = len_in(&file);
         RoomTurns {
             file: Mutex::new(file),
             reached: Mutex::new(Reached {
                 kept,
+                len,
                 number: 0,
+                begun: None,
                 is_taken: false,
                 has_failed: false,
+                is_astray: false,
                 is_ending: false,
             }),
             even: Condvar::new(),
             odd: Condvar::new(),
             keeper: Condvar::new(),
+        }
+    }
+
+    /// How many operations were kept by the last turn, and in how many bytes of its file. Constant time.
+    pub fn kept<R: Wait>(&self, rt: &R) -> (u32, u64) {
+        let reached = self.reached.lock(rt);
+        (reached.kept.version(), reached.len)
+    }
+
+    /// The file isn't the room's any more: answers wait from now on, until it is replaced. Constant time.
+    pub fn go_astray<R: Wait>(&self, rt: &R) {
+        let mut reached = self.reached.lock(rt);
+        reached.is_astray = true;
+        reached.has_failed = true;
+        drop(reached);
+        self.keeper.notify_all();
+    }
+
+    /// Holds the room's file, if it has one: nobody takes a turn until it is given up. Waits for one that is taken.
+    pub fn hold<R: Wait>(&self, rt: &R) -> MutexGuard<'_, Option<KeptFile<D>>> {
+        self.file.lock(rt)
+    }
+
+    /// Holds it where nobody takes a turn now.
+    pub fn try_hold(&self) -> Option<MutexGuard<'_, Option<KeptFile<D>>>> {
+        self.file.try_lock()
+    }
+
+    /// Keeps the room in another file from now on, in place of the one that is held: one that was opened for its place, and in which no
+    /// fewer operations are kept. Those who wait go on. Constant time.
+    pub fn replace<R: Wait>(
+        &self,
+        rt: &R,
+        held: MutexGuard<'_, Option<KeptFile<D>>>,
+        file: KeptFile<D>,
+    ) {
+        let mut held = held;
+        let mut reached = self.reached.lock(rt);
+        reached.kept = file.kept();
+        reached.len = file.len();
+        reached.has_failed = false;
+        reached.is_astray = false;
+        drop(reached);
+        *held = Some(file);
+        drop(held);
+        self.even.notify_all();
+        self.odd.notify_all();
+    }
+
+    /// Whether a turn has been taken for more than half a minute: the disk doesn't answer. Constant time.
+    pub fn is_stuck<R: Wait + Clock>(&self, rt: &R) -> bool {
+        let reached = self.reached.lock(rt);
+        match &reached.begun {
+            Some(begun) if reached.is_taken => match begun.elapsed(rt) {
+                Ok(time) => time > Duration::from_secs(LONGEST),
+                Err(_) => false,
+            },
+            _ => false,
         }
     }
 
@@ -89,7 +155,7 @@ impl<D: Disk> RoomTurns<D> {
     /// what its log has gained, if it has a file.
     ///
     /// `NoRoom` where the file is another room's; else refused as `keep_turn` is. Takes the turn of another, and the steps of `keep_turn`.
-    pub fn take<R: Wait>(
+    pub fn take<R: Wait + Clock>(
         &self,
         rt: &R,
         alloc: Global,
@@ -113,7 +179,7 @@ impl<D: Disk> RoomTurns<D> {
     }
 
     // Takes a turn, which nobody else takes then, and tells those who wait for it. One of those who wait for the next is told too.
-    fn lead<R: Wait>(
+    fn lead<R: Wait + Clock>(
         &self,
         rt: &R,
         alloc: Global,
@@ -131,27 +197,44 @@ impl<D: Disk> RoomTurns<D> {
         let mut reached = reached;
         let number = reached.number.wrapping_add(1);
         reached.number = number;
+        reached.begun = Instant::now(rt).ok();
         reached.is_taken = true;
         drop(reached);
         let mut file = self.file.lock(rt);
-        let turned = look_at(rt, alloc, hall, pass, at, &mut *file);
+        let turned = if self.is_astray(rt) {
+            Err(TurnFault::Astray)
+        } else {
+            look_at(rt, alloc, hall, pass, at, &mut *file)
+        };
         let kept = kept_in(&*file, at);
+        let len = len_in(&*file);
         let has_failed = turned.is_err() && file.is_some();
-        drop(file);
+        // (before another file is put in its place)
         let mut reached = self.reached.lock(rt);
+        drop(file);
         reached.kept = kept;
+        reached.len = len;
         reached.is_taken = false;
-        reached.has_failed = has_failed;
+        reached.has_failed = has_failed || reached.is_astray;
         drop(reached);
+        let next = self.told(number.wrapping_add(1));
         if has_failed {
+            // (the keeper may wait for the next turn, too, behind others who can't take it)
             self.keeper.notify_all();
+            next.notify_all();
+        } else {
+            next.notify_one();
         }
-        self.told(number.wrapping_add(1)).notify_one();
         self.told(number).notify_all();
         match turned {
             Ok(look) => Ok(Led { look, kept }),
             Err(why) => Err(why),
         }
+    }
+
+    // Whether the file isn't the room's any more.
+    fn is_astray<R: Wait>(&self, rt: &R) -> bool {
+        self.reached.lock(rt).is_astray
     }
 
     // Waits until so many operations are kept, or a turn may be taken, half a minute at most.
@@ -194,6 +277,14 @@ fn kept_in<D: Disk>(file: &Option<KeptFile<D>>, place: usize) -> Kept {
     }
 }
 
+// In how many bytes.
+fn len_in<D: Disk>(file: &Option<KeptFile<D>>) -> u64 {
+    match file {
+        Some(it) => it.len(),
+        None => 0,
+    }
+}
+
 // Whether so many operations of the room at this place are kept.
 fn covers(kept: Kept, at: usize, version: u32) -> bool
     ensures { result ≡ true → (kept.room ≡ at) × (version ≤ kept.version) }
@@ -204,7 +295,7 @@ fn covers(kept: Kept, at: usize, version: u32) -> bool
 /// Waits until all of the log that the pass has seen of the room at this place is kept, as a look at the room tells now: takes a turn, or
 /// sleeps while another takes one.
 ///
-/// `Write` where a turn takes more than half a minute, or none has succeeded for so long since one failed that it took itself; `Memory`
+/// `Write` where turns that others take last for more than half a minute, or none has succeeded for so long since one failed; `Memory`
 /// where there was none, or the pass is worn. Takes a turn of the room, and the steps of `keep_turn`.
 pub fn wait_until_kept<R: Wait + Clock, D: Disk>(
     rt: &R,

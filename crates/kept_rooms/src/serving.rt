@@ -11,7 +11,7 @@ use std::io::{Read, Write};
 use std::sync::Wait;
 use std::sync::atomic::{AtomicBool, Ordering};
 use std::time::Clock;
-use ws_server::Witness;
+use ws_server::{ShownRoom, Witness};
 
 // Answers go out once so many bytes of them wait.
 const MOST_WAITING: usize = 65_536;
@@ -19,7 +19,8 @@ const MOST_WAITING: usize = 65_536;
 /// Serves one message after another, as `serve_socket` does, until the other side closes, or the server ends and what was read is answered.
 ///
 /// What is answered waits while further messages are there that were read already, up to 65,536 bytes and one answer; then it goes out in
-/// its order, once the room's log is kept as far as it was seen. What is answered before a room is opened waits for nothing.
+/// its order, once the room's log is kept as far as it was seen. What is answered before a room is opened waits for nothing. Which room
+/// is opened is shown.
 ///
 /// Its faults are those of `serve_socket`; `Write` too where keeping takes more than half a minute. Takes as long as the other side stays.
 pub fn serve_kept<R: Wait + Clock, D: Disk, S: Read + Write + Drop, G: Witness>(
@@ -29,6 +30,7 @@ pub fn serve_kept<R: Wait + Clock, D: Disk, S: Read + Write + Drop, G: Witness>(
     it: &mut KeptConnection<'_, S>,
     gate: &mut G,
     is_ending: &AtomicBool,
+    shown: &ShownRoom,
 ) -> Result<(), ServeFault>
     requires pass { IsHallPassOf it.old.hall.now it.old.pass }
     requires conn { IsConnOf it.old.hall.now it.old.conn }
@@ -42,6 +44,7 @@ pub fn serve_kept<R: Wait + Clock, D: Disk, S: Read + Write + Drop, G: Witness>(
         if !goes_on(it, &served) {
             return ended(served, send_out(rt, alloc, turns, it));
         }
+        shown.show(it.opened());
         let is_all_answered = it.is_put_off();
         if is_all_answered || it.waiting() > MOST_WAITING {
             send_out(rt, alloc, turns, it)?;

@@ -1,5 +1,6 @@
 //! A turn of keeping a room's log.
-ghost use Rattle.std.specs.Prelude.{◌≡◌, ◌<◌, ◌≤◌, length, IfOk, OnOk};
+ghost use Rattle.std.specs.Prelude.{◌≡◌, ◌<◌, ◌≤◌, Err, length, IfOk, OnOk};
+ghost use Rattle.std.specs.declared.io.Error.{Error};
 ghost use Rattle.ws_server.specs.Halls.{rooms_of, IsHallPassOf};
 ghost use Rattle.kept_rooms.specs.Keeping.{TurnsRoom, KeepsRoom};
 ghost use Rattle.kept_rooms.specs.SeenLogs.{seen_log};
@@ -22,6 +23,9 @@ pub enum TurnFault {
     /// The file couldn't be written.
     #[error("{0}")]
     Keep(KeepFault),
+    /// The file isn't the room's any more.
+    #[error("the file isn't the room's any more")]
+    Astray,
 }
 
 /// Looks at the file's room, and keeps what its log has gained: at `Ok` all that the look has seen. After an error the file's mark is where
@@ -44,6 +48,12 @@ pub fn keep_turn<R: Wait, D: Disk>(
     ensures no_less { length (seen_log hall.now file.old.room pass.old) ≤ length (seen_log hall.now file.old.room pass.new) }
     ensures turned { TurnsRoom D.honest D.seen D.may_leave D.fresh D.moment D.left_since hall.now pass.new file.old file.new }
     ensures kept { OnOk result (KeepsRoom D.honest D.seen D.may_leave D.fresh hall.now pass.new file.old file.new) }
+
+    // It doesn't give up by itself, but for want of memory.
+    ensures strayed { (e : Error) → result ≡ Err (TurnFault.Keep (KeepFault.Strayed e)) → D.honest file.old.disk → ⊥ }
+    ensures file { (e : Error) → result ≡ Err (TurnFault.Keep (KeepFault.File e)) → D.honest file.old.disk
+        → D.faults file.old.disk < D.faults file.new.disk }
+    ensures astray { result ≡ Err TurnFault.Astray → ⊥ }
 {
     turns_follow::<D>();
     let at = file.room();

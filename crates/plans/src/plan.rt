@@ -30,13 +30,17 @@ pub enum Plan {
         port: u16,
         /// The site of each room, where it is named.
         site: Option<Site>,
-        /// How many connections are accepted, 1 to 65,536.
-        conns: u32,
+        /// How many connections are accepted, 1 to 65,536, where it is named. Else 65,536, or where rooms are kept so many at one time.
+        conns: Option<u32>,
         /// The folder in which the rooms' logs are kept, if they are.
         keep: Option<String>,
         /// How many seconds pass between two turns of keeping, 1 to 3600; where it isn't named, each answer waits until all that it rests
         /// on is kept.
         every: Option<u32>,
+        /// The origins of pages that may connect, where some are named or rooms are kept.
+        origins: Vec<String>,
+        /// Each minute it is told how the rooms are.
+        report: bool,
         /// The names of the rooms.
         names: Vec<String>,
     },

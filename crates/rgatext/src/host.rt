@@ -1,5 +1,5 @@
 //! Serves rooms over WebSockets on loopback: a thread for each connection, and one for each room that looks at it meanwhile.
-ghost use Rattle.std.specs.Prelude.{◌≡◌, ◌<◌, ◌↔◌, false, length, Err};
+ghost use Rattle.std.specs.Prelude.{◌≡◌, ◌<◌, ◌↔◌, false, length, All, Err, IfOk};
 ghost use Rattle.std.specs.Thread.{IsSync};
 ghost use Rattle.ws_server.specs.Halls.{rooms_of, IsHallPassOf};
 ghost use Rattle.ws_server.specs.Names.{names_fit};
@@ -8,8 +8,9 @@ use crate::ends::Connections;
 use crate::listener::{closed, fitting, listen, serve_all};
 use crate::rooms::{Opened, open_rooms};
 use crate::serving::{Serving, Shared};
-use crate::stop::{await_stop, remove_stop};
-use crate::warnings::Warnings;
+use crate::state::{RoomState, StateFile};
+use crate::tending::{Folder, RoomPath, hang_up, remove_stop};
+use crate::warnings::{Seldom, Warnings};
 use crate::watch::{Ended, LOOKS, Watched, watch};
 use commands::Stop;
 use kept_rooms::{Assigned, assign_rooms};
@@ -20,15 +21,15 @@ use std::alloc::Global;
 use std::fs::{File, Files};
 use std::io::Print;
 use std::net::{Net, TcpListener, TcpStream};
-use std::sync::Wait;
 use std::sync::atomic::{AtomicBool, Ordering};
+use std::sync::{Mutex, Wait};
 use std::thread::Threads;
 use std::time::Clock;
 use std::{array, io, thread};
-use ws_server::names_fit;
+use ws_server::{Hall, HallPass, names_fit};
 
 // Tells which site the rooms are opened at, where they are kept: in one line where it is the same for all.
-fn tell_sites<R: Print>(rt: &R, serving: &Serving<'_>, rooms: &[Watched]) -> Result<(), Stop>
+fn tell_sites<R: Print>(rt: &R, serving: &Serving<'_>, rooms: &[RoomState]) -> Result<(), Stop>
     ensures fits { (result ≡ Err (Stop.Refused Refusal.BadField)) → ⊥ }
 {
     if !serving.is_kept() {
@@ -47,7 +48,7 @@ fn tell_sites<R: Print>(rt: &R, serving: &Serving<'_>, rooms: &[Watched]) -> Res
 }
 
 // The same, in a line for each room.
-fn tell_each_site<R: Print>(rt: &R, rooms: &[Watched]) -> io::Result<()> {
+fn tell_each_site<R: Print>(rt: &R, rooms: &[RoomState]) -> io::Result<()> {
     for it in rooms {
         println!(rt; "site {} {}", it.name, it.site.number())?;
     }
@@ -57,6 +58,7 @@ fn tell_each_site<R: Print>(rt: &R, rooms: &[Watched]) -> io::Result<()> {
 // Serves connections until all have ended, and looks at the rooms meanwhile and once more then. Where no thread can be had that looks, no
 // connection is accepted. Where a file may end the server, connections are accepted by a thread of its own, since files are for this one.
 fn serve_watched<
+    'a,
     R: Net<Listener = TcpListener, Stream = TcpStream>
         + Files<File = File>
         + Clock
@@ -69,13 +71,14 @@ fn serve_watched<
     alloc: Global,
     opened: Opened,
     listener: TcpListener,
-    serving: &Serving<'_>,
-    stop: Option<&str>,
-    connections: &Connections,
-    warnings: &Warnings,
+    serving: &Serving<'a>,
+    stop: Option<&'a str>,
+    connections: &'a Connections,
+    warnings: &'a Warnings,
 ) -> Result<(), Stop>
     requires pass { IsHallPassOf opened.hall opened.pass }
     requires turns { length opened.turns.items ≡ length (rooms_of opened.hall) }
+    requires states { length opened.states.items ≡ length (rooms_of opened.hall) }
     requires watched { length opened.watched.items ≡ length (rooms_of opened.hall) }
     ensures fits { (result ≡ Err (Stop.Refused Refusal.BadField)) → ⊥ }
 {
@@ -83,17 +86,23 @@ fn serve_watched<
         hall,
         mut pass,
         turns,
+        states,
         watched,
+        files,
         lock,
     } = opened;
     let (ended, is_lost) = (&Ended::new(), &AtomicBool::new(false));
+    let folder = folder_of(alloc, serving, stop, files);
     let shared = Shared {
         hall: &hall,
         turns: turns.as_slice(),
+        rooms: states.as_slice(),
         connections,
         warnings,
+        turned_away: &Mutex::new(Seldom::new()),
         is_ending: &AtomicBool::new(false),
         rhythm: serving.rhythm(),
+        origins: serving.origins(),
     };
     let served = thread::scope(
         thread::scope_env(),
@@ -101,12 +110,14 @@ fn serve_watched<
         move |scope| -> Result<(), Stop>
             requires { IsSync R.row × IsHallPassOf shared.hall.now pass
                 × (length shared.turns.now ≡ length (rooms_of shared.hall.now))
+                × (length shared.rooms.now ≡ length (rooms_of shared.hall.now))
                 × (length watched.items ≡ length (rooms_of shared.hall.now)) }
             ensures { (result ≡ Err (Stop.Refused Refusal.BadField)) → ⊥ }
         {
-            let Ok(rooms) = assign_rooms(alloc, shared.hall, &mut pass, watched, LOOKS) else {
+            let Ok((rooms, given)) = split_looks(alloc, shared.hall, &mut pass, watched) else {
                 return Err(closed(rt, alloc, warnings, serving, Stop::Socket));
             };
+            let mut looks = given;
             let mut is_watched = true;
             for it in rooms {
                 let Assigned {
@@ -121,7 +132,8 @@ fn serve_watched<
                 let watcher = scope.spawn(
                     move ||
                         requires { IsSync R.row × IsHallPassOf shared.hall.now watching × (place < length (rooms_of shared.hall.now))
-                            × (length shared.turns.now ≡ length (rooms_of shared.hall.now)) }
+                            × (length shared.turns.now ≡ length (rooms_of shared.hall.now))
+                            × (length shared.rooms.now ≡ length (rooms_of shared.hall.now)) }
                     {
                         if !watch(rt, alloc, shared, watching, room, place) {
                             is_lost.store(true, Ordering::SeqCst);
@@ -130,10 +142,10 @@ fn serve_watched<
                 );
                 is_watched &= watcher.is_ok();
             }
-            let served = match stop {
+            let served = match folder {
                 _ if !is_watched => Err(closed(rt, alloc, warnings, serving, Stop::Socket)),
                 None => serve_all(rt, alloc, shared, pass, listener, serving),
-                Some(path) => {
+                Some(mut folder) => {
                     let door = scope.spawn(
                         move || -> Result<(), Stop>
                             requires { IsSync R.row × IsHallPassOf shared.hall.now pass
@@ -146,15 +158,13 @@ fn serve_watched<
                     );
                     match door {
                         Ok(door) => {
-                            await_stop(
-                                rt,
-                                path,
-                                serving.port,
-                                shared.connections,
-                                shared.is_ending,
-                                ended,
-                            );
-                            fitting(door.join(rt))
+                            if folder.tend(rt, alloc, shared, &mut looks, ended) {
+                                let port = serving.port;
+                                hang_up(rt, alloc, port, &mut folder, shared, &mut looks, ended);
+                            }
+                            let served = door.join(rt);
+                            folder.look_after(rt, alloc, shared, &mut looks);
+                            fitting(served)
                         }
                         Err(_) => Err(closed(rt, alloc, warnings, serving, Stop::Socket)),
                     }
@@ -169,6 +179,46 @@ fn serve_watched<
     remove_stop(rt, stop);
     drop(lock);
     whole(!is_lost.load(Ordering::SeqCst), fitting(served))
+}
+
+// The rooms, each with a pass for who watches it, and a pass for who looks after their files.
+fn split_looks(
+    alloc: Global,
+    hall: &Hall,
+    pass: &mut HallPass,
+    watched: Vec<Watched>,
+) -> Result<(Vec<Assigned<Watched>>, HallPass), Refusal>
+    requires pass { IsHallPassOf hall.now pass.old }
+    requires counted { length watched.items ≡ length (rooms_of hall.now) }
+    ensures pass { IsHallPassOf hall.now pass.new }
+    ensures rooms { IfOk result (λ r. All (λ it. IsHallPassOf hall.now it.pass) r.0.items) }
+    ensures looks { IfOk result (λ r. IsHallPassOf hall.now r.1) }
+{
+    let rooms = match assign_rooms(alloc, hall, pass, watched, LOOKS) {
+        Ok(rooms) => rooms,
+        Err(why) => return Err(why),
+    };
+    match hall.split(alloc, pass, LOOKS) {
+        Ok(looks) => Ok((rooms, looks)),
+        Err(why) => Err(why),
+    }
+}
+
+// The folder in which rooms are kept, if they are.
+fn folder_of<'a>(
+    alloc: Global,
+    serving: &Serving<'a>,
+    stop: Option<&'a str>,
+    files: Vec<Option<RoomPath>>,
+) -> Option<Folder<'a>> {
+    match (serving.keep, stop) {
+        (Some(path), Some(stop)) => {
+            let state = StateFile::new(alloc, path, serving.seconds());
+            let does_report = serving.does_report;
+            Some(Folder::new(path, stop, files, state, does_report))
+        }
+        _ => None,
+    }
 }
 
 // The same, while a thread of its own tells what is warned of.
@@ -191,6 +241,7 @@ fn serve_warned<
 ) -> Result<(), Stop>
     requires pass { IsHallPassOf opened.hall opened.pass }
     requires turns { length opened.turns.items ≡ length (rooms_of opened.hall) }
+    requires states { length opened.states.items ≡ length (rooms_of opened.hall) }
     requires watched { length opened.watched.items ≡ length (rooms_of opened.hall) }
     ensures fits { (result ≡ Err (Stop.Refused Refusal.BadField)) → ⊥ }
 {
@@ -202,6 +253,7 @@ fn serve_warned<
         move |scope| -> Result<(), Stop>
             requires { IsSync R.row × IsHallPassOf opened.hall opened.pass
                 × (length opened.turns.items ≡ length (rooms_of opened.hall))
+                × (length opened.states.items ≡ length (rooms_of opened.hall))
                 × (length opened.watched.items ≡ length (rooms_of opened.hall)) }
             ensures { (result ≡ Err (Stop.Refused Refusal.BadField)) → ⊥ }
         {
@@ -210,19 +262,19 @@ fn serve_warned<
                     requires { IsSync R.row }
                 { warnings.tell(rt) },
             );
-            let served = match teller {
-                Ok(_) => serve_watched(
-                    rt,
-                    alloc,
-                    opened,
-                    listener,
-                    serving,
-                    stop,
-                    connections,
-                    warnings,
-                ),
-                Err(_) => Err(closed(rt, alloc, warnings, serving, Stop::Socket)),
-            };
+            if teller.is_err() {
+                return Err(closed(rt, alloc, warnings, serving, Stop::Socket));
+            }
+            let served = serve_watched(
+                rt,
+                alloc,
+                opened,
+                listener,
+                serving,
+                stop,
+                connections,
+                warnings,
+            );
             warnings.end(rt);
             served
         },
@@ -246,17 +298,18 @@ fn whole(is_whole: bool, served: Result<(), Stop>) -> Result<(), Stop>
     }
 }
 
-/// Serves a room for each name on the port of 127.0.0.1, prints `listening` and the port once it listens, accepts so many
-/// connections, waits for all and ends. With a folder, each room opens over what its file there stands for, `site` and its number are
-/// printed next, for each room by its name where they differ, what a room's log gains goes to its file, which answers wait for unless
-/// turns are taken each `every` seconds, and the file `stop` in the folder ends the server. Takes a thread for each connection that is
-/// there, one for each room and two more, and a few bytes for each connection that has ended.
+/// Serves a room for each name on the port of 127.0.0.1, prints `listening` and the port once it listens, accepts so many connections,
+/// waits for all and ends; or, where rooms are kept and no number is named, so many at one time, and doesn't end by itself. With a folder,
+/// each room opens over what its file there stands for, `site` and its number are printed next, for each room by its name where they
+/// differ, what a room's log gains goes to its file, which answers wait for unless turns are taken each `every` seconds, and the file
+/// `stop` in the folder ends the server. Takes a thread for each connection that is there, one for each room and two more.
 ///
-/// A connection's fault ends it alone, and is warned of at the end, in order of acceptance. Where rooms are kept a limit that comes near, a
-/// last connection, a room that is left out, and a file that can't be written are warned of when they are met. Names that don't fit are
-/// refused with `BadField`; where no room is left, with `SiteUsed`, `BadSnapshot` or `Files` as `open_rooms` tells; a listener, a
-/// connection or a thread that can't be had ends it with `Socket`, once the connections that were accepted have ended; and the last write
-/// to a file that fails with `Write`.
+/// A connection's fault ends it alone, and is warned of at the end, in order of acceptance, where so many are accepted in all. Where rooms
+/// are kept a limit that comes near, a last connection or one that can't be had, a page that is turned away, a room that is left out, and a
+/// file that can't be written or that somebody else has changed are warned of when they are met. Names that don't fit are refused with
+/// `BadField`; where no room is left, with `SiteUsed`, `BadSnapshot` or `Files` as `open_rooms` tells; a listener or a thread that can't be
+/// had, and where no rooms are kept a connection, ends it with `Socket`, once the connections that were accepted have ended; and the last
+/// write to a file that fails with `Write`.
 pub(crate) fn host<
     R: Net<Listener = TcpListener, Stream = TcpStream>
         + Files<File = File>
@@ -278,8 +331,8 @@ pub(crate) fn host<
     let opened = open_rooms(rt, alloc, serving.keep, serving.site, serving.names)?;
     remove_stop(rt, stop);
     let listener = listen(rt, serving)?;
-    tell_sites(rt, serving, opened.watched.as_slice())?;
-    let connections = Connections::new(alloc);
+    tell_sites(rt, serving, opened.states.as_slice())?;
+    let connections = Connections::new(alloc, serving.limit());
     serve_warned(rt, alloc, opened, listener, serving, stop, &connections)?;
     tell_ends(rt, connections);
     Ok(())

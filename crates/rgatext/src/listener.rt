@@ -3,8 +3,9 @@ ghost use Rattle.std.specs.Prelude.{◌≡◌, length, Err};
 ghost use Rattle.std.specs.Thread.{IsSync};
 ghost use Rattle.ws_server.specs.Halls.{rooms_of, IsHallPassOf};
 
-use crate::serving::{Serving, Shared, serve};
-use crate::warnings::Warnings;
+use crate::ends::{Connections, Guest};
+use crate::serving::{Serving, Shared, TARGET, serve};
+use crate::warnings::{Seldom, Warnings};
 use commands::Stop;
 use line_engine::ServeFault;
 use log::{Log, warn};
@@ -15,12 +16,15 @@ use std::net::{Net, TcpListener, TcpStream};
 use std::sync::atomic::Ordering;
 use std::sync::{Arc, Wait};
 use std::thread::Threads;
-use std::time::Clock;
-use std::{fmt, thread};
-use ws_server::HallPass;
+use std::time::{Clock, Duration};
+use std::{io, thread};
+use thiserror::Error;
+use ws_server::{HallPass, ShownRoom};
 
-// The module under whose name `serve` warns: whoever reads its warnings needn't know which file they come from.
-const TARGET: &str = "rgatext::host";
+// How many milliseconds pass before a connection is tried again, at first, and at most.
+const SHORTEST: u64 = 100;
+
+const LONGEST: u64 = 5_000;
 
 /// A listener at the port, once it was told of.
 pub(crate) fn listen<R: Net<Listener = TcpListener, Stream = TcpStream> + Print + Log>(
@@ -45,9 +49,10 @@ pub(crate) fn listen<R: Net<Listener = TcpListener, Stream = TcpStream> + Print 
     }
 }
 
-/// Serves so many connections, each by a thread, until all have ended. Once the last is accepted, or one can't be had, nobody listens any
-/// more (docs/decisions, P17), which is warned of where rooms are kept; or once the server is to end. A thread's handle is given up at
-/// once, so that a thread that has ended leaves nothing behind (docs/decisions, P16).
+/// Serves connections, each by a thread, until all have ended. Once as many were let in as may be in all, or one can't be had where no
+/// rooms are kept, nobody listens any more (docs/decisions, P17), which is warned of where rooms are kept; or once the server is to end.
+/// Where rooms are kept one that can't be had is tried again after a pause. A thread's handle is given up at once, so that a thread that
+/// has ended leaves nothing behind (docs/decisions, P16).
 pub(crate) fn serve_all<R: Clock + Threads + Wait + Sync>(
     rt: &R,
     alloc: Global,
@@ -60,7 +65,6 @@ pub(crate) fn serve_all<R: Clock + Threads + Wait + Sync>(
     requires counted { length shared.turns.now ≡ length (rooms_of shared.hall.now) }
     ensures fits { (result ≡ Err (Stop.Refused Refusal.BadField)) → ⊥ }
 {
-    let conns = serving.conns;
     let draws = shared.draws();
     let served = thread::scope(
         thread::scope_env(),
@@ -70,13 +74,29 @@ pub(crate) fn serve_all<R: Clock + Threads + Wait + Sync>(
                 × (length shared.turns.now ≡ length (rooms_of shared.hall.now)) }
             ensures { (result ≡ Err (Stop.Refused Refusal.BadField)) → ⊥ }
         {
-            for n in 0..conns {
-                let stream = accept(rt, alloc, &listener, shared.warnings, serving)?;
+            let mut trouble = Trouble::new();
+            for _ in rt.forever() {
+                if !shared.connections.wait_for_place(rt) {
+                    break;
+                }
+                let accepted = accept(rt, alloc, &listener, shared.connections, serving.is_kept());
                 if shared.is_ending.load(Ordering::SeqCst) {
                     return Ok(());
                 }
+                let (guest, place) = match accepted {
+                    Ok(accepted) => accepted,
+                    Err(why) => {
+                        trouble.meet(rt, alloc, shared, serving, why)?;
+                        continue;
+                    }
+                };
                 let given = match shared.hall.split(alloc, &mut pass, draws) {
                     Ok(given) => given,
+                    Err(Refusal::Memory) => {
+                        shared.connections.refuse(rt, place);
+                        trouble.meet(rt, alloc, shared, serving, Missed::Memory)?;
+                        continue;
+                    }
                     Err(why) => return Err(closed(
                         rt,
                         alloc,
@@ -85,37 +105,23 @@ pub(crate) fn serve_all<R: Clock + Threads + Wait + Sync>(
                         Stop::of(why),
                     )),
                 };
-                let Ok(kept) = handle_of(&stream, serving.is_kept()) else {
-                    return Err(closed(
-                        rt,
-                        alloc,
-                        shared.warnings,
-                        serving,
-                        Stop::Fault(ServeFault::Memory),
-                    ));
-                };
-                if shared.connections.add(rt, kept).is_err() {
-                    return Err(closed(
-                        rt,
-                        alloc,
-                        shared.warnings,
-                        serving,
-                        Stop::Fault(ServeFault::Memory),
-                    ));
-                }
                 let worker = scope.spawn(
                     move ||
                         requires { IsSync R.row × IsHallPassOf shared.hall.now given
                             × (length shared.turns.now ≡ length (rooms_of shared.hall.now)) }
-                    { serve(rt, alloc, shared, given, stream, n as usize) },
+                    { serve(rt, alloc, shared, given, guest, place) },
                 );
                 if worker.is_err() {
-                    return Err(closed(rt, alloc, shared.warnings, serving, Stop::Socket));
+                    shared.connections.refuse(rt, place);
+                    trouble.meet(rt, alloc, shared, serving, Missed::Thread)?;
+                    continue;
                 }
+                trouble.pause = SHORTEST;
             }
-            if serving.is_kept() {
+            if serving.is_kept() && !shared.is_ending.load(Ordering::SeqCst) {
+                let most = serving.limit().most;
                 let text = format!(in alloc;
-                    "the last of {conns} connections is accepted: nobody listens any more"
+                    "the last of {most} connections is accepted: nobody listens any more"
                 );
                 shared.warnings.add(rt, TARGET, text);
             }
@@ -125,36 +131,94 @@ pub(crate) fn serve_all<R: Clock + Threads + Wait + Sync>(
     fitting(served)
 }
 
-// The next connection, which sends what it has at once: a reply that waits to be longer would hold up a client that
-// sends many requests before it reads. One that can't be had is warned of.
+// Why a connection can't be had.
+#[derive(Debug, Drop, Error)]
+enum Missed {
+    #[error("{0}")]
+    Socket(io::Error),
+    #[error("memory was refused")]
+    Memory,
+    #[error("there is no thread for it")]
+    Thread,
+}
+
+// How `serve` ends by that.
+fn stop_of(why: &Missed) -> Stop
+    ensures fits { (result ≡ Stop.Refused Refusal.BadField) → ⊥ }
+{
+    match why {
+        Missed::Memory => Stop::Fault(ServeFault::Memory),
+        _ => Stop::Socket,
+    }
+}
+
+// The next connection, and its place. It sends what it has at once: a reply that waits to be longer would hold up a client that sends many
+// requests before it reads.
 fn accept<R: Wait>(
     rt: &R,
     alloc: Global,
     listener: &TcpListener,
-    warnings: &Warnings,
-    serving: &Serving<'_>,
-) -> Result<Arc<TcpStream, Global>, Stop>
-    ensures fits { (result ≡ Err (Stop.Refused Refusal.BadField)) → ⊥ }
-{
-    match listener.accept() {
-        Ok((stream, _)) => {
-            // No answer waits for another (docs/decisions, P15). Where this fails the other side has gone, as the first read will tell.
-            let _ = stream.set_nodelay(true);
-            match Arc::new(alloc, stream) {
-                Ok(stream) => Ok(stream),
-                Err(_) => Err(closed(
-                    rt,
-                    alloc,
-                    warnings,
-                    serving,
-                    Stop::Fault(ServeFault::Memory),
-                )),
-            }
+    connections: &Connections,
+    is_kept: bool,
+) -> Result<(Arc<Guest, Global>, usize), Missed> {
+    let stream = match listener.accept() {
+        Ok((stream, _)) => stream,
+        Err(why) => return Err(Missed::Socket(why)),
+    };
+    // No answer waits for another (docs/decisions, P15). Where this fails the other side has gone, as the first read will tell.
+    let _ = stream.set_nodelay(true);
+    let shown = ShownRoom::new();
+    let Ok(guest) = Arc::new(alloc, Guest { stream, shown }) else {
+        return Err(Missed::Memory);
+    };
+    let Ok(kept) = handle_of(&guest, is_kept) else {
+        return Err(Missed::Memory);
+    };
+    match connections.add(rt, kept) {
+        Ok(place) => Ok((guest, place)),
+        Err(_) => Err(Missed::Memory),
+    }
+}
+
+// What is done about connections that can't be had.
+#[derive(Drop)]
+struct Trouble {
+    pause: u64,
+    told: Seldom,
+}
+
+impl Trouble {
+    // There was none yet.
+    fn new() -> Trouble {
+        Trouble {
+            pause: SHORTEST,
+            told: Seldom::new(),
         }
-        Err(why) => {
-            warn_closed(rt, alloc, warnings, serving, &why);
-            Err(Stop::Socket)
+    }
+
+    // One can't be had. Where rooms are kept it is tried again after a pause, or once another has ended; else it ends the server.
+    fn meet<R: Clock + Wait>(
+        &mut self,
+        rt: &R,
+        alloc: Global,
+        shared: Shared<'_>,
+        serving: &Serving<'_>,
+        why: Missed,
+    ) -> Result<(), Stop>
+        ensures fits { (result ≡ Err (Stop.Refused Refusal.BadField)) → ⊥ }
+    {
+        if !serving.is_kept() {
+            return Err(stop_of(&why));
         }
+        if self.told.is_due(rt) {
+            let text = format!(in alloc; "a connection can't be had ({why}): it is tried again");
+            shared.warnings.add(rt, TARGET, text);
+        }
+        shared
+            .connections
+            .wait_for_change(rt, Duration::from_millis(self.pause));
+        self.pause = LONGEST.min(self.pause.saturating_mul(2));
+        Ok(())
     }
 }
 
@@ -168,31 +232,20 @@ pub(crate) fn closed<R: Wait>(
 ) -> Stop
     ensures { result ≡ stop }
 {
-    warn_closed(rt, alloc, warnings, serving, &stop);
+    if serving.is_kept() {
+        let text = format!(in alloc; "no further connection is accepted: {stop}");
+        warnings.add(rt, TARGET, text);
+    }
     stop
 }
 
-// Warns that nobody listens any more, and why, where rooms are kept.
-fn warn_closed<R: Wait, W: fmt::Display>(
-    rt: &R,
-    alloc: Global,
-    warnings: &Warnings,
-    serving: &Serving<'_>,
-    why: &W,
-) {
-    if serving.is_kept() {
-        let text = format!(in alloc; "no further connection is accepted: {why}");
-        warnings.add(rt, TARGET, text);
-    }
-}
-
-// Another handle of the stream, if there is to be one.
+// Another handle of the guest, if there is to be one.
 fn handle_of(
-    stream: &Arc<TcpStream, Global>,
+    guest: &Arc<Guest, Global>,
     is_wanted: bool,
-) -> Result<Option<Arc<TcpStream, Global>>, AllocError> {
+) -> Result<Option<Arc<Guest, Global>>, AllocError> {
     if is_wanted {
-        Ok(Some(Arc::try_clone(stream)?))
+        Ok(Some(Arc::try_clone(guest)?))
     } else {
         Ok(None)
     }

@@ -9,7 +9,8 @@ mod kept;
 mod listener;
 mod rooms;
 mod serving;
-mod stop;
+mod state;
+mod tending;
 mod warnings;
 mod watch;
 
@@ -80,6 +81,8 @@ fn main(rt: HostRuntime) -> ExitCode {
             conns,
             keep,
             every,
+            origins,
+            report,
             names,
         } => {
             let serving = Serving {
@@ -88,6 +91,8 @@ fn main(rt: HostRuntime) -> ExitCode {
                 conns: *conns,
                 keep: keep.as_ref().map(|folder| folder.as_str()),
                 every: *every,
+                origins,
+                does_report: *report,
                 names,
             };
             host(&rt, rt.alloc(), &serving)

@@ -3,8 +3,10 @@ ghost use Rattle.std.specs.Prelude.{◌≡◌, true, length, All, Err, IfOk, OnO
 ghost use Rattle.ws_server.specs.Halls.{rooms_of, IsHallPassOf};
 ghost use Rattle.ws_server.specs.Names.{names_fit};
 
-use crate::kept::{RoomFile, lock_folder, open_file, sync_folder};
+use crate::kept::{Node, RoomFile, lock_folder, open_file, sync_folder};
 use crate::listener::fitting;
+use crate::state::RoomState;
+use crate::tending::RoomPath;
 use crate::watch::Watched;
 use commands::Stop;
 use journal::free_site;
@@ -22,13 +24,15 @@ use ws_server::{Hall, HallPass};
 // From so many of 32 sites on that have operations in a log it is warned of.
 const MANY_SITES: usize = 28;
 
-/// The rooms, a pass of each, their turns, and what is watched of them.
+/// The rooms, a pass of each, their turns, how they are, what is watched of them, and their files.
 #[derive(Drop)]
 pub(crate) struct Opened {
     pub(crate) hall: Hall,
     pub(crate) pass: HallPass,
     pub(crate) turns: Vec<RoomTurns<HostFile>>,
+    pub(crate) states: Vec<RoomState>,
     pub(crate) watched: Vec<Watched>,
+    pub(crate) files: Vec<Option<RoomPath>>,
     // The folder is this server's for as long as this is open.
     pub(crate) lock: Option<File>,
 }
@@ -48,6 +52,7 @@ pub(crate) fn open_rooms<R: Files<File = File> + Log>(
     requires fit { names_fit names.now ≡ true }
     ensures passes { IfOk result (λ opened. IsHallPassOf opened.hall opened.pass) }
     ensures turns { IfOk result (λ opened. length opened.turns.items ≡ length (rooms_of opened.hall)) }
+    ensures states { IfOk result (λ opened. length opened.states.items ≡ length (rooms_of opened.hall)) }
     ensures watched { IfOk result (λ opened. length opened.watched.items ≡ length (rooms_of opened.hall)) }
     ensures fits { (result ≡ Err (Stop.Refused Refusal.BadField)) → ⊥ }
 {
@@ -88,14 +93,18 @@ pub(crate) fn open_rooms<R: Files<File = File> + Log>(
         names,
         openings,
         turns,
+        states,
         watched,
+        files,
     } = rooms;
     match open_hall(alloc, names.as_slice(), openings) {
         Ok((hall, pass)) => Ok(Opened {
             hall,
             pass,
             turns,
+            states,
             watched,
+            files,
             lock,
         }),
         Err(unopened) => {
@@ -111,7 +120,9 @@ struct Rooms {
     names: Vec<String>,
     openings: Vec<Opening>,
     turns: Vec<RoomTurns<HostFile>>,
+    states: Vec<RoomState>,
     watched: Vec<Watched>,
+    files: Vec<Option<RoomPath>>,
 }
 
 impl Rooms {
@@ -120,13 +131,16 @@ impl Rooms {
         ensures unreserved { All (λ it. it.doc.room ≡ 0) result.openings.items }
         ensures openings { length result.openings.items ≡ length result.names.items }
         ensures turns { length result.turns.items ≡ length result.names.items }
+        ensures states { length result.states.items ≡ length result.names.items }
         ensures watched { length result.watched.items ≡ length result.names.items }
     {
         Rooms {
             names: Vec::new(alloc),
             openings: Vec::new(alloc),
             turns: Vec::new(alloc),
+            states: Vec::new(alloc),
             watched: Vec::new(alloc),
+            files: Vec::new(alloc),
         }
     }
 
@@ -136,22 +150,28 @@ impl Rooms {
         requires unreserved { All (λ it. it.doc.room ≡ 0) self.old.openings.items }
         requires openings { length self.old.openings.items ≡ length self.old.names.items }
         requires turns { length self.old.turns.items ≡ length self.old.names.items }
+        requires states { length self.old.states.items ≡ length self.old.names.items }
         requires watched { length self.old.watched.items ≡ length self.old.names.items }
         ensures unreserved { OnOk result (All (λ it. it.doc.room ≡ 0) self.new.openings.items) }
         ensures openings { OnOk result (length self.new.openings.items ≡ length self.new.names.items) }
         ensures turns { OnOk result (length self.new.turns.items ≡ length self.new.names.items) }
+        ensures states { OnOk result (length self.new.states.items ≡ length self.new.names.items) }
         ensures watched { OnOk result (length self.new.watched.items ≡ length self.new.names.items) }
     {
         let Room {
             name,
             opening,
             turns,
+            state,
             watched,
+            file,
         } = room;
         self.names.push(name)?;
         self.openings.push(opening)?;
         self.turns.push(turns)?;
+        self.states.push(state)?;
         self.watched.push(watched)?;
+        self.files.push(file)?;
         Ok(())
     }
 }
@@ -162,7 +182,9 @@ struct Room {
     name: String,
     opening: Opening,
     turns: RoomTurns<HostFile>,
+    state: RoomState,
     watched: Watched,
+    file: Option<RoomPath>,
 }
 
 // The room with this name, whose place is told: over what its file in the folder stands for, if there is a folder.
@@ -177,31 +199,63 @@ fn open_room<R: Files<File = File> + Log>(
     ensures unreserved { IfOk result (λ room. room.opening.doc.room ≡ 0) }
     ensures fits { (result ≡ Err (Stop.Refused Refusal.BadField)) → ⊥ }
 {
-    let Ok(title) = name.clone() else {
-        return Err(Stop::Fault(ServeFault::Memory));
-    };
-    let Ok(name) = name.clone() else {
-        return Err(Stop::Fault(ServeFault::Memory));
-    };
     let Some(folder) = folder else {
         let doc = Doc::new(alloc);
         let Some(site) = site.or(free_site(&doc)) else {
             return Err(Stop::Refused(Refusal::SiteUsed));
         };
-        return Ok(Room {
-            name,
-            opening: Opening { doc, site },
-            turns: RoomTurns::new(place, None),
-            watched: Watched::new(title, None, site),
-        });
+        let opening = Opening { doc, site };
+        return room_of(name, opening, RoomTurns::new(place, None), None);
     };
-    let RoomFile { path, file, doc } = open_file(rt, alloc, folder, name.as_str(), place)?;
+    let RoomFile {
+        path,
+        file,
+        node,
+        doc,
+    } = open_file(rt, alloc, folder, name.as_str(), place)?;
     let site = choose_site(rt, path.as_str(), &doc, site)?;
+    let opening = Opening { doc, site };
+    room_of(
+        name,
+        opening,
+        RoomTurns::new(place, Some(file)),
+        Some((path, node)),
+    )
+}
+
+// The room with this name, and the path and node of its file, if it has one.
+fn room_of(
+    name: &String,
+    opening: Opening,
+    turns: RoomTurns<HostFile>,
+    file: Option<(String, Node)>,
+) -> Result<Room, Stop>
+    ensures opening { IfOk result (λ room. room.opening ≡ opening) }
+    ensures fits { (result ≡ Err (Stop.Refused Refusal.BadField)) → ⊥ }
+{
+    let Ok(told) = name.clone() else {
+        return Err(Stop::Fault(ServeFault::Memory));
+    };
+    let Ok(watched) = name.clone() else {
+        return Err(Stop::Fault(ServeFault::Memory));
+    };
+    let Ok(name) = name.clone() else {
+        return Err(Stop::Fault(ServeFault::Memory));
+    };
+    let (path, file) = match file {
+        Some((path, node)) => match path.clone() {
+            Ok(copy) => (Some(copy), Some(RoomPath::new(path, node))),
+            Err(_) => return Err(Stop::Fault(ServeFault::Memory)),
+        },
+        None => (None, None),
+    };
     Ok(Room {
         name,
-        opening: Opening { doc, site },
-        turns: RoomTurns::new(place, Some(file)),
-        watched: Watched::new(title, Some(path), site),
+        state: RoomState::new(told, opening.site),
+        opening,
+        turns,
+        watched: Watched::new(watched, path),
+        file,
     })
 }
 

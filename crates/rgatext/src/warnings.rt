@@ -4,9 +4,41 @@ use log::{Log, warn};
 use std::alloc::{AllocError, Global};
 use std::mem;
 use std::sync::{Condvar, Mutex, Wait};
+use std::time::{Clock, Duration, Instant};
 
 // So many wait at most. Of what is warned of meanwhile it is only counted how much it is.
 const MOST: usize = 64;
+
+// What is told again and again is told after so many seconds.
+const AGAIN: u64 = 60;
+
+/// When something was told that isn't told again for a minute.
+#[derive(Drop)]
+pub(crate) struct Seldom {
+    told: Option<Instant>,
+}
+
+impl Seldom {
+    /// It wasn't told yet.
+    pub(crate) fn new() -> Seldom {
+        Seldom { told: None }
+    }
+
+    /// Whether it is to be told now.
+    pub(crate) fn is_due<R: Clock>(&mut self, rt: &R) -> bool {
+        let is_due = match &self.told {
+            Some(told) => match told.elapsed(rt) {
+                Ok(time) => time >= Duration::from_secs(AGAIN),
+                Err(_) => false,
+            },
+            None => true,
+        };
+        if is_due {
+            self.told = Instant::now(rt).ok();
+        }
+        is_due
+    }
+}
 
 // What is to be told, under the name of a module.
 #[derive(Drop)]
@@ -98,7 +130,7 @@ impl Warnings {
                 warn!(rt; target: it.target, "{}", it.text);
             }
             if left_out > 0 {
-                warn!(rt; "{left_out} warnings were left out, since nobody read those before");
+                warn!(rt; "{left_out} warnings were left out, since nobody read those before, or for want of memory");
             }
         }
     }

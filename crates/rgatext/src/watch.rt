@@ -4,13 +4,13 @@ ghost use Rattle.std.specs.Prelude.{◌≡◌, ◌<◌, length};
 ghost use Rattle.ws_server.specs.Halls.{rooms_of, IsHallPassOf};
 
 use crate::serving::Shared;
-use crate::warnings::Warnings;
+use crate::state::RoomState;
+use crate::warnings::{Seldom, Warnings};
 use kept_rooms::TurnFault;
-use opid::Site;
 use shared_room::Look;
 use std::alloc::{AllocError, Global};
 use std::sync::{Condvar, CondvarTimeouts, Mutex, Wait};
-use std::time::{Clock, Duration, Instant};
+use std::time::{Clock, Duration};
 use ws_server::HallPass;
 
 /// How often a room is looked at at most, by who watches it and where answers wait: each millisecond for more than 30 years.
@@ -25,9 +25,6 @@ const MANY_CALLS: u32 = 917_504;
 const MANY_OPERATIONS: u32 = 114_688;
 
 const MANY_SESSIONS: u32 = 56;
-
-// A turn that fails is warned of again after so many seconds, as long as no turn succeeds.
-const AGAIN: u64 = 60;
 
 // So many milliseconds pass before a turn that failed is tried again, while answers wait for it; then the last of them.
 const PAUSES: [u64; 7] = [100, 200, 400, 800, 1_600, 3_200, 5_000];
@@ -82,15 +79,14 @@ impl Rhythm {
     }
 }
 
-/// A room as it is watched: its name, the path of its file, if it has one, the site that it was opened at, how many turns have failed since
-/// the last one that didn't, and what was warned of, and when.
+/// A room as it is watched: its name, the path of its file, if it has one, how many turns have failed since the last one that didn't, and
+/// what was warned of, and when.
 #[derive(Drop)]
 pub(crate) struct Watched {
-    pub(crate) name: String,
-    pub(crate) site: Site,
+    name: String,
     path: Option<String>,
     failures: usize,
-    told: Option<Instant>,
+    told: Seldom,
     has_many_calls: bool,
     has_many_operations: bool,
     has_many_sessions: bool,
@@ -98,20 +94,19 @@ pub(crate) struct Watched {
 
 impl Watched {
     /// A room of which nothing was warned yet.
-    pub(crate) fn new(name: String, path: Option<String>, site: Site) -> Watched {
+    pub(crate) fn new(name: String, path: Option<String>) -> Watched {
         Watched {
             name,
-            site,
             path,
             failures: 0,
-            told: None,
+            told: Seldom::new(),
             has_many_calls: false,
             has_many_operations: false,
             has_many_sessions: false,
         }
     }
 
-    // Warns of what a turn has seen, or why it kept nothing.
+    // Notes and warns of what a turn has seen, or why it kept nothing.
     fn tell<R: Wait + Clock>(
         &mut self,
         rt: &R,
@@ -121,6 +116,7 @@ impl Watched {
     ) {
         match turned {
             Ok(look) => {
+                to.room.note(rt, &look);
                 self.succeed(rt, to);
                 self.warn(rt, to, &look);
             }
@@ -134,7 +130,7 @@ impl Watched {
             to.add(rt, format!(in to.alloc; "{path}: it is kept again"));
         }
         self.failures = 0;
-        self.told = None;
+        self.told = Seldom::new();
     }
 
     // A turn that kept nothing, where something was to be kept, is warned of, and again each minute until one succeeds.
@@ -145,34 +141,20 @@ impl Watched {
         why: &TurnFault,
         do_answers_wait: bool,
     ) {
-        if self.path.is_none() {
-            return;
-        }
-        self.failures = self.failures.saturating_add(1);
-        if self.was_told(rt) {
-            return;
-        }
-        self.told = Instant::now(rt).ok();
         let Some(path) = &self.path else {
             return;
         };
+        self.failures = self.failures.saturating_add(1);
+        to.room.fail(rt, format!(in to.alloc; "{why}").ok());
+        if !self.told.is_due(rt) {
+            return;
+        }
         let text = if do_answers_wait {
             format!(in to.alloc; "{path}: {why}; it is tried again, and answers wait")
         } else {
             format!(in to.alloc; "{path}: {why}; it is tried again at each turn")
         };
         to.add(rt, text);
-    }
-
-    // Whether it was warned of within the last minute.
-    fn was_told<R: Clock>(&self, rt: &R) -> bool {
-        match &self.told {
-            Some(told) => match told.elapsed(rt) {
-                Ok(time) => time < Duration::from_secs(AGAIN),
-                Err(_) => true,
-            },
-            None => false,
-        }
     }
 
     // Warns once of each limit that comes near, where the room is kept.
@@ -208,10 +190,11 @@ impl Watched {
     }
 }
 
-// To whom it is told what is warned of.
+// To whom it is told how a room is.
 #[derive(Clone, Copy)]
 struct To<'a> {
     alloc: Global,
+    room: &'a RoomState,
     warnings: &'a Warnings,
 }
 
@@ -234,17 +217,26 @@ pub(crate) fn watch<R: Wait + Clock>(
     requires pass { IsHallPassOf shared.hall.now pass }
     requires within { place < length (rooms_of shared.hall.now) }
     requires counted { length shared.turns.now ≡ length (rooms_of shared.hall.now) }
+    requires told { length shared.rooms.now ≡ length (rooms_of shared.hall.now) }
 {
     let Shared {
         hall,
         turns,
+        rooms,
         connections: _,
         warnings,
+        turned_away: _,
         is_ending: _,
         rhythm,
+        origins: _,
     } = shared;
     let turns = &turns[place];
-    let to = To { alloc, warnings };
+    let room_state = &rooms[place];
+    let to = To {
+        alloc,
+        room: room_state,
+        warnings,
+    };
     for _ in rt.forever() {
         let is_last = if room.failures > 0 {
             turns.pause(rt, rhythm.pause(room.failures - 1))

@@ -3,6 +3,7 @@ pub mod Keeping
 pub mod Gates
 pub mod Frames
 pub mod Sockets
+pub mod Origins
 pub mod Serving
 pub mod Names
 pub mod Internal

@@ -12,5 +12,6 @@ returns c =
     world_command.top in
     let last : _ ≡ with_subcommand of_world serve_command.top = c.in_ok-top-2.ensures.shape c.in_ok-serve.ensures.local
     ∙ ap₂ with_subcommand c.in_ok-top.ensures (ap (λ (a : App). a.top) c.in_ok-serve.ensures.shape) in
-    ap app_of_fields c.subcommand_required.ensures
-    ∙ ap (λ (a : App). on_top (λ s. record s { subcommand_required = true }) a) last
+    let required = ap app_of_fields c.subcommand_required.ensures
+    ∙ ap (λ (a : App). on_top (λ s. record s { subcommand_required = true }) a) last in
+    ap app_of_fields c.version.ensures ∙ ap (λ (a : App). on_top (λ s. record s { has_version = true }) a) required

@@ -23,12 +23,12 @@ returns-in-None-clause-none c =
 
 pub returns-in-Some-version_in-clause-some : goal.returns-in-Some-version_in-clause-some
 returns-in-Some-version_in-clause-some c =
-    let at = c.get_str-in-text.ensures ∙ first_value-rows (found_of c.args.used.now) (codes "version") in
+    let at = c.get_str-in-text.ensures ∙ first_value-rows (found_of c.args.used.now) (codes "number") in
     (c.in-text.is, subst (λ (t : Option (List ℕ)). ReadsTo 4294967295 t c.in-Some-version_in.version) at c.in-Some-version_in.ensures.some)
 
 pub returns-in-None-version_in-clause-none : goal.returns-in-None-version_in-clause-none
 returns-in-None-version_in-clause-none c =
-    let at = c.get_str-in-text.ensures ∙ first_value-rows (found_of c.args.used.now) (codes "version") in
+    let at = c.get_str-in-text.ensures ∙ first_value-rows (found_of c.args.used.now) (codes "number") in
     text_nothing c.args.name.now (rows_of (found_of c.args.used.now)) c.in-text.is
     (λ version h. c.in-None-version_in.ensures.none version (subst (λ (t : Option (List ℕ)). ReadsTo 4294967295 t version) (sym at) h))
 

@@ -7,5 +7,6 @@ invariant-loop-name g l = record {
   unreserved : All (λ it. it.doc.room ≡ 0) l.rooms.openings.items;
   openings : length l.rooms.openings.items ≡ length l.rooms.names.items;
   turns : length l.rooms.turns.items ≡ length l.rooms.names.items;
+  states : length l.rooms.states.items ≡ length l.rooms.names.items;
   watched : length l.rooms.watched.items ≡ length l.rooms.names.items;
 }

@@ -1,6 +1,6 @@
 -- The file is cut, and then synced.
-use Rattle.std.proofs.Common.{◌≡◌, length, false, sym, ap, ◌∙◌, subst, rules}
-use Rattle.std.proofs.lemmas.List.{length-take-le}
+use Rattle.std.proofs.Common.{◌≡◌, length, true, false, sym, ap, ◌∙◌, subst, rules, arith}
+use Rattle.std.proofs.lemmas.List.{length-take-le, take_all}
 use Rattle.keeper.specs.Turn.{OpensAs}
 use Rattle.keeper.specs.Kept.{KeepsAt}
 use Rattle.keeper.proofs.Moments.{started, goes_on}
@@ -63,3 +63,13 @@ returns-else-not-self-clause-keeps g c log k =
     let d = g.D.Disk in
     let P = OpensAs self.mark.version log in
     (k, started d.moment d.left_since self.disk P (λ f left. k.opens f (g.met.D.Disk.only_now self.disk f k.is_honest left)))
+
+pub returns-in_ok-sync-clause-cut : goal.returns-in_ok-sync-clause-cut
+returns-in_ok-sync-clause-cut g c log k =
+    c.sync.ensures.seen (c.cut.ensures.honest k.is_honest) ∙ (c.in_ok-cut.ensures.cut k.is_honest k.within).0
+
+pub returns-else-not-self-clause-cut : goal.returns-else-not-self-clause-cut
+returns-else-not-self-clause-cut g c log k =
+    let self = c.args.self.now in
+    let clear : self.is_clean ≡ true = search rules in
+    sym (take_all self.mark.length (g.D.Disk.seen self.disk) (omega (arith, (k.clean clear).whole)))

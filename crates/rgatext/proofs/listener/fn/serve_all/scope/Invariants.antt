@@ -2,5 +2,6 @@
 use Rattle.ws_server.specs.Halls.{IsHallPassOf}
 use Rattle.rgatext.proofs.listener.fn.serve_all.scope.Given as goal
 
-abbrev pub invariant-loop-n : goal.invariant-loop-n
-invariant-loop-n g l = IsHallPassOf l.shared.hall.now l.pass
+abbrev pub invariant-loop : goal.invariant-loop
+invariant-loop g l =
+    IsHallPassOf l.shared.hall.now l.pass × (goal.iterator-loop g).can_next l.iterator' × (goal.iterator-loop g).is_finite l.iterator'
