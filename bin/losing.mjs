@@ -4,7 +4,7 @@ import assert from "node:assert/strict";
 import { carried } from "../examples/web/changes.js";
 import { Undo } from "../examples/web/undo.js";
 import { Room, until } from "./room.mjs";
-import { begin, deletedBy, end, endsAs, keptRun, renewedRun, textOf, typedBy, Way } from "./way.mjs";
+import { begin, deletedBy, end, endsAs, keptRun, renewedRun, roomOf, textOf, typedBy, Way } from "./way.mjs";
 
 /** An editor has a text of its own in a room, and another one one behind it. */
 async function two(text, more) {
@@ -115,6 +115,27 @@ async function isRenewedTwice() {
   }
   assert.equal(await textOf(ways[0].room), "one two");
   await end(...ways);
+}
+
+/** Unrelated texts, by Melville and by Carroll: of the shorter one seven tenths of the letters stand in the longer one, in their order. */
+const WHALE =
+  "Call me Ishmael. Some years ago, never mind how long precisely, having little or no money in my purse, I thought I would sail about a" +
+  " little.";
+const RABBIT =
+  "Alice was beginning to get very tired of sitting by her sister on the bank, and of having nothing to do: once or twice she had peeped" +
+  " into the book her sister was reading, but it had no pictures or conversations in it, and what is the use of a book, thought Alice," +
+  " without pictures or conversations? So she was considering in her own mind, as well as she could, for the hot day made her feel very" +
+  " sleepy and stupid, whether the pleasure of making a daisy-chain would be worth the trouble of getting up and picking the daisies.";
+
+/** In place of a room there is another document of the same language, which isn't what became of its text: the user is asked. */
+async function isAnotherDocument() {
+  const way = await begin(WHALE);
+  const another = await renewedRun(await roomOf(RABBIT, 1));
+  way.cut(another);
+  await way.joins(another);
+  await way.comesTo("another text", WHALE);
+  assert.equal(await textOf(another), RABBIT);
+  await end(way);
 }
 
 /** Behind a kept restart there are 1,100 changes by others. */
@@ -245,6 +266,7 @@ await Promise.all([
   isRenewed("hello ", "world", 3),
   isRenewedTwice(),
   isFarBehind(),
+  isAnotherDocument(),
   cameAndIsMostlyDeleted(),
   deletesWhatIsTypedAgain(),
   isPlayedInParts(0),

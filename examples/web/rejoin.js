@@ -14,6 +14,9 @@ import { SAME } from "./pieces.js";
 /** A text of so few units may have become any other. */
 const SHORT = 64;
 
+/** Unrelated texts of one language have a hundredth in common in pieces of so many units, and more than a quarter in shorter ones. */
+const PIECE = 8;
+
 /** Two don't put in the same so many units at one time. */
 const LONG = 16;
 
@@ -69,9 +72,16 @@ function settle(document, found, edits) {
   return [];
 }
 
-/** How many units two texts have in common, in their order. */
+/** How many units two texts have in common, in their order, in pieces of `PIECE` at least. */
 function inCommon(from, to) {
-  return differences(from, to).reduce((units, { removed }) => units - removed, from.length);
+  let units = 0;
+  let end = from.length;
+  for (const { at, removed } of [...differences(from, to), { at: 0, removed: 0 }]) {
+    const piece = end - at - removed;
+    if (piece >= PIECE) units += piece;
+    end = at;
+  }
+  return units;
 }
 
 /** Whether a text has what was put in and is under way, where it is shown or, in one piece and as nobody else types it, elsewhere. */
@@ -112,9 +122,9 @@ function textBefore(document, wanted) {
   return { length: own[low - 1]?.length ?? memory.length, text: upTo(low) };
 }
 
-/** Whether a text may have become of one before: it has at least half of that, or that is too short to tell. */
+/** Whether a text may have become of one before: it has at least a quarter of that, in pieces, or that is too short to tell. */
 function isLike(before, text) {
-  return before.length < SHORT || 2 * inCommon(before, text) >= before.length;
+  return before.length < SHORT || 4 * inCommon(before, text) >= before.length;
 }
 
 /** Takes a new document's text for the one that was known at some time, or for what became of it. */
