@@ -246,14 +246,15 @@ export class Log {
     let site = null;
     for (let [after, count] = [0, 1]; next === null; [after, count] = [after + count * MOST, AHEAD]) {
       const parts = await Promise.all(Array.from({ length: count }, (_, n) => this.#singles(after + n * MOST)));
-      for (const it of parts.flat()) {
+      const last = parts.findIndex((it) => it.length < MOST); // what a part behind it has came later
+      for (const it of (last < 0 ? parts : parts.slice(0, last + 1)).flat()) {
         site ??= it.site;
         const behind = signs.length === 0 ? "null" : `${[signs.length, site]}`;
         next = it.site !== site || it.sign === "" || it.of !== behind ? it : null;
         if (next !== null) break;
         signs.push(it.sign);
       }
-      if (parts.at(-1).length < MOST) break;
+      if (last >= 0) break;
     }
     if (signs.length === 0) return null;
     const isNew = site === 0 && (next === null || next.sequence === 1) && !(await this.isOfRun(0));
