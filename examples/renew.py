@@ -23,7 +23,6 @@ import subprocess
 import sys
 
 PROGRAM = pathlib.Path(__file__).resolve().parent.parent / "bin" / "rgatext"
-SITES = 32
 MOST = 64  # characters of an insertion, and operations of a line
 UNREADABLE = ValueError, KeyError, TypeError, AttributeError, RecursionError  # what is raised where a text isn't what it should be
 
