@@ -81,7 +81,7 @@ impl<D: Disk> RoomTurns<D> {
         reached.is_astray = true;
         reached.has_failed = true;
         drop(reached);
-        self.keeper.notify_all();
+        self.wake_all();
     }
 
     /// Holds the room's file, if it has one: nobody takes a turn until it is given up. Waits for one that is taken.
@@ -111,8 +111,7 @@ impl<D: Disk> RoomTurns<D> {
         drop(reached);
         *held = Some(file);
         drop(held);
-        self.even.notify_all();
-        self.odd.notify_all();
+        self.wake_all();
     }
 
     /// Whether a turn has been taken for more than half a minute: the disk doesn't answer. Constant time.
@@ -130,7 +129,7 @@ impl<D: Disk> RoomTurns<D> {
     /// Tells the keeper that the last turn is to come. Constant time.
     pub fn end<R: Wait>(&self, rt: &R) {
         self.reached.lock(rt).is_ending = true;
-        self.keeper.notify_all();
+        self.wake_all();
     }
 
     /// The keeper sleeps until a turn has failed that another took, or the time is over: whether the next turn is the last one.
@@ -208,14 +207,16 @@ impl<D: Disk> RoomTurns<D> {
         };
         let kept = kept_in(&*file, at);
         let len = len_in(&*file);
-        let has_failed = turned.is_err() && file.is_some();
+        let is_kept = turned.is_ok() || file.is_none();
         // (before another file is put in its place)
         let mut reached = self.reached.lock(rt);
         drop(file);
         reached.kept = kept;
         reached.len = len;
         reached.is_taken = false;
-        reached.has_failed = has_failed || reached.is_astray;
+        // (it may have gone astray meanwhile)
+        let has_failed = !is_kept || reached.is_astray;
+        reached.has_failed = has_failed;
         drop(reached);
         let next = self.told(number.wrapping_add(1));
         if has_failed {
@@ -250,6 +251,13 @@ impl<D: Disk> RoomTurns<D> {
             told.notify_one();
         }
         reached
+    }
+
+    // Wakes whoever sleeps: each looks anew at what is known of the room.
+    fn wake_all(&self) {
+        self.even.notify_all();
+        self.odd.notify_all();
+        self.keeper.notify_all();
     }
 
     // What is told where the turn with this number has ended.
