@@ -101,12 +101,18 @@ fn text_command<'a>(alloc: Global) -> Result<Command<'a>, AllocError>
     ensures local { IfOk result (λ made. (out-Command made).has_globals ≡ false) }
 {
     let version = version_arg(alloc);
-    let text = new_command(
-        alloc,
-        "text",
-        "Prints the reading of the snapshot on standard input",
-    );
+    let text = bare_text(alloc);
     text.arg(version)
+}
+
+// The same without its option, of which `clap` would make no usage, since its long name is one of `clap`'s own.
+fn bare_text<'a>(alloc: Global) -> Command<'a>
+    ensures shape { app_of result ≡ new_app (codes "text") }
+    ensures local { (out-Command result).has_globals ≡ false }
+{
+    Command::new(alloc, "text")
+        .about("Prints the reading of the snapshot on standard input")
+        .override_usage("rgatext text [OPTIONS]")
 }
 
 fn world_command<'a>(alloc: Global) -> Result<Command<'a>, AllocError>

@@ -9,4 +9,4 @@ pub returns-clause-shape : goal.returns-clause-shape
 unfolding text_command
 returns-clause-shape c =
     IfOk-weaker c.arg.result _ _ (λ made h. h.shape c.version_arg-version.ensures.local
-    ∙ ap₂ with_rule c.new_command-text.ensures.shape c.version_arg-version.ensures.rule) c.arg.ensures
+    ∙ ap₂ with_rule c.bare_text-text.ensures.shape c.version_arg-version.ensures.rule) c.arg.ensures
