@@ -299,7 +299,7 @@ async function leavesWhatItJoined() {
   let lost = 0;
   way.loses = ({ t }, { asked }) => {
     const since = asked.includes("join") ? asked.slice(asked.indexOf("join")) : [];
-    const isLost = t === "ops" && lost < 4 && since.includes("ops"); // (the first `ops` tells the end of what was joined)
+    const isLost = t === "ops" && lost < 5 && (since.length === 1 ? lost === 0 : since.includes("ops")); // (the first tells the end)
     lost += isLost;
     return isLost ? "answer" : "";
   };

@@ -37,6 +37,7 @@ export class Seat {
   #last = { n: 0, from: 0, to: 0 }; // the last accepted submission
   #underWay = null; // the request of a submission whose answer wasn't seen
   #leaving = null; // the request to leave for good
+  #unknown = []; // what was joined, until its log is known and it alone is left
 
   /** @param {() => void} onSilence is called where an answer doesn't come soon */
   constructor(onSilence = () => {}) {
@@ -90,7 +91,25 @@ export class Seat {
     this.#last = { n: 0, from: 0, to: 0 };
     this.#underWay = null;
     this.#leaving = null;
-    return new Document(x, v, await this.log.last(v));
+    this.#unknown.push({ s, v, x });
+    const room = new Document(x, v, await this.log.last(v));
+    for (; this.#unknown.length > 1; this.#unknown.shift()) await this.#leaveUnknown(this.#unknown[0], room);
+    this.#unknown = [];
+    return room;
+  }
+
+  /** Leaves what was joined on a line that was lost before its log was known, where it is unused and its text leads to the room's. */
+  async #leaveUnknown({ s, v, x }, { version, roomText }) {
+    const { n } = await this.#again(1, s);
+    if (n !== 8 && n !== 10) return;
+    const document = new Document(x, v);
+    document.play((await this.editsSince(document, s)).slice(0, version - v));
+    if (document.version === version && document.roomText === roomText) await this.ask({ t: "leave", s });
+  }
+
+  /** Asks for a submission's answer once more: with an empty text, so that it isn't accepted now. */
+  #again(n, s = this.#number) {
+    return this.ask({ t: "ins", s, n, v: 0, k: 0, x: "" });
   }
 
   /** Gives the number up, for another one. */
@@ -129,12 +148,11 @@ export class Seat {
    */
   async findOut(document) {
     this.#leaving = null;
-    const again = (n) => this.ask({ t: "ins", s: this.#number, n, v: 0, k: 0, x: "" });
     const { n, from, to } = this.#last;
-    let reply = n > 0 ? await again(n) : { r: "no", n: 7 };
+    let reply = n > 0 ? await this.#again(n) : { r: "no", n: 7 };
     let isSame = reply.r === "ok" && reply.from === from && reply.to === to;
     if (reply.n === 7) {
-      reply = await again(n + 1);
+      reply = await this.#again(n + 1);
       isSame = reply.r === "ok" && this.#underWay !== null && (await this.log.is(document, reply.from, reply.to));
     }
     if (reply.n === 13) throw new Refused(13);
@@ -171,11 +189,11 @@ export class Seat {
     if (site !== null) memory.sites.add(site);
   }
 
-  /** The edits since a document's version; none where they aren't to be had. */
-  async editsSince({ roomText, version }) {
+  /** The edits since a document's version, by a session; none where they aren't to be had. */
+  async editsSince({ roomText, version }, s = this.#number) {
     const edits = [];
     for (let isMore = true; isMore; ) {
-      const { es = [] } = await this.ask({ t: "pull", s: this.#number, have: version + edits.length, max: MOST });
+      const { es = [] } = await this.ask({ t: "pull", s, have: version + edits.length, max: MOST });
       edits.push(...es);
       isMore = es.length === MOST;
     }
