@@ -6,16 +6,14 @@ to it; it raises `Lost` where no answer came, whether or not the request arrived
 `rgatext lines`, and `Socket` one over `rgatext serve`, by the library `websockets`. Run as a program, the file types what
 it reads into a new room and prints the room's text.
 """
-import itertools
 import json
 import subprocess
 import sys
 import time
 
-from past import MOST, PENDING, Deletion, Insertion, Past, is_of_site_0, operations, play, written
+from past import MOST, PENDING, Deletion, Insertion, Past, is_of_site_0, operations, play, shown, written
 
 FULL = 131_072  # operations of a room
-SEARCHED = 8_192  # operations of another run that are looked through for what is known here, at most
 LONGEST = 5  # seconds between two tries, at most
 
 
@@ -196,7 +194,7 @@ class Session:
             reply = again(self.number + 1)
             if is_same := reply["r"] == "ok" and self._is_unanswered() and self.version <= reply["from"]:
                 log = operations(self._ask, reply["from"], reply["to"])
-                is_same = self.past.came_at(0, log, self.under_way) == reply["to"] - reply["from"]
+                is_same = self.past.came_at(log, 0, self.under_way) == reply["to"] - reply["from"]
             if self.number == 0 and reply.get("n") in (8, 10) and self._goes_on():
                 self._leave_unused()
         if not (is_same and self._goes_on()):
@@ -222,44 +220,31 @@ class Session:
                 joined = self._ask({"t": "join"})
                 if joined["r"] == "no":
                     raise Refused(joined["n"])
-                version, common = joined["v"], self._common()
-                kept = self._kept(version) if common is None and self.session is not None else common
-                if common is not None and common < self.past.version:
-                    common, kept = None, self.past.version  # all that is remembered was lost
-                begin = version if common is None else common
-                log = operations(self._ask, begin, min(version, begin + SEARCHED))
-                last = operations(self._ask, max(0, version - MOST), version)
+                if self.session is None:
+                    log = operations(self._ask, max(0, joined["v"] - MOST), joined["v"])
+                    self.past = Past(joined["v"], joined["x"], log)
+                    return self._begin(joined)
+                log = operations(self._ask, 0, joined["v"])
+                kept, begin = self._kept(log)
             except Lost:
                 continue
-            return self._go_on(joined, common, kept, log, last)
+            return self._go_on(joined, log, kept, begin)
         raise Lost
 
-    def _common(self):
-        """Up to which version the log is the one that is known here; nothing where it isn't, or begins as that of a renewed room does."""
-        if self.session is None:
-            return None
-        if self._goes_on():
-            return self.version
-        first, known = self.past.first, self.past.log
-        told = lambda at: operations(self._ask, first + at, min(first + at + MOST, self.version))
-        if told(0)[:1] != known[:1]:
-            return None
-        at = len(known) // MOST * MOST
-        while at > 0 and told(at - MOST) != known[at - MOST : at]:
-            at -= MOST
-        pairs = itertools.zip_longest(told(at), known[at:][:MOST])
-        count, new = next(((at + n, one) for n, (one, other) in enumerate(pairs) if one != other), (0, None))
-        is_renewed = new is not None and new.stamp[1] in {it.stamp[1] for it in known[:count]}  # a run that goes on has a site of its own
-        return None if count == 0 or is_renewed else first + count
+    def _kept(self, log):
+        """Up to which version of those that are remembered another log has what was done, and its own version with that text, where it has
+        one. Nothing where it is of a later version."""
+        common = self.past.in_common(log)
+        if common is not None:
+            return (common, common) if common >= self.past.version else (self.past.version, None)  # all that is remembered was lost
+        text = written(log)
+        kept = self.past.version_of(text)
+        if kept is not None:
+            return kept, len(text)
+        return self.past.version if not log or is_of_site_0(self._ask, len(log)) else None, None
 
-    def _kept(self, version):
-        """Up to which version of those that are remembered another log has what was done: that whose text it was written of, where the
-        room was renewed; nothing where that was a later one."""
-        kept = self.past.version_of(written(self._ask, version))
-        return self.past.version if kept is None and (version == 0 or is_of_site_0(self._ask, version)) else kept
-
-    def _go_on(self, joined, common, kept, log, last):
-        goes_on, self.before = common == self.version, list(self.text)
+    def _go_on(self, joined, log, kept, begin):
+        goes_on, self.before = begin == self.version == self.past.in_common(log), list(self.text)
         if goes_on and self.under_way:
             self._play_own(log)
         played = list(self.played)
@@ -269,7 +254,7 @@ class Session:
                 self.past.step(PENDING, self.waiting[0].edit(), True)
                 self._play(self.waiting[0].edit(), True)
             self.waiting.pop(0)
-        edits, lost = self.past.move(joined["v"], list(joined["x"]), common, kept, log, last)
+        edits, lost = self.past.move(log, list(joined["x"]), kept, begin)
         self._begin(joined)
         self.waiting, self.missing = (lost, []) if goes_on else ([], lost)
         self.played = played + edits
@@ -277,13 +262,14 @@ class Session:
 
     def _play_own(self, log):
         """Plays what a log that goes on from here has of what is under way."""
-        places = range(len(log)) if self._is_unanswered() else [self.came - self.version]
-        at, count = next(((it, count) for it in places if (count := self.past.came_at(it, log, self.under_way))), (0, 0))
+        places = range(self.version, len(log)) if self._is_unanswered() else [self.came]
+        before = shown(log, self.version)
+        at, count = next(((it, count) for it in places if (count := self.past.came_at(log, it, self.under_way, before))), (0, 0))
         for n in range(count):
             k = self.under_way["k"]
             edit = ["i", k + n, self.under_way["x"][n]] if self.under_way["t"] == "ins" else ["d", k]
             self._play(edit, True)
-            self.past.step(self.version + at + n + 1, edit, True, log[at + n].stamp)
+            self.past.step(at + n + 1, edit, True, log[at + n].stamp)
 
     def leave(self):
         """Ends the session, where it is there and the run of the server is the same."""

@@ -1,16 +1,16 @@
 """What a session of client.py remembers of its room: the text of some time ago, the edits since with whose they are, and the log's
 operations. By these it finds in another run of the server what that lacks of one's own, and carries there what is to be submitted."""
 import bisect
+import collections
 import difflib
-from collections import namedtuple
 
 MOST = 64  # characters of a submission, edits of a pull, operations of a reply
 REMEMBERED = 8_192  # edits, at least
 PENDING = 1 << 32  # a version above all others
 COMPARED = 100_000  # pairs of characters, where two texts differ, that are looked at one by one, at most
 
-Operation = namedtuple("Operation", "stamp char place")  # no character where it deletes; the stamp that it stands behind or deletes
-Step = namedtuple("Step", "version edit is_own stamp")  # the version that an edit led to; its operation's stamp, where that is known
+Operation = collections.namedtuple("Operation", "stamp char place")  # no character where it deletes; the stamp that it stands behind or deletes
+Step = collections.namedtuple("Step", "version edit is_own stamp")  # the version that an edit led to; its operation's stamp, where that is known
 
 
 def unfolded(objects):
@@ -35,15 +35,51 @@ def operations(ask, first, end):
     return told
 
 
-def written(ask, version):
+def written(log):
     """The text as a renewed room's log begins with it: what site 0 put in, each character behind the one before."""
-    text, is_on = [], True
-    while is_on and (more := operations(ask, len(text), min(len(text) + MOST, version))):
-        for it in more:
-            before = (len(text), 0) if text else None
-            is_on = is_on and it.stamp == (len(text) + 1, 0) and it.char is not None and it.place == before
-            text += [it.char] * is_on
+    text = []
+    for it in log:
+        if it.stamp != (len(text) + 1, 0) or it.char is None or it.place != ((len(text), 0) if text else None):
+            break
+        text.append(it.char)
     return text
+
+
+def in_order(log):
+    """The stamps that a log puts in, in the order of its text: what was put in right behind one comes the greatest stamp first, each with what
+    is behind it."""
+    behind = collections.defaultdict(list)
+    for it in sorted(log, key=lambda it: it.stamp):
+        if it.char is not None:
+            behind[it.place].append(it.stamp)
+    order, waiting = [], list(behind[None])
+    while waiting:
+        order.append(waiting.pop())
+        waiting += behind[order[-1]]
+    return order
+
+
+def shown(log, version):
+    """The stamps of a version's text."""
+    there = {it.stamp for it in log[:version] if it.char is not None} - {it.place for it in log[:version] if it.char is None}
+    return [it for it in in_order(log[:version]) if it in there]
+
+
+def edits_of(log, version):
+    """What the operations behind a version do to its text."""
+    rank = {stamp: at for at, stamp in enumerate(in_order(log))}
+    text = [rank[it] for it in shown(log, version)]
+    for it in log[version:]:
+        own = rank[it.place if it.char is None else it.stamp]
+        at = bisect.bisect_left(text, own)
+        if it.char is not None:
+            text.insert(at, own)
+            yield ["i", at, it.char]
+        elif text[at : at + 1] == [own]:
+            del text[at]
+            yield ["d", at]
+        else:
+            yield ["n"]
 
 
 def is_of_site_0(ask, version):
@@ -176,22 +212,30 @@ class Past:
             order.append(order[-1].next)
         return order[1:], shown
 
-    def came_at(self, at, log, request):
+    def in_common(self, log):
+        """Up to which version a log is the one that is known here; nothing where it isn't, or begins as that of a renewed room does."""
+        there = log[self.first : self.first + len(self.log)]
+        count = next((at for at, (one, other) in enumerate(zip(there, self.log)) if one != other), len(there))
+        sites = {it.stamp[1] for it in self.log[:count]}
+        is_renewed = any(it.stamp[1] in sites for it in there[count : count + 1])  # a run that goes on has a site of its own
+        return None if is_renewed or (count == 0 and self.log) else self.first + count
+
+    def came_at(self, log, at, request, before=None):
         """How many operations of another log, from its number `at` on, are what a request asked for in the text of now: all, or so many
-        as that run had kept of them when it ended."""
+        as that run had kept of them when it ended. `before` are the stamps of that text, where the whole log has told them."""
         wanted = list(request["x"]) if request["t"] == "ins" else [None] * request["c"]
         there = log[at : at + len(wanted)]
         count = next((n for n, (one, char) in enumerate(zip(there, wanted)) if one.char != char), len(there))
         end = log[at + count : at + count + 1]
         if count == 0 or count < len(wanted) and any(it.stamp[1] == there[0].stamp[1] for it in end):
             return 0
-        _, shown = self.elements()
+        before = before or [it.stamp for it in self.elements()[1]]
         known = {it.stamp for it in self.steps}
-        fits = lambda place, one: place == one.stamp if one.stamp else place is not None and place not in known
+        fits = lambda place, stamp: place == stamp if stamp else place is not None and place not in known
         if request["t"] == "del":
-            return count if all(fits(it.place, one) for it, one in zip(there[:count], shown[request["k"] :])) else 0
-        is_chain = all(it.place == before.stamp for before, it in zip(there[: count - 1], there[1:count]))
-        return count if is_chain and (fits(there[0].place, shown[request["k"] - 1]) if request["k"] else there[0].place is None) else 0
+            return count if all(fits(it.place, stamp) for it, stamp in zip(there[:count], before[request["k"] :])) else 0
+        is_chain = all(it.place == one.stamp for one, it in zip(there[: count - 1], there[1:count]))
+        return count if is_chain and (fits(there[0].place, before[request["k"] - 1]) if request["k"] else there[0].place is None) else 0
 
     def step(self, version, edit, is_own=False, stamp=None):
         self.steps.append(Step(version, edit, is_own, stamp))
@@ -205,34 +249,42 @@ class Past:
                 found = it.version
         return found
 
-    def move(self, version, text, common, kept, log, last):
-        """Goes over to another run's text of a version. What was done up to version `kept` it has, where that is known; and up to version
-        `common` it has the log which is known here, where that isn't none; then come those of `log`, and `last` are its last ones. Gives
-        the edits that lead there from the text of now, without what is pending, and what is lacking there of one's own, with it."""
+    def move(self, log, text, kept, begin):
+        """Goes over to another run's log and text. What was done up to version `kept` it has, where that is known, and the same text at its
+        own version `begin`, where it has that. Gives the edits that lead there from the text of now, without what is pending, and what is
+        lacking there of one's own, with it."""
         order, _ = self.elements()
-        kept = version if common == self.first + len(self.log) else kept
+        common = self.in_common(log)
+        goes_on = common == self.first + len(self.log)
+        until = len(log) if goes_on else kept
         if kept is None:
-            shown = [it for it in order if it.is_at(PENDING - 1)]
-            set_places(shown, text)
-            own = [it.place is not None for it in shown if it.is_own]
+            now = [it for it in order if it.is_at(PENDING - 1)]
+            set_places(now, text)
+            own = [it.place is not None for it in now if it.is_own]
             if 2 * sum(own) < len(own):
-                kept = self.version  # the room was written of a text before those that are remembered
+                until = self.version  # the room was written of a text before those that are remembered
+                for it in order:
+                    it.place = None
             else:
                 set_pending(order, text)
-        if kept is not None:
-            there = [it for it in order if it.is_at(kept)]
-            for it in order:
-                it.place = None
+        there = [] if until is None else [it for it in order if it.is_at(until)]
+        if begin is None:
             set_places(there, text)
-        lost = lacking(order, PENDING - 1 if kept is None else kept)
-        edits = edits_to([it for it in order if it.is_at(PENDING - 1)], text)
-        if common is None or common + len(log) < version:
-            self.__init__(version, text, last)
         else:
-            self.steps = [it for it in self.steps if it.version <= kept]
-            for edit in edits_to(there, text):
-                self.step(version, edit)
-            self.log = self.log[: common - self.first] + log
+            for it, stamp in zip([it for it in order if it.is_at(kept)], shown(log, begin)):
+                it.stamp = stamp
+            places = {stamp: at for at, stamp in enumerate(shown(log, len(log)))}
+            for it in there:
+                it.place = places.get(it.stamp)
+        lost = lacking(order, PENDING - 1 if until is None else until)
+        edits = edits_to([it for it in order if it.is_at(PENDING - 1)], text)
+        if common is None or begin is None:
+            self.__init__(len(log), text, log[-MOST:])
+        else:
+            own = {it.stamp for it in self.steps if it.is_own and it.version > common} if goes_on else set()
+            self.steps, self.log = [it for it in self.steps if it.version <= common], log[self.first :]
+            for at, edit in enumerate(edits_of(log, common), common):
+                self.step(at + 1, edit, log[at].stamp in own, log[at].stamp)
         return edits, lost
 
 
