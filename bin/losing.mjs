@@ -117,6 +117,20 @@ async function isRenewedTwice() {
   await end(...ways);
 }
 
+/** Most of a deletion is lost while its author is away, another types on, and the room is renewed: the rest is deleted again. */
+async function losesADeletionWhileAway() {
+  const way = await begin("one two three");
+  way.editor.change(3, 4, "");
+  await way.comesTo("up to date", "one three");
+  way.cutOff();
+  await way.comesTo("offline");
+  const kept = await keptRun(way.room, 3);
+  await typedBy(kept, 0, "> ");
+  way.room = await renewedRun(kept);
+  way.isUp = true;
+  await endsAs(way, "> one three");
+}
+
 /** Unrelated texts, by Melville and by Carroll: of the shorter one seven tenths of the letters stand in the longer one, in their order. */
 const WHALE =
   "Call me Ishmael. Some years ago, never mind how long precisely, having little or no money in my purse, I thought I would sail about a" +
@@ -265,6 +279,7 @@ await Promise.all([
   isRenewed("a", "b", 0),
   isRenewed("hello ", "world", 3),
   isRenewedTwice(),
+  losesADeletionWhileAway(),
   isFarBehind(),
   isAnotherDocument(),
   cameAndIsMostlyDeleted(),
