@@ -194,7 +194,8 @@ class Session:
             reply = again(self.number + 1)
             if is_same := reply["r"] == "ok" and self._is_unanswered() and self.version <= reply["from"]:
                 log = operations(self._ask, reply["from"], reply["to"])
-                is_same = self.past.came_at(log, 0, self.under_way) == reply["to"] - reply["from"]
+                count = self.under_way.get("c") or len(self.under_way["x"])  # (a part is another's, in another run)
+                is_same = self.past.came_at(log, 0, self.under_way) == count == reply["to"] - reply["from"]
             if self.number == 0 and reply.get("n") in (8, 10) and self._goes_on():
                 self._leave_unused()
         if not (is_same and self._goes_on()):

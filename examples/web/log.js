@@ -180,14 +180,14 @@ export class Log {
   }
 
   /**
-   * Whether the operations from a version to another are what a document has under way.
+   * Whether the operations from a version to another are all that a document has under way: a part may be another's, in another run.
    * @param {Document} document
    * @param {number} from
    * @param {number} to
    */
   async is(document, from, to) {
     const found = await this.find(document, from);
-    return found !== null && found.from + found.count === to;
+    return found !== null && found.count === document.underWay.signs.length && found.from + found.count === to;
   }
 
   /**
