@@ -311,6 +311,19 @@ async function leavesWhatItJoined() {
   await endsAs(way, "hello");
 }
 
+/** In another run a beginning of what was under way is the submission of who has the same number there: all of it comes. */
+async function isBegunByAnother() {
+  const way = await begin("");
+  const isLost = way.loseOnce("request", "ins");
+  way.editor.change(0, 0, "hello");
+  await isLost;
+  const other = new Room(2);
+  const { s } = await other.ask({ t: "join", u: 16 });
+  await other.ask({ t: "ins", s, n: 1, v: 0, k: 0, x: "h" });
+  way.cut(other);
+  await endsAs(way, "hello");
+}
+
 /** A socket that is open at once, and answers each message by a text. */
 class Socket extends EventTarget {
   static answer = "hello";
@@ -373,6 +386,7 @@ await Promise.all([
   isAcceptedAndDeleted(),
   losesMuchOfItsOwn(),
   leavesWhatItJoined(),
+  isBegunByAnother(),
   losesJoin("join"),
   losesJoin("leave"),
   leavesAtOnce(),
