@@ -7,7 +7,7 @@ import { wayTo } from "../examples/web/rejoin.js";
 import { isInside } from "../examples/web/text.js";
 import { rejoin } from "./rejoining.mjs";
 import { dice, Room } from "./room.mjs";
-import { mustFitWhole, undoAtRandom, undoOnesOwn, undoQuickly } from "./undoing.mjs";
+import { mustFitWhole, undoAtRandom, undoOnesOwn, undoQuickly, undoTogether } from "./undoing.mjs";
 import { vectors } from "./vectors.mjs";
 import { keptRun, renewedRun } from "./way.mjs";
 
@@ -200,6 +200,7 @@ const merged = [];
 for (let seed = 1; seed <= 3; seed += 1) merged.push(await mergeAtRandom(seed, 1_000));
 undoOnesOwn();
 undoQuickly();
+undoTogether();
 mustFitWhole();
 for (let seed = 1; seed <= 300; seed += 1) undoAtRandom(dice(seed), seed % 2 === 0);
 console.log(`bin/try_merging: ${cases.length + rejoined} vectors, texts of ${merged.join(", ")} units merged, steps undone`);

@@ -21,8 +21,8 @@ class Typed {
     this.text = this.text.slice(0, at) + text + this.text.slice(at + removed);
   };
 
-  own(at, removed, text, when = (this.#time += 5_000)) {
-    this.undo.note({ at, removed, text }, this.text.slice(at, at + removed), when);
+  own(at, removed, text, when = (this.#time += 5_000), isMore = false) {
+    this.undo.note({ at, removed, text }, this.text.slice(at, at + removed), when, isMore);
     this.replace(at, removed, text);
   }
 
@@ -69,6 +69,18 @@ export function undoQuickly() {
   typed.turn(false, "abcdef");
 }
 
+/** Changes that are told as one step are one, wherever they are; what it put in and took out itself doesn't come back. */
+export function undoTogether() {
+  const typed = new Typed("one two one");
+  typed.own(0, 3, "three");
+  typed.own(10, 3, "three", undefined, true);
+  typed.other(5, 0, "X");
+  typed.own(0, 1, "", undefined, true);
+  assert.equal(typed.text, "hreeX two three");
+  typed.turn(false, "oneX two one");
+  typed.turn(true, "hreeX two three");
+}
+
 /** What doesn't fit isn't begun. */
 export function mustFitWhole() {
   const typed = new Typed("12345678");
@@ -91,7 +103,11 @@ export function undoAtRandom(roll, isAlone) {
     const removed = roll(2) * Math.min(typed.text.length - at, roll(4));
     const text = "abc".slice(0, roll(4));
     if (!isAlone && roll(3) === 0) typed.other(at, 0, others[others.push("X") - 1]);
-    else if (removed > 0 || text !== "") steps.push(typed.own(at, removed, text));
+    else if (removed > 0 || text !== "") {
+      const isMore = steps.length > 0 && roll(4) === 0;
+      typed.own(at, removed, text, undefined, isMore);
+      if (!isMore) steps.push(text);
+    }
   }
   const before = typed.text;
   for (const _ of steps) typed.turn(false);

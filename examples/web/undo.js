@@ -83,15 +83,16 @@ export class Undo {
   #mayGoOn = false; // whether the last step may be gone on with
 
   /**
-   * A change that the user made, and the text that it took out.
+   * A change that the user made, and the text that it took out. `isMore`: it belongs to the step of the one before, wherever that was.
    * @param {Change} change
    * @param {string} taken
    */
-  note(change, taken, when = Date.now()) {
+  note(change, taken, when = Date.now(), isMore = false) {
     const { at, removed, text } = change;
     if (removed === 0 && text === "") return;
     this.#forgetUndone();
-    if (!this.#mayGoOn || !this.#done.at(-1).isGoneOnBy(change, when)) this.#done.push(new Step(text !== ""));
+    const goesOn = this.#mayGoOn && (isMore || this.#done.at(-1).isGoneOnBy(change, when));
+    if (!goesOn) this.#done.push(new Step(text !== ""));
     const step = this.#done.at(-1);
     let rest = taken;
     for (const piece of this.#within(at, removed).filter((it) => !it.isHidden)) {
@@ -99,6 +100,7 @@ export class Undo {
       piece.text = rest.slice(0, piece.length);
       rest = rest.slice(piece.length);
     }
+    this.#pieces = this.#pieces.filter((it) => !(it.putBy === step && it.takenBy === step)); // the step put it in itself
     if (text !== "") this.#insert(at, [new Piece(text.length, step)]);
     step.end = at + text.length;
     step.when = when;
