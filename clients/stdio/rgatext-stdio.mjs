@@ -1,0 +1,204 @@
+#!/usr/bin/env -S node --experimental-websocket --no-warnings
+// A room of an rgatext server for an editor that starts a program: it speaks by lines of JSON, which README.md tells.
+import { COUNTS, gone, size } from "./count.js";
+import { EditorText } from "./editor_text.js";
+import { linesOf } from "./lines.js";
+import { Ended, Full, mustFit, open, Undo } from "./module.js";
+
+const [address, room, counted = "units", ...more] = process.argv.slice(2);
+const count = Object.hasOwn(COUNTS, counted) ? COUNTS[counted] : undefined;
+
+/** A line that isn't as it should be. Nothing of it was done. */
+class Wrong extends Error {}
+
+const isPlace = (it) => Number.isInteger(it) && it >= 0;
+const isChange = (it) => Array.isArray(it) && it.length === 3 && isPlace(it[0]) && isPlace(it[1]) && typeof it[2] === "string";
+const isTrue = (it) => it === true;
+
+/** Ends the program, with a word of why. */
+function stop(why) {
+  console.error(`rgatext-stdio: ${why}`);
+  process.exit(2);
+}
+
+function tell(line) {
+  process.stdout.write(`${JSON.stringify(line)}\n`);
+}
+
+class Conversation {
+  #text = new EditorText();
+  #undo = new Undo();
+  #session;
+  #hasTold = false; // that there is news, since the editor took some
+  #isAhead = false; // as it was told
+  #flushes = 0; // that aren't answered
+  #isClosing = false;
+  #lines = 0; // that were read
+
+  constructor(session) {
+    this.#session = session;
+    session.addEventListener("changes", ({ detail }) => {
+      this.#undo.follow(detail);
+      this.#text.follow(detail);
+      this.#tellNews();
+    });
+    session.addEventListener("state", () => this.#tellState());
+    this.#tellState();
+  }
+
+  /** What the lines ask, by their first key: whether its value is right, and what is done. */
+  #asks = {
+    replace: [isChange, (change, isMore) => this.#replace(change, isMore)],
+    take: [isTrue, () => tell({ changes: this.#take() })],
+    undo: [isTrue, () => this.#turn(false)],
+    redo: [isTrue, () => this.#turn(true)],
+    flush: [isTrue, () => this.#flush()],
+    unsent: [isTrue, () => tell({ unsent: this.#session.unsent })],
+    text: [isTrue, () => tell({ text: (this.#take(), this.#text.text) })],
+    other: [isTrue, () => tell({ other: this.#session.otherText })],
+    choose: [(it) => it === "mine" || it === "theirs", (whose) => this.#choose(whose)],
+    close: [isTrue, () => this.close()],
+  };
+
+  /**
+   * Does what a line asks.
+   * @param {Buffer} line
+   */
+  does(line) {
+    if (this.#isClosing) return;
+    this.#lines += 1;
+    try {
+      this.#obey(line);
+    } catch (fault) {
+      if (!(fault instanceof Wrong)) throw fault;
+      tell({ wrong: `line ${this.#lines}: ${fault.message}` });
+    }
+  }
+
+  #obey(line) {
+    const request = parsed(line);
+    const [[key, value], ...others] = Object.entries(request);
+    if (!Object.hasOwn(this.#asks, key)) throw new Wrong(`it asks for nothing that is known: ${key}`);
+    const [isRight, does] = this.#asks[key];
+    if (!isRight(value)) throw new Wrong(`the value of ${key} isn't as it should be`);
+    const isMore = key === "replace" && others.length === 1 && others[0][0] === "more" && isTrue(others[0][1]);
+    if (others.length > 0 && !isMore) throw new Wrong(`a key too many: ${others[0][0]}`);
+    does(value, isMore);
+  }
+
+  /** The editor has changed its text. */
+  #replace([at, removed, text], isMore) {
+    const whole = this.#text.text;
+    const start = gone(whole, at, count);
+    const { index: units, rest } = gone(whole.slice(start.index), removed, count);
+    if (start.rest > 0 || rest > 0) throw new Wrong("the change is beyond the text");
+    if (start.rest < 0 || rest < 0) throw new Wrong("the change begins or ends inside of a character");
+    this.#change(() => this.#text.replace({ at: start.index, removed: units, text }, (changes) => this.#make(changes, isMore)));
+    this.#tellNews();
+  }
+
+  /** Makes changes of the session's text, from the last place to the first: all of them or none. */
+  #make(changes, isMore) {
+    mustFit(this.#session, changes);
+    for (const [n, { at, removed, text }] of changes.entries()) {
+      const taken = this.#session.text.slice(at, at + removed);
+      this.#undo.note(this.#session.replace(at, removed, text), taken, Date.now(), isMore || n > 0);
+    }
+  }
+
+  /** Makes a change, or says why it isn't made. */
+  #change(make) {
+    try {
+      make();
+    } catch (fault) {
+      if (!(fault instanceof Full || fault instanceof Ended)) throw fault;
+      tell({ refused: fault.message });
+    }
+    if (this.#session.isAhead !== this.#isAhead) this.#tellState();
+  }
+
+  #take() {
+    this.#hasTold = false;
+    return this.#text.take(count);
+  }
+
+  #tellNews() {
+    if (this.#hasTold || !this.#text.hasNews) return;
+    this.#hasTold = true;
+    tell({ news: true });
+  }
+
+  /** Undoes the editor's own last step, or does it again. */
+  #turn(isRedo) {
+    let caret = null;
+    const replace = (at, removed, text) => {
+      this.#session.replace(at, removed, text);
+      this.#text.follow([{ at, removed, text }]);
+      caret = at + text.length;
+    };
+    this.#change(() => this.#undo.turn(isRedo, this.#session, replace));
+    const changes = this.#take();
+    tell(caret === null ? { changes } : { changes, caret: size(this.#text.text.slice(0, caret), count) });
+  }
+
+  #choose(whose) {
+    this.#change(() => (whose === "mine" ? this.#session.putMine() : this.#session.takeTheirs()));
+  }
+
+  #flush() {
+    this.#flushes += 1;
+    this.#answerFlushes();
+  }
+
+  /** Says whether the room has all that was done here, once that is known. */
+  #answerFlushes() {
+    const { state, isAhead, hasOther } = this.#session;
+    if (isAhead && !hasOther && state !== "refused") return;
+    for (; this.#flushes > 0; this.#flushes -= 1) tell({ flushed: !isAhead && !hasOther });
+  }
+
+  #tellState() {
+    const { state, why, isAhead, left } = this.#session;
+    this.#isAhead = isAhead;
+    if (!this.#isClosing) tell({ state, why, ahead: isAhead, left });
+    this.#answerFlushes();
+  }
+
+  /** Sends what is new, leaves the room, says what it doesn't have, and ends the program. */
+  async close() {
+    if (this.#isClosing) return;
+    this.#isClosing = true;
+    await this.#session.close().catch((fault) => console.error(fault));
+    const { unsent } = this.#session;
+    tell({ closed: true, unsent });
+    process.exit(unsent.length > 0 ? 1 : 0);
+  }
+}
+
+/** The object of a line, which has a key. */
+function parsed(line) {
+  let request;
+  try {
+    request = JSON.parse(new TextDecoder("utf-8", { fatal: true }).decode(line));
+  } catch {
+    throw new Wrong("it is no JSON in UTF-8");
+  }
+  const isRequest = typeof request === "object" && request !== null && Object.keys(request).length > 0;
+  if (!isRequest) throw new Wrong("it is no object with a key");
+  return request;
+}
+
+if (room === undefined || count === undefined || more.length > 0) {
+  stop("usage: rgatext-stdio.mjs ADDRESS ROOM [units|characters|bytes]");
+}
+let conversation;
+try {
+  conversation = new Conversation(open(address, room));
+} catch (fault) {
+  if (!(fault instanceof TypeError)) throw fault;
+  stop(fault.message);
+}
+for (const signal of ["SIGTERM", "SIGINT", "SIGHUP"]) process.on(signal, () => conversation.close());
+process.stdout.on("error", () => conversation.close()); // nobody reads any more
+for await (const line of linesOf(process.stdin)) conversation.does(line);
+await conversation.close();
