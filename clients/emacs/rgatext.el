@@ -1,0 +1,237 @@
+;;; rgatext.el --- A room of an rgatext server as a buffer  -*- lexical-binding: t -*-
+
+;;; Commentary:
+
+;; By clients/stdio: M-x rgatext RET ws://127.0.0.1:7878 RET notes RET.
+
+;;; Code:
+
+(require 'cl-lib)
+
+(defvar rgatext-node '("node" "--experimental-websocket" "--no-warnings")
+  "How Node is started.")
+
+(defconst rgatext--program
+  (expand-file-name "../stdio/rgatext-stdio.mjs" (file-name-directory (or load-file-name buffer-file-name))))
+
+(defconst rgatext--scarce 13107
+  "So many changes before a room is full it is told.")
+
+(cl-defstruct (rgatext--room (:constructor rgatext--make-room))
+  process
+  (answer nil :documentation "The last line that answers something.")
+  (held "" :documentation "The beginning of a line.")
+  (state '(:state "joining" :why "" :left 131072) :documentation "How the session stands, as the program told it.")
+  (is-more nil :documentation "Whether something was changed since a command began.")
+  (is-playing nil :documentation "Whether changes are made that the program knows.")
+  (is-taking nil :documentation "Whether others' changes are about to be taken."))
+
+(defvar-local rgatext--room nil "The room of a buffer.")
+(put 'rgatext--room 'permanent-local t)
+
+;;;; Lines
+
+(defun rgatext--send (&rest request)
+  "Send a REQUEST, a list of keys and values."
+  (process-send-string (rgatext--room-process rgatext--room) (concat (json-serialize request) "\n")))
+
+(defun rgatext--receive (process output)
+  "Hear each whole line of the OUTPUT of a PROCESS."
+  (when (buffer-live-p (process-buffer process))
+    (with-current-buffer (process-buffer process)
+      (let ((lines (split-string (concat (rgatext--room-held rgatext--room) output) "\n")))
+        (setf (rgatext--room-held rgatext--room) (car (last lines)))
+        (dolist (line (butlast lines))
+          (rgatext--hear (json-parse-string line :object-type 'plist :array-type 'list :null-object nil :false-object nil)))))))
+
+(defun rgatext--hear (told)
+  "Do what a line asks that was TOLD."
+  (cond ((plist-get told :state) (rgatext--show told))
+        ((plist-get told :refused) (message "rgatext: %s" (plist-get told :refused)))
+        ((plist-get told :wrong) (message "rgatext: %s" (plist-get told :wrong)))
+        ((not (plist-get told :news)) (setf (rgatext--room-answer rgatext--room) told))
+        ((not (rgatext--room-is-taking rgatext--room))
+         (setf (rgatext--room-is-taking rgatext--room) t)
+         (run-with-timer 0 nil #'rgatext--take (current-buffer)))))
+
+(defun rgatext--ask (seconds key &rest request)
+  "Send a REQUEST, and wait some SECONDS for its answer, which has a KEY. Nothing is typed meanwhile."
+  (let ((room rgatext--room)
+        (end (+ (float-time) seconds)))
+    (setf (rgatext--room-answer room) nil)
+    (apply #'rgatext--send request)
+    (while (and (not (plist-member (rgatext--room-answer room) key))
+                (process-live-p (rgatext--room-process room))
+                (< (float-time) end))
+      (accept-process-output (rgatext--room-process room) 0.1 nil 1))
+    (rgatext--room-answer room)))
+
+;;;; Changes
+
+(defun rgatext--mend (beg end)
+  "Put U+FFFD in the place of what is no character of a text, from BEG to END."
+  (save-match-data
+    (save-excursion
+      (goto-char beg)
+      (while (re-search-forward "[^\0-\ud7ff\ue000-\U0010ffff]" end t)
+        (replace-match "\ufffd" t t)))))
+
+(defun rgatext--changed (beg end removed)
+  "Tell the program what was put in from BEG to END, in place of so many REMOVED characters."
+  (unless (rgatext--room-is-playing rgatext--room)
+    (save-restriction
+      (widen)
+      (rgatext--mend beg end)
+      (let ((change (vector (1- beg) removed (buffer-substring-no-properties beg end))))
+        (apply #'rgatext--send :replace change (and (rgatext--room-is-more rgatext--room) '(:more t)))))
+    (setf (rgatext--room-is-more rgatext--room) t)))
+
+(defun rgatext--command-ends ()
+  "What is changed next isn't of the same command."
+  (setf (rgatext--room-is-more rgatext--room) nil))
+
+(defun rgatext--play (changes)
+  "Make CHANGES that the program knows. Point and markers stay where they are in the text."
+  (let ((is-modified (buffer-modified-p))
+        (inhibit-read-only t)
+        (inhibit-modification-hooks nil)
+        (deactivate-mark nil))
+    (setf (rgatext--room-is-playing rgatext--room) t)
+    (unwind-protect
+        (save-match-data
+          (save-excursion
+            (save-restriction
+              (widen)
+              (pcase-dolist (`(,at ,removed ,text) changes)
+                (goto-char (1+ at))
+                (delete-region (point) (+ (point) removed))
+                (insert text)))))
+      (setf (rgatext--room-is-playing rgatext--room) nil))
+    (restore-buffer-modified-p is-modified)))
+
+(defun rgatext--take (buffer)
+  "Take what others changed in a room's BUFFER."
+  (when (buffer-live-p buffer)
+    (with-current-buffer buffer
+      (setf (rgatext--room-is-taking rgatext--room) nil)
+      (rgatext--play (plist-get (rgatext--ask 2 :changes :take t) :changes)))))
+
+(defun rgatext--turn (key times)
+  "Ask KEY so many TIMES, which is `:undo' or `:redo', and go where something changed."
+  (barf-if-buffer-read-only)
+  (dotimes (_ times)
+    (let ((answer (rgatext--ask 2 :changes key t)))
+      (rgatext--play (plist-get answer :changes))
+      (when (plist-get answer :caret)
+        (goto-char (1+ (plist-get answer :caret)))))))
+
+(defun rgatext-undo (times)
+  "Undo one's own last step in the room, so many TIMES."
+  (interactive "p")
+  (rgatext--turn :undo times))
+
+(defun rgatext-redo (times)
+  "Do one's own step again that was undone last, so many TIMES."
+  (interactive "p")
+  (rgatext--turn :redo times))
+
+;;;; States
+
+(defun rgatext--show (told)
+  "Show how the session stands, as TOLD: in the mode line, and by whether the buffer is modified and may be changed."
+  (setf (rgatext--room-state rgatext--room) told)
+  (restore-buffer-modified-p (or (plist-get told :ahead) (equal (plist-get told :state) "another text")))
+  (setq buffer-read-only (and (member (plist-get told :state) '("refused" "closed")) t))
+  (force-mode-line-update))
+
+(defun rgatext--told ()
+  "What the mode line tells of the room."
+  (let ((told (rgatext--room-state rgatext--room)))
+    (concat " " (plist-get told :state)
+            (unless (equal (plist-get told :why) "") (concat ": " (plist-get told :why)))
+            (when (< (plist-get told :left) rgatext--scarce) (format "; the room takes %d more changes" (plist-get told :left))))))
+
+(defun rgatext--ended (process _)
+  "The program of a PROCESS has ended, and nobody carries changes any more."
+  (when (and (buffer-live-p (process-buffer process)) (not (process-live-p process)))
+    (with-current-buffer (process-buffer process)
+      (rgatext--show `(:state "closed" :why "its program has ended" :ahead ,(buffer-modified-p) :left ,rgatext--scarce)))))
+
+(defun rgatext--has-all (seconds)
+  "Wait some SECONDS until the room has all that was done here. Whether it has."
+  (or (not (buffer-modified-p))
+      (and (process-live-p (rgatext--room-process rgatext--room))
+           (plist-get (rgatext--ask seconds :flushed :flush t) :flushed))))
+
+(defun rgatext-flush ()
+  "Wait until the room has all that was done here, or say what is wrong."
+  (interactive)
+  (if (rgatext--has-all 5)
+      (message "The room has it")
+    (user-error "The room doesn't have all of it:%s" (rgatext--told))))
+
+(defun rgatext--may-leave ()
+  "Whether the room has all, or the user leaves it all the same."
+  (or (null rgatext--room) (rgatext--has-all 2) (yes-or-no-p (format "Some text of %s isn't in the room. Leave it? " (buffer-name)))))
+
+(defun rgatext--may-leave-all ()
+  "Whether Emacs may end."
+  (cl-every (lambda (it) (with-current-buffer it (rgatext--may-leave))) (buffer-list)))
+
+(defun rgatext-unsent ()
+  "Show what was done here and the room isn't known to have."
+  (interactive)
+  (let ((unsent (plist-get (rgatext--ask 2 :unsent :unsent t) :unsent)))
+    (message "%s" (mapconcat (lambda (it) (format "%s: %s" (plist-get it :kind) (plist-get it :text))) unsent "\n"))))
+
+(defun rgatext-other ()
+  "Show the text of the room, where it is another one."
+  (interactive)
+  (message "%s" (or (plist-get (rgatext--ask 2 :other :other t) :other) "The room has no other text")))
+
+(defun rgatext-take-theirs ()
+  "Take the text of the room in place of what is shown."
+  (interactive)
+  (rgatext--send :choose "theirs"))
+
+(defun rgatext-put-mine ()
+  "Put what is shown into the room in place of its text."
+  (interactive)
+  (rgatext--send :choose "mine"))
+
+;;;; Opening
+
+(defvar rgatext-mode-map
+  (let ((map (make-sparse-keymap)))
+    (pcase-dolist (`(,command ,own) '((undo rgatext-undo) (undo-only rgatext-undo) (undo-redo rgatext-redo) (save-buffer rgatext-flush)))
+      (define-key map (vector 'remap command) own))
+    map))
+
+(define-minor-mode rgatext-mode
+  "The buffer is a room of an rgatext server. `rgatext' opens one."
+  :lighter (:eval (rgatext--told))
+  (add-hook 'after-change-functions #'rgatext--changed nil t)
+  (add-hook 'post-command-hook #'rgatext--command-ends nil t)
+  (add-hook 'kill-buffer-query-functions #'rgatext--may-leave nil t))
+
+(put 'rgatext-mode 'permanent-local t)
+(dolist (it '(rgatext--changed rgatext--command-ends rgatext--may-leave))
+  (put it 'permanent-local-hook t))
+(add-hook 'kill-emacs-query-functions #'rgatext--may-leave-all)
+
+;;;###autoload
+(defun rgatext (address room)
+  "Open a ROOM of the server at an ADDRESS in a buffer."
+  (interactive "sServer: \nsRoom: ")
+  (switch-to-buffer (generate-new-buffer (concat address "/" room)))
+  (setq rgatext--room (rgatext--make-room)
+        buffer-undo-list t)
+  (setf (rgatext--room-process rgatext--room)
+        (make-process :name "rgatext" :buffer (current-buffer) :noquery t :connection-type 'pipe :coding 'utf-8-unix
+                      :command `(,@rgatext-node ,rgatext--program ,address ,room "characters")
+                      :filter #'rgatext--receive :sentinel #'rgatext--ended
+                      :stderr (get-buffer-create "*rgatext*")))
+  (rgatext-mode))
+
+(provide 'rgatext)
+;;; rgatext.el ends here

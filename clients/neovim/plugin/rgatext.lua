@@ -1,0 +1,423 @@
+-- A room of an rgatext server as a buffer of Neovim, by clients/stdio: `:edit ws://127.0.0.1:7878/notes`.
+local api = vim.api
+local folder = vim.fn.fnamemodify(debug.getinfo(1, "S").source:sub(2), ":p:h:h:h")
+local program = { "--experimental-websocket", "--no-warnings", folder .. "/stdio/rgatext-stdio.mjs" }
+
+-- Milliseconds: until an answer is missed, until the room has all that is new, and until a busy editor is looked at again.
+local ANSWER, SENDING, BUSY = 2000, 5000, 50
+local SCARCE = 13107 -- so many changes before a room is full it is told
+
+-- The characters of UTF-8 that have more than one byte (RFC 3629).
+local REST = "[\128-\191]"
+local LONG = {
+  "^[\194-\223]" .. REST,
+  "^\224[\160-\191]" .. REST,
+  "^[\225-\236\238\239]" .. REST .. REST,
+  "^\237[\128-\159]" .. REST,
+  "^\240[\144-\191]" .. REST .. REST,
+  "^[\241-\243]" .. REST .. REST .. REST,
+  "^\244[\128-\143]" .. REST .. REST,
+}
+
+-- Bytes above 127 as JSON has them: characters as they are, and a byte that is no UTF-8 as half a pair, as the program wants it.
+local function spelled(bytes)
+  local parts, at = {}, 1
+  while at <= #bytes do
+    local found
+    for _, it in ipairs(LONG) do
+      found = found or bytes:match(it, at)
+    end
+    table.insert(parts, found or ("\\udc%02x"):format(bytes:byte(at)))
+    at = at + #(found or " ")
+  end
+  return table.concat(parts)
+end
+
+local function is_inside(text, place)
+  return text:find("^" .. REST, place + 1) ~= nil
+end
+
+-- How many bytes two texts have in common at the beginning and at the end, between characters; what is behind the caret counts first.
+local function common(from, to, behind)
+  local most, first, last = math.min(#from, #to), 0, 0
+  local function is_same_end()
+    return from:byte(-1 - last) == to:byte(-1 - last)
+  end
+  while last < math.min(behind, most) and is_same_end() do
+    last = last + 1
+  end
+  while first < most - last and from:byte(first + 1) == to:byte(first + 1) do
+    first = first + 1
+  end
+  while last < most - first and is_same_end() do
+    last = last + 1
+  end
+  while first > 0 and (is_inside(from, first) or is_inside(to, first)) do
+    first = first - 1
+  end
+  while last > 0 and (is_inside(from, #from - last) or is_inside(to, #to - last)) do
+    last = last - 1
+  end
+  return first, last
+end
+
+-- Where two lists of texts differ: of each stretch its bytes before it and its text, in both. `line` makes a text one line. Stretches of as
+-- many texts in both are one for each text if they are `paired`.
+local function stretches(old, new, line, paired)
+  local found, at, place, n, m = {}, 0, 0, 1, 1
+  local function add(removed, put)
+    local from, to = table.concat(old, "", n, n + removed - 1), table.concat(new, "", m, m + put - 1)
+    table.insert(found, { at = at, place = place, from = from, to = to })
+    at, place, n, m = at + #from, place + #to, n + removed, m + put
+  end
+  local function lines(list)
+    return table.concat(vim.tbl_map(line, list))
+  end
+  for _, it in ipairs(vim.diff(lines(old), lines(new), { result_type = "indices" })) do
+    local first, removed, _, put = unpack(it)
+    while n < (removed == 0 and first + 1 or first) do
+      at, place, n, m = at + #old[n], place + #new[m], n + 1, m + 1
+    end
+    if paired and removed == put then
+      for _ = 1, put do
+        add(1, 1)
+      end
+    else
+      add(removed, put)
+    end
+  end
+  return found
+end
+
+local function characters(text)
+  local list = {}
+  for it in text:gmatch("[%z\1-\127\192-\255]" .. REST .. "*") do
+    table.insert(list, it)
+  end
+  return list
+end
+
+-- Adds the changes that lead from a text at a place to another, the last one first.
+local function add_changes(changes, at, from, to, behind)
+  local first, last = common(from, to, behind)
+  from, to, at = from:sub(first + 1, -1 - last), to:sub(first + 1, -1 - last), at + first
+  if from == "" and to == "" then
+    return
+  end
+  local found = { { at = 0, from = from, to = to } }
+  if from ~= "" and to ~= "" and not is_inside(from, 0) and not is_inside(to, 0) then
+    found = stretches(characters(from), characters(to), function(it)
+      return (it == "\n" and "LF" or it) .. "\n"
+    end)
+  end
+  for n = #found, 1, -1 do
+    table.insert(changes, { at + found[n].at, #found[n].from, found[n].to })
+  end
+end
+
+-- The changes that lead from the lines of a text to others, the last one first. There is an LF between lines, and none behind the last one;
+-- before the caret are so many bytes.
+local function changes_of(old, new, caret)
+  local first, last = 0, 0
+  local most = math.min(#old, #new)
+  while first < most and old[first + 1] == new[first + 1] do
+    first = first + 1
+  end
+  while last < most - first and old[#old - last] == new[#new - last] do
+    last = last + 1
+  end
+  local function texts(lines)
+    local list = {}
+    for n = first + 1, #lines - last do
+      table.insert(list, n < #lines and lines[n] .. "\n" or lines[n])
+    end
+    return list
+  end
+  local before = first
+  for n = 1, first do
+    before = before + #old[n]
+  end
+  local found = stretches(texts(old), texts(new), function(it)
+    return it
+  end, true)
+  local changes = {}
+  for n = #found, 1, -1 do
+    local it = found[n]
+    local behind = before + it.place + #it.to - caret
+    add_changes(changes, before + it.at, it.from, it.to, behind <= #it.to and math.max(0, behind) or 0)
+  end
+  return changes
+end
+
+local function is_busy()
+  local mode = api.nvim_get_mode().mode
+  local is_free = mode == "n" or mode == "niI" or mode == "niR" or mode == "i" or mode == "R"
+  return not is_free or vim.fn.pumvisible() == 1
+end
+
+local Room = {}
+Room.__index = Room
+local rooms = {} -- of each buffer
+
+function Room:send(request)
+  local line = vim.json.encode(request):gsub("[\128-\255]+", spelled)
+  self.input:write(line .. "\n")
+end
+
+-- Takes a line of the program: an answer is kept for who waits for it, all else is heard as soon as nothing else is done.
+function Room:receive(line)
+  local told = vim.json.decode(line)
+  if told.state or told.news or told.refused or told.wrong then
+    vim.schedule(function()
+      self:hear(told)
+    end)
+  else
+    self.answer = told
+  end
+end
+
+-- Sends a request and waits for its answer, which has a key. Nothing is typed meanwhile.
+function Room:ask(request, key, milliseconds)
+  self.answer = {}
+  self:send(request)
+  vim.wait(milliseconds or ANSWER, function()
+    return self.answer[key] ~= nil or self.is_over
+  end, 1, true)
+  return self.answer
+end
+
+function Room:hear(told)
+  if not api.nvim_buf_is_loaded(self.buffer) then
+    return
+  elseif told.news then
+    self.has_news = true
+    self:keep_in_step()
+  elseif told.state then
+    self:show(told)
+  else
+    api.nvim_echo({ { "rgatext: " .. (told.refused or told.wrong), "WarningMsg" } }, true, {})
+  end
+end
+
+-- Shows how the session stands: in the status line, by 'modified' and by 'modifiable'.
+function Room:show(told)
+  local scarce = told.left < SCARCE and ("; the room takes %d more changes"):format(told.left) or ""
+  vim.b[self.buffer].rgatext = told.state .. (told.why == "" and "" or ": " .. told.why) .. scarce
+  vim.bo[self.buffer].modified = told.ahead or told.state == "another text" or self.is_due
+  vim.bo[self.buffer].modifiable = told.state ~= "refused" and told.state ~= "closed"
+  vim.cmd("redrawstatus!")
+end
+
+-- The program has ended, and nobody carries changes any more.
+function Room:ends()
+  self.is_over = true
+  if api.nvim_buf_is_loaded(self.buffer) then
+    self:show({ state = "closed", why = "its program has ended", ahead = vim.bo[self.buffer].modified, left = SCARCE })
+  end
+end
+
+-- Sends what was done here and takes what others did, as soon as the editor isn't busy.
+function Room:keep_in_step()
+  if self.is_due then
+    return
+  end
+  self.is_due = true
+  local function does()
+    if api.nvim_buf_is_loaded(self.buffer) and is_busy() then
+      return vim.defer_fn(does, BUSY)
+    end
+    self.is_due = false
+    self:step()
+  end
+  vim.schedule(does)
+end
+
+function Room:step()
+  if self.is_over or not api.nvim_buf_is_loaded(self.buffer) then
+    return
+  end
+  local lines = api.nvim_buf_get_lines(self.buffer, 0, -1, true)
+  for n, it in ipairs(changes_of(self.lines, lines, self:caret())) do
+    self:send({ replace = it, more = n > 1 or nil })
+  end
+  self.lines = lines
+  if self.has_news then
+    self.has_news = false
+    self:play(self:ask({ take = true }, "changes"))
+  end
+end
+
+-- How many bytes stand before the caret of a window.
+function Room:caret(window)
+  local row, column = unpack(api.nvim_win_get_cursor(window or 0))
+  return api.nvim_buf_get_offset(self.buffer, math.min(row, api.nvim_buf_line_count(self.buffer)) - 1) + column
+end
+
+-- The row and the column that have so many bytes before them.
+function Room:position(place)
+  local low, high = 0, api.nvim_buf_line_count(self.buffer) - 1
+  while low < high do
+    local middle = math.ceil((low + high) / 2)
+    if api.nvim_buf_get_offset(self.buffer, middle) <= place then
+      low = middle
+    else
+      high = middle - 1
+    end
+  end
+  return low, place - api.nvim_buf_get_offset(self.buffer, low)
+end
+
+-- Plays changes that the program knows. Carets stay where they are in the text, and their lines where they are seen.
+function Room:play(told)
+  if told.changes == nil then
+    return self:ends()
+  end
+  local views, is_modifiable, is_modified = {}, vim.bo[self.buffer].modifiable, vim.bo[self.buffer].modified
+  for _, window in ipairs(vim.fn.win_findbuf(self.buffer)) do
+    views[window] = { view = api.nvim_win_call(window, vim.fn.winsaveview), caret = self:caret(window) }
+  end
+  vim.bo[self.buffer].modifiable = true
+  for _, it in ipairs(told.changes) do
+    local at, removed, text = unpack(it)
+    local row, column = self:position(at)
+    local last_row, last_column = self:position(at + removed)
+    api.nvim_buf_set_text(self.buffer, row, column, last_row, last_column, vim.split(text, "\n", { plain = true }))
+    for _, seen in pairs(views) do
+      if seen.caret > at then
+        seen.caret = math.max(at, seen.caret - removed)
+        seen.caret = seen.caret > at and seen.caret + #text or seen.caret
+      end
+    end
+  end
+  for window, seen in pairs(views) do
+    local row, column = self:position(window == api.nvim_get_current_win() and told.caret or seen.caret)
+    local view = seen.view
+    view.topline = math.max(1, view.topline + row + 1 - view.lnum)
+    view.lnum, view.col, view.curswant = row + 1, column, column == view.col and view.curswant or nil
+    api.nvim_win_call(window, function()
+      vim.fn.winrestview(view)
+    end)
+  end
+  self.lines = api.nvim_buf_get_lines(self.buffer, 0, -1, true)
+  vim.bo[self.buffer].modifiable, vim.bo[self.buffer].modified = is_modifiable, is_modified
+end
+
+-- Undoes one's own last step, or does it again.
+function Room:turn(does)
+  self:step()
+  for _ = 1, vim.v.count1 do
+    self:play(self:ask({ [does] = true }, "changes"))
+  end
+end
+
+-- Waits until the room has all that was done here, or says what is wrong.
+function Room:write()
+  self:step()
+  if self:ask({ flush = true }, "flushed", SENDING).flushed then
+    vim.bo[self.buffer].modified = false
+  else
+    api.nvim_err_writeln("rgatext: the room doesn't have all of it: " .. vim.b[self.buffer].rgatext)
+  end
+end
+
+-- Leaves the room. The program ends once what is new was sent, in two seconds.
+function Room:leave()
+  self:step()
+  rooms[self.buffer] = nil
+  self:send({ close = true })
+end
+
+-- Opens the room that a buffer is named after.
+local function open(buffer)
+  local address, name = api.nvim_buf_get_name(buffer):match("^(wss?://.+)/([^/]+)$")
+  if not address then
+    return api.nvim_err_writeln("rgatext: a room is ws://HOST:PORT/ROOM")
+  end
+  local self = setmetatable({ buffer = buffer, lines = { "" }, answer = {} }, Room)
+  local input, output, held = vim.loop.new_pipe(), vim.loop.new_pipe(), ""
+  self.input = input
+  local arguments = vim.list_extend(vim.list_extend({}, program), { address, name, "bytes" })
+  local process, why = vim.loop.spawn("node", { args = arguments, stdio = { input, output, nil } }, function()
+    vim.schedule(function()
+      self:ends()
+    end)
+  end)
+  if not process then
+    return api.nvim_err_writeln("rgatext: node can't be started: " .. why)
+  end
+  output:read_start(function(_, block)
+    held = held .. (block or "")
+    for line in held:gmatch("([^\n]*)\n") do
+      self:receive(line)
+    end
+    held = held:match("[^\n]*$")
+  end)
+  rooms[buffer] = self
+  for option, value in pairs({ buftype = "acwrite", swapfile = false, undolevels = -1, fileformat = "unix", modeline = false }) do
+    vim.bo[buffer][option] = value
+  end
+  vim.b[buffer].rgatext = "joining"
+  api.nvim_buf_attach(buffer, false, {
+    on_lines = function()
+      self:keep_in_step()
+    end,
+  })
+  for key, does in pairs({ u = "undo", U = "undo", ["<C-r>"] = "redo" }) do
+    vim.keymap.set("n", key, function()
+      self:turn(does)
+    end, { buffer = buffer })
+  end
+end
+
+-- Does something with the room of the current buffer.
+local function command(name, does)
+  api.nvim_create_user_command(name, function()
+    local room = rooms[api.nvim_get_current_buf()]
+    if not room then
+      return api.nvim_err_writeln("rgatext: this is no room")
+    end
+    room:step()
+    does(room)
+  end, {})
+end
+
+local function list(lines)
+  api.nvim_echo({ { table.concat(lines, "\n") } }, false, {})
+end
+
+command("RgatextUnsent", function(room)
+  list(vim.tbl_map(function(it)
+    return it.kind .. ": " .. it.text
+  end, room:ask({ unsent = true }, "unsent").unsent or {}))
+end)
+command("RgatextOther", function(room)
+  local text = room:ask({ other = true }, "other").other
+  list({ type(text) == "string" and text or "the room has no other text" })
+end)
+command("RgatextTheirs", function(room)
+  room:send({ choose = "theirs" })
+end)
+command("RgatextMine", function(room)
+  room:send({ choose = "mine" })
+end)
+
+local group = api.nvim_create_augroup("rgatext", {})
+local function on(event, does)
+  api.nvim_create_autocmd(event, { group = group, pattern = { "ws://*", "wss://*" }, callback = does })
+end
+on("BufReadCmd", function(it)
+  open(it.buf)
+end)
+on("BufWriteCmd", function(it)
+  if rooms[it.buf] then
+    rooms[it.buf]:write()
+  end
+end)
+on("BufUnload", function(it)
+  if rooms[it.buf] then
+    rooms[it.buf]:leave()
+  end
+end)
+on("BufWinEnter", function()
+  vim.wo.statusline = "%<%f  %{get(b:,'rgatext','')} %m%=%l,%c"
+end)
