@@ -120,7 +120,7 @@ end
 local function changes_of(old, new, caret)
   local first, last = 0, 0
   local most = math.min(#old, #new)
-  while first < most and old[first + 1] == new[first + 1] do
+  while first < most - 1 and old[first + 1] == new[first + 1] do
     first = first + 1
   end
   while last < most - first and old[#old - last] == new[#new - last] do
@@ -237,7 +237,7 @@ function Room:step()
     return
   end
   local lines = api.nvim_buf_get_lines(self.buffer, 0, -1, true)
-  for n, it in ipairs(changes_of(self.lines, lines, self:caret())) do
+  for n, it in ipairs(changes_of(self.lines, lines, self:caret(0))) do
     self:send({ replace = it, more = n > 1 or nil })
   end
   self.lines = lines
@@ -247,10 +247,18 @@ function Room:step()
   end
 end
 
--- How many bytes stand before the caret of a window.
+-- How many bytes stand before a row. (Neovim says -1 where the text is empty.)
+function Room:offset(row)
+  return math.max(0, api.nvim_buf_get_offset(self.buffer, row))
+end
+
+-- How many bytes stand before the caret of a window; none where it shows another buffer.
 function Room:caret(window)
-  local row, column = unpack(api.nvim_win_get_cursor(window or 0))
-  return api.nvim_buf_get_offset(self.buffer, math.min(row, api.nvim_buf_line_count(self.buffer)) - 1) + column
+  if api.nvim_win_get_buf(window) ~= self.buffer then
+    return 0
+  end
+  local row, column = unpack(api.nvim_win_get_cursor(window))
+  return self:offset(row - 1) + column
 end
 
 -- The row and the column that have so many bytes before them.
@@ -258,13 +266,13 @@ function Room:position(place)
   local low, high = 0, api.nvim_buf_line_count(self.buffer) - 1
   while low < high do
     local middle = math.ceil((low + high) / 2)
-    if api.nvim_buf_get_offset(self.buffer, middle) <= place then
+    if self:offset(middle) <= place then
       low = middle
     else
       high = middle - 1
     end
   end
-  return low, place - api.nvim_buf_get_offset(self.buffer, low)
+  return low, place - self:offset(low)
 end
 
 -- Plays changes that the program knows. Carets stay where they are in the text, and their lines where they are seen.
@@ -333,7 +341,7 @@ local function open(buffer)
   if not address then
     return api.nvim_err_writeln("rgatext: a room is ws://HOST:PORT/ROOM")
   end
-  local self = setmetatable({ buffer = buffer, lines = { "" }, answer = {} }, Room)
+  local self = setmetatable({ buffer = buffer, lines = { "" }, answer = {}, is_due = false, is_over = false }, Room)
   local input, output, held = vim.loop.new_pipe(), vim.loop.new_pipe(), ""
   self.input = input
   local arguments = vim.list_extend(vim.list_extend({}, program), { address, name, "bytes" })

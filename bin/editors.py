@@ -1,0 +1,378 @@
+"""What bin/try_editors tries. The arguments are the program and what there is of neovim, emacs and codemirror; and, behind `--picture`, a file
+for a picture."""
+import functools
+import http.server
+import json
+import pathlib
+import random
+import subprocess
+import sys
+import tempfile
+import threading
+import time
+
+from serving import WebSocket, free_port
+from terminals import Emacs, Neovim
+
+TOP = pathlib.Path(__file__).resolve().parent.parent
+PROGRAM, *KINDS = sys.argv[1:]
+OPERATIONS = 131_072  # of a room
+
+
+class Server:
+    """A server that keeps its rooms, and may be killed and started anew at its port."""
+
+    def __init__(self, *rooms):
+        self.rooms, self.port, self.folder = rooms, free_port(), work / "rooms"
+        self.folder.mkdir()
+        self.start()
+
+    def start(self):
+        words = [PROGRAM, "serve", "--port", str(self.port), "--keep", str(self.folder), "--every", "1", *self.rooms]
+        self.child = subprocess.Popen(words, stdout=subprocess.PIPE)
+        assert self.child.stdout.readline() == f"listening {self.port}\n".encode()
+
+    def kill(self):
+        self.child.kill()
+        self.child.wait()
+
+
+class Line:
+    """A line to a room, by which another than the editors asks."""
+
+    def __init__(self, room):
+        self.socket = WebSocket(server.port)
+        self.socket.shake()
+        self.ask(t="open", room=room)
+
+    def ask(self, **request):
+        return json.loads(self.socket.ask(json.dumps(request)))
+
+    def __enter__(self):
+        return self
+
+    def __exit__(self, *_):
+        self.socket.line.close()
+
+
+def room_text(room="notes"):
+    with Line(room) as line:
+        return line.ask(t="read")["x"]
+
+
+def fill(room, text):
+    """Another puts a text in, in parts from the last one to the first."""
+    with Line(room) as line:
+        joined = line.ask(t="join")
+        starts = range(0, len(text), 64)
+        for n, at in enumerate(reversed(starts)):
+            assert line.ask(t="ins", s=joined["s"], n=n + 1, v=joined["v"], k=0, x=text[at : at + 64])["r"] == "ok"
+        line.ask(t="leave", s=joined["s"])
+
+
+def until(is_so, what, seconds=30):
+    end = time.monotonic() + seconds
+    while not is_so():
+        if time.monotonic() > end:
+            told = "\n".join(f"{it.name}: {it.state}: {it.text[:200]!r} of {len(it.text)}" for it in editors)
+            sys.exit("\n".join([f"it didn't come to that: {what}", told, *(it.screen for it in terminals)]))
+        time.sleep(0.1)
+
+
+def same(what, wanted=None, seconds=30):
+    """Waits until all show one text, which the room has."""
+
+    def is_one():
+        texts = {it.text for it in editors} | {room_text()}
+        return len(texts) == 1 and (wanted is None or texts == {wanted})
+
+    until(is_one, what if wanted is None else f"{what}: {wanted[:200]!r}", seconds)
+
+
+def clear(what):
+    terminals[0].clear()
+    same(f"after {what}", "", 60)
+
+
+def of(kind):
+    return [it for it in terminals if isinstance(it, kind)]
+
+
+def one_of_each(room):
+    """An editor of each kind in a room of its own, one after the other."""
+    for kind in {type(it): None for it in terminals}:
+        it = kind(work, f"{room}{kind.__name__}", server.port, room)
+        editors.append(it)
+        until(lambda: it.state.startswith("up to date"), f"{it.name} has joined", 60)
+        yield it
+        editors.remove(it)
+        it.quit()
+
+
+def tries_typing():
+    wanted = ""
+    for it in terminals:
+        it.put(f"{it.name} types é世😀", is_end=True)
+        wanted += f"{it.name} types é世😀"
+        same("what one types", wanted)
+    for it in windows:
+        it.select(0, 0)
+        it.type("in a window ")
+        wanted = "in a window " + wanted
+        same("what one types in a window", wanted)
+    clear("typing")
+
+
+def tries_undo():
+    """Each undoes its own alone, and does it again."""
+    for mine, theirs in zip(terminals, terminals[1:] + terminals[:1]):
+        mine.put("mine ")
+        same("mine", "mine ")
+        theirs.put("THEIRS ")
+        same("theirs", "THEIRS mine ")
+        mine.undo()
+        same("mine is undone", "THEIRS ")
+        mine.redo()
+        same("and done again", "THEIRS mine ")
+        theirs.undo()
+        same("theirs is undone", "mine ")
+        mine.undo()
+        same("both are", "")
+
+
+def tries_lines():
+    """Lines are pasted and deleted; a text may end with an LF or without one."""
+    for it in of(Neovim):
+        it.put("one\rtwo\rthree")
+        same("three lines", "one\ntwo\nthree")
+        for keys, wanted in (
+            ("ggyyP", "one\none\ntwo\nthree"),
+            ("dd", "one\ntwo\nthree"),
+            ("Gdd", "one\ntwo"),
+            ("p", "one\ntwo\nthree"),
+            ("o\x1b", "one\ntwo\nthree\n"),
+            ("dd", "one\ntwo\nthree"),
+            ("ggddGp", "two\nthree\none"),
+            ("ggJ", "two three\none"),
+            ("dG", ""),
+            ("P", "two three\none\n"),
+            ("Gdd", "two three\none"),
+            ("ggVGd", ""),
+        ):
+            it.keys(keys)
+            same(f"{it.name} {keys!r}", wanted)
+        it.keys("i\r\r\x1b")
+        same("two LFs", "\n\n")
+        it.keys("ggdG")
+        same("none", "")
+    for it in of(Emacs):
+        it.put("one\rtwo\rthree")
+        same("three lines", "one\ntwo\nthree")
+        for keys, wanted in (
+            (["M-<", "C-k", "C-k"], "two\nthree"),
+            (["C-y", "C-y"], "one\none\ntwo\nthree"),
+            (["M->", "Enter"], "one\none\ntwo\nthree\n"),
+            (["DC"], "one\none\ntwo\nthree\n"),
+            (["BSpace", "BSpace"], "one\none\ntwo\nthre"),
+            (["C-x", "h", "C-w"], ""),
+            (["C-y"], "one\none\ntwo\nthre"),
+            (["M-<", "C-Space", "M->", "C-w"], ""),
+        ):
+            it.keys(keys)
+            same(f"{it.name} {keys}", wanted)
+
+
+def tries_many_places():
+    """A word is replaced at 2,000 places, and undone as one step."""
+    line = "the cat sat on the mat\n"
+    for it in terminals:
+        text = line * 1_000
+        fill("notes", text)
+        same("2,000 places", text, 60)
+        done = text.replace("the", "some")
+        if isinstance(it, Neovim):
+            it.do("%s/the/some/g")
+        else:
+            it.keys(["M-<", "M-%"], "the", ["Enter"], "some", ["Enter"], "!")
+        same(f"{it.name} replaces at 2,000 places", done, 120)
+        it.undo()
+        same("undone", text, 120)
+        clear("many places")
+
+
+def tries_wide():
+    """Characters that are wide, combine or are composed of several, in folds and where only a part is shown."""
+    for it in of(Neovim):
+        it.put("世界\re\u0301x\r👩‍👩‍👧!\rend")
+        same("wide text", "世界\ne\u0301x\n👩‍👩‍👧!\nend")
+        it.keys("gg0x")
+        same("a wide one is deleted", "界\ne\u0301x\n👩‍👩‍👧!\nend")
+        it.keys("j0x")
+        same("a composed one", "界\nx\n👩‍👩‍👧!\nend")
+        it.do("set foldmethod=manual")
+        it.do("2,3fold")
+        terminals[-1].put("above\r")
+        same("text above a fold", "above\n界\nx\n👩‍👩‍👧!\nend")
+        it.keys("3Gdd")
+        same("a fold is deleted", "above\n界\nend")
+        clear("wide text")
+    for it in of(Emacs):
+        it.put("世界\re\u0301x\rend")
+        same("wide text", "世界\ne\u0301x\nend")
+        it.keys(["M-<", "DC", "C-n", "C-a", "DC"])
+        same("wide ones are deleted", "界\n\u0301x\nend")
+        it.ask("(narrow-to-region 1 2)")
+        terminals[0].put("!", is_end=True)
+        same("text beyond what is shown", "界\n\u0301x\nend!")
+        it.put("<")
+        same("text within", "<界\n\u0301x\nend!")
+        it.ask("(widen)")
+        clear("wide text")
+
+
+def tries_bytes():
+    """CR and NUL are characters; what is no character becomes U+FFFD."""
+    for it in of(Neovim):
+        it.keys("i", ["C-v"], "x0d", ["C-v"], "x00", ["C-v"], "u00e9", ["Escape"])
+        same("CR and NUL", "\r\0é")
+        it.ask("setline(1, \"a\\xff\\xc3é\\xed\\xa0\\x80b\")")
+        same("bytes that are no UTF-8", "a\ufffd\ufffdé\ufffd\ufffd\ufffdb")
+        clear("bytes")
+    for it in of(Emacs):
+        it.keys(["C-q", "C-m", "C-q", "C-Space"], "é")
+        same("CR and NUL", "\r\0é")
+        it.ask('(insert "a" #x3fffff #xd800 "b")')
+        until(lambda: it.text.count("\ufffd") == 2, "raw bytes and surrogates are none")
+        same("bytes")
+        clear("bytes")
+
+
+WORDS = ("alpha", "Beta", "γάμμα", "世界", "😀", "e\u0301")
+NEOVIM = ["gg", "G", "j", "k", "w", "b", "$", "0", "x", "dd", "p", "P", "J", "yy", "~", "D", ">>", "u", "2u", "guu", "vjd", "yip", "dw", "xp", "."]
+NEOVIM += ["i%\x1b", "o%\x1b", "A%\x1b", "O%\x1b", "cw%\x1b", "R%\x1b", "i%\r%\x1b", "ylp", ":s/a/bb/ge\r", ":m0\r", ":t.\r", ":sort\r", "\x12", "\x16jx"]
+EMACS = ["C-n", "C-p", "C-f", "M-f", "M-b", "M-<", "M->", "BSpace", "DC", "C-k", "C-y", "M-d", "C-t", "M-u", "M-c", "C-_", "C-M-_", "M-q", "Enter"]
+
+
+def types_at_random(it, seed):
+    dice = random.Random(seed)
+    for _ in range(60):
+        if isinstance(it, Neovim):
+            it.keys(dice.choice(NEOVIM).replace("%", dice.choice(WORDS)))
+        elif isinstance(it, Emacs):
+            it.keys(*([dice.choice(EMACS)] if dice.random() < 0.6 else dice.choice(WORDS)))
+        else:
+            it.type(dice.choice(WORDS[:4]))
+
+
+def tries_random_typing():
+    for seed in range(3):
+        tasks = [threading.Thread(target=types_at_random, args=(it, 10 * seed + n)) for n, it in enumerate(editors)]
+        for it in tasks:
+            it.start()
+        for it in tasks:
+            it.join()
+        for it in of(Neovim):
+            it.keys(["Escape"])
+        same("all that type at random", seconds=60)
+        clear("random typing")
+
+
+def tries_full_room():
+    """What doesn't fit is taken back, and told; what fits is in the room. A full room is read-only."""
+    lines = OPERATIONS // 64 - 1
+    fill("full", ("x" * 63 + "\n") * lines)
+    left, wanted = 64, ("x" * 63 + "\n") * lines
+    for it in one_of_each("full"):
+        until(lambda: it.text == wanted and f"takes {left} more" in it.state, "a room with few changes left")
+        it.paste("y" * (left + 1))
+        until(lambda: it.text == wanted and f"takes {left} more changes" in it.screen, "what doesn't fit is taken back, and told")
+        it.paste("z" * 10)
+        left, wanted = left - 10, "z" * 10 + wanted
+        until(lambda: it.text == wanted == room_text("full"), "what fits is in the room")
+    for it in one_of_each("full"):
+        if left > 0:
+            it.paste("z" * left)
+        until(lambda: "refused: the room is full" in it.state, "the room is full")
+        wanted, left = "z" * left + wanted, 0
+        it.put("q")
+        time.sleep(0.5)
+        assert it.text == wanted == room_text("full"), "a full room is read-only"
+
+
+def tries_server_that_ends():
+    """What is typed while the server is away is sent once it is back. Who leaves a room that doesn't have all is asked."""
+    terminals[0].put("before ")
+    same("before", "before ")
+    time.sleep(2)
+    server.kill()
+    for it in terminals:
+        until(lambda: it.state.startswith("offline"), f"{it.name} is told")
+        it.put("away ", is_end=True)
+        it.ask_to_leave()
+        until(lambda: it.refuses in it.screen, f"{it.name} asks")
+        it.stay()
+    server.start()
+    same("what all typed meanwhile", "before " + "away " * len(terminals), 60)
+    clear("a server that ends")
+
+
+def tries_leaving():
+    """Who ends its editor leaves the room, with all that was typed right before, and no session is left."""
+    for n, it in enumerate(one_of_each("left")):
+        it.put("last ")
+        it.end()
+        until(lambda: not it.is_there, "it ends")
+        until(lambda: room_text("left") == "last " * (n + 1), "what was typed last is in the room")
+        with Line("left") as line:
+            number = line.ask(t="join")["s"]
+            assert [line.ask(t="leave", s=s)["r"] for s in range(1, number + 1)] == ["no"] * (number - 1) + ["left"], "a session is left"
+
+
+def tries_another_text():
+    """Where the room has another text the user chooses."""
+    for it in one_of_each("another"):
+        for whose, wanted in (("mine", "here"), ("theirs", "there")):
+            it.paste("here")
+            until(lambda: room_text("another") == "here", "a text")
+            server.kill()
+            (server.folder / "another.ops").unlink(missing_ok=True)
+            server.start()
+            fill("another", "there")
+            until(lambda: it.state.startswith("another text"), "another text", 60)
+            assert it.text == "here"
+            it.choose(whose)
+            until(lambda: it.text == wanted == room_text("another") and it.state == "up to date", f"{whose} is taken", 60)
+            it.clear()
+            until(lambda: room_text("another") == "", "none")
+
+
+def serve_pages():
+    pages = http.server.ThreadingHTTPServer(("127.0.0.1", 0), functools.partial(Handler, directory=str(TOP / "examples")))
+    threading.Thread(target=pages.serve_forever, daemon=True).start()
+    return f"http://127.0.0.1:{pages.server_address[1]}"
+
+
+picture = KINDS.pop() if KINDS[-2:-1] == ["--picture"] else None
+work = pathlib.Path(tempfile.mkdtemp())
+editors, windows, terminals = [], [], []
+server = Server("notes", "full", "left", "another")
+try:
+    for kind in (Neovim, Emacs):
+        if kind.__name__.lower() in KINDS:
+            terminals += [kind(work, f"{kind.__name__}{n}", server.port) for n in (1, 2)]
+    if "codemirror" in KINDS:
+        from windows import Handler, Mirror
+
+        windows.append(Mirror(serve_pages(), server.port))
+        windows[0].name = "a window"
+    editors = [*terminals, *windows]
+    until(lambda: all(it.state.startswith("up to date") for it in editors), "all have joined", 60)
+    cases = (tries_typing, tries_undo, tries_lines, tries_wide, tries_bytes, tries_many_places, tries_random_typing)
+    for attempt in (*cases, tries_full_room, tries_leaving, tries_server_that_ends, tries_another_text):
+        began = time.monotonic()
+        attempt()
+        print(f"{attempt.__name__.removeprefix('tries_').replace('_', ' ')}: {time.monotonic() - began:.0f} s", flush=True)
+finally:
+    for it in editors:
+        it.quit()
+    server.kill()

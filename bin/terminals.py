@@ -1,0 +1,163 @@
+"""Editors in terminals of tmux, for bin/try_editors: what is typed are keys, and what each shows is asked of the editor."""
+import json
+import pathlib
+import subprocess
+import time
+
+TOP = pathlib.Path(__file__).resolve().parent.parent
+
+
+class Terminal:
+    """A program in a terminal."""
+
+    def __init__(self, work, name, command):
+        self.work, self.name, self.tmux = work, name, ["tmux", "-f", "/dev/null", "-S", str(work / "tmux")]
+        self.file = work / f"{name}.text"
+        words = [*self.tmux, "new-session", "-d", "-s", name, "-x", "80", "-y", "20", "env", "TERM=tmux-256color", "LC_ALL=C.UTF-8", *command]
+        subprocess.run(words, check=True)
+
+    def run(self, *words):
+        return subprocess.run([*self.tmux, *words, "-t", self.name], capture_output=True, text=True)
+
+    def keys(self, *keys):
+        """Types keys: a text as it is, and keys of tmux in lists."""
+        for it in keys:
+            words = ["send-keys", "-t", self.name, *([*it] if isinstance(it, list) else ["-l", "--", it])]
+            subprocess.run([*self.tmux, *words], check=True)
+            time.sleep(0.05)
+
+    @property
+    def screen(self):
+        return self.run("capture-pane", "-p").stdout
+
+    @property
+    def is_there(self):
+        return self.run("has-session").returncode == 0
+
+    def asked(self, words):
+        run = subprocess.run(words, stdin=subprocess.DEVNULL, stdout=subprocess.PIPE, stderr=subprocess.STDOUT, text=True, timeout=20)
+        return run.stdout.strip()
+
+    def read(self):
+        return self.file.read_text(encoding="utf-8", errors="surrogateescape") if self.file.exists() else ""
+
+    def quit(self):
+        self.run("kill-session")
+
+
+class Neovim(Terminal):
+    """A room in Neovim. It is in normal mode between what is typed."""
+
+    def __init__(self, work, name, port, room="notes"):
+        self.socket = work / f"{name}.socket"
+        path = f"set runtimepath^={TOP}/clients/neovim"
+        super().__init__(work, name, ["nvim", "--clean", "--listen", str(self.socket), "--cmd", path, f"ws://127.0.0.1:{port}/{room}"])
+
+    def ask(self, expression):
+        if not self.socket.exists():
+            return ""
+        return self.asked(["nvim", "--headless", "--server", str(self.socket), "--remote-expr", expression])
+
+    @property
+    def text(self):
+        self.ask(f"writefile(getline(1, '$'), '{self.file}', 'bS')")
+        return self.read()
+
+    @property
+    def state(self):
+        return self.ask("b:rgatext")
+
+    def do(self, command):
+        """Does a command of the command line."""
+        self.keys(":" + command, ["Enter"])
+
+    def put(self, text, is_end=False):
+        """Types a text at the beginning, or at the end."""
+        self.keys("GA" if is_end else "gg0i", text, ["Escape"])
+
+    def undo(self):
+        self.keys("u")
+
+    def redo(self):
+        self.keys(["C-r"])
+
+    def paste(self, text):
+        """Puts a text in at the beginning, in one piece."""
+        self.ask(f"setreg('a', '{text}')")
+        self.keys('gg0"aP')
+
+    def clear(self):
+        self.do("%d _")
+
+    refuses = "E37"
+
+    def ask_to_leave(self):
+        self.do("quit")
+
+    def stay(self):
+        self.keys(["Enter"])
+
+    def end(self):
+        self.do("wq")
+
+    def choose(self, whose):
+        self.do(f"Rgatext{whose.capitalize()}")
+
+
+class Emacs(Terminal):
+    """A room in Emacs."""
+
+    def __init__(self, work, name, port, room="notes"):
+        self.socket, self.buffer = work / f"{name}.socket", f"ws://127.0.0.1:{port}/{room}"
+        began = f'(progn (setq server-name "{self.socket}" ring-bell-function #\'ignore) (server-start) (rgatext "ws://127.0.0.1:{port}" "{room}"))'
+        super().__init__(work, name, ["emacs", "-nw", "-Q", "-l", str(TOP / "clients" / "emacs" / "rgatext.el"), "--eval", began])
+
+    def ask(self, expression):
+        return self.asked(["emacsclient", "-s", str(self.socket), "-e", f'(with-current-buffer "{self.buffer}" {expression})'])
+
+    @property
+    def text(self):
+        save = f'(write-region 1 (1+ (buffer-size)) "{self.file}" nil 0)'
+        self.ask(f"(save-restriction (widen) (let ((coding-system-for-write 'utf-8-unix)) {save}))")
+        return self.read()
+
+    @property
+    def state(self):
+        told = self.ask("(substring (rgatext--told) 1)")
+        return json.loads(told) if told.startswith('"') else told
+
+    def do(self, command):
+        """Does a command by its name."""
+        self.keys(["M-x"], command, ["Enter"])
+
+    def put(self, text, is_end=False):
+        """Types a text at the beginning, or at the end."""
+        self.keys(["M->" if is_end else "M-<"], text)
+
+    def undo(self):
+        self.keys(["C-_"])
+
+    def redo(self):
+        self.keys(["C-M-_"])
+
+    def paste(self, text):
+        """Puts a text in at the beginning, in one piece."""
+        self.ask(f'(kill-new "{text}")')
+        self.keys(["M-<", "C-y"])
+
+    def clear(self):
+        self.keys(["C-x"], "h", ["DC"])
+
+    refuses = "isn't in the room. Leave it?"
+
+    def ask_to_leave(self):
+        self.keys(["C-x"], "k", ["Enter"])
+
+    def stay(self):
+        self.keys("no", ["Enter"])
+
+    def end(self):
+        self.keys(["C-x", "C-c"])
+
+    def choose(self, whose):
+        self.do({"mine": "rgatext-put-mine", "theirs": "rgatext-take-theirs"}[whose])
