@@ -39,7 +39,7 @@ class Terminal:
         return run.stdout.strip()
 
     def read(self):
-        return self.file.read_text(encoding="utf-8", errors="surrogateescape") if self.file.exists() else ""
+        return self.file.read_bytes().decode(errors="surrogateescape") if self.file.exists() else ""
 
     def quit(self):
         self.run("kill-session")

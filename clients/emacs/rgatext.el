@@ -7,6 +7,7 @@
 ;;; Code:
 
 (require 'cl-lib)
+(require 'json)
 
 (defvar rgatext-node '("node" "--experimental-websocket" "--no-warnings")
   "How Node is started.")
@@ -35,6 +36,14 @@
   "Send a REQUEST, a list of keys and values."
   (process-send-string (rgatext--room-process rgatext--room) (concat (json-serialize request) "\n")))
 
+(defun rgatext--parse (line)
+  "The object of a LINE. Emacs's own parser takes no NUL in a text before Emacs 30."
+  (condition-case nil
+      (json-parse-string line :object-type 'plist :array-type 'list :null-object nil :false-object nil)
+    (json-parse-error
+     (let ((json-object-type 'plist) (json-array-type 'list) (json-null nil) (json-false nil))
+       (json-read-from-string line)))))
+
 (defun rgatext--receive (process output)
   "Hear each whole line of the OUTPUT of a PROCESS."
   (when (buffer-live-p (process-buffer process))
@@ -42,7 +51,7 @@
       (let ((lines (split-string (concat (rgatext--room-held rgatext--room) output) "\n")))
         (setf (rgatext--room-held rgatext--room) (car (last lines)))
         (dolist (line (butlast lines))
-          (rgatext--hear (json-parse-string line :object-type 'plist :array-type 'list :null-object nil :false-object nil)))))))
+          (rgatext--hear (rgatext--parse line)))))))
 
 (defun rgatext--hear (told)
   "Do what a line asks that was TOLD."
@@ -57,7 +66,8 @@
 (defun rgatext--ask (seconds key &rest request)
   "Send a REQUEST, and wait some SECONDS for its answer, which has a KEY. Nothing is typed meanwhile."
   (let ((room rgatext--room)
-        (end (+ (float-time) seconds)))
+        (end (+ (float-time) seconds))
+        (inhibit-quit t))
     (setf (rgatext--room-answer room) nil)
     (apply #'rgatext--send request)
     (while (and (not (plist-member (rgatext--room-answer room) key))
@@ -90,8 +100,17 @@
   "What is changed next isn't of the same command."
   (setf (rgatext--room-is-more rgatext--room) nil))
 
+(defun rgatext--ask-changes (key)
+  "Ask for changes by a KEY, and make them, which the program knows. Point and markers stay where they are in the text.
+The value is the answer."
+  (let ((answer (rgatext--ask 30 :changes key t)))
+    (if (plist-member answer :changes)
+        (rgatext--play (plist-get answer :changes))
+      (delete-process (rgatext--room-process rgatext--room))) ; what it may have told isn't known
+    answer))
+
 (defun rgatext--play (changes)
-  "Make CHANGES that the program knows. Point and markers stay where they are in the text."
+  "Make CHANGES that the program knows."
   (let ((is-modified (buffer-modified-p))
         (inhibit-read-only t)
         (inhibit-modification-hooks nil)
@@ -114,16 +133,14 @@
   (when (buffer-live-p buffer)
     (with-current-buffer buffer
       (setf (rgatext--room-is-taking rgatext--room) nil)
-      (rgatext--play (plist-get (rgatext--ask 2 :changes :take t) :changes)))))
+      (rgatext--ask-changes :take))))
 
 (defun rgatext--turn (key times)
   "Ask KEY so many TIMES, which is `:undo' or `:redo', and go where something changed."
   (barf-if-buffer-read-only)
   (dotimes (_ times)
-    (let ((answer (rgatext--ask 2 :changes key t)))
-      (rgatext--play (plist-get answer :changes))
-      (when (plist-get answer :caret)
-        (goto-char (1+ (plist-get answer :caret)))))))
+    (let ((caret (plist-get (rgatext--ask-changes key) :caret)))
+      (when caret (goto-char (1+ caret))))))
 
 (defun rgatext-undo (times)
   "Undo one's own last step in the room, so many TIMES."
@@ -181,13 +198,13 @@
 (defun rgatext-unsent ()
   "Show what was done here and the room isn't known to have."
   (interactive)
-  (let ((unsent (plist-get (rgatext--ask 2 :unsent :unsent t) :unsent)))
+  (let ((unsent (plist-get (rgatext--ask 30 :unsent :unsent t) :unsent)))
     (message "%s" (mapconcat (lambda (it) (format "%s: %s" (plist-get it :kind) (plist-get it :text))) unsent "\n"))))
 
 (defun rgatext-other ()
   "Show the text of the room, where it is another one."
   (interactive)
-  (message "%s" (or (plist-get (rgatext--ask 2 :other :other t) :other) "The room has no other text")))
+  (message "%s" (or (plist-get (rgatext--ask 30 :other :other t) :other) "The room has no other text")))
 
 (defun rgatext-take-theirs ()
   "Take the text of the room in place of what is shown."

@@ -68,7 +68,7 @@ export class EditorText {
    * The editor has changed its text. `make` changes the session's as well: by a list of changes, from the last place to the first. Where it
    * throws, none of them was made, and what the editor did is to be taken back.
    * @param {Change} change
-   * @param {(changes: Change[]) => void} make
+   * @param {(changes: (Change & {taken: string})[]) => void} make
    */
   replace({ at, removed, text }, make) {
     const taken = this.#textOf("editor", this.#within("editor", at, removed));
@@ -87,18 +87,20 @@ export class EditorText {
     this.#insert(index, put);
   }
 
-  /** The changes of the session's text that take pieces out and put a text in, from the last place to the first. */
+  /** The changes of the session's text that take pieces out and put a text in, from the last place to the first, with what they take out. */
   #changes(index, out, text) {
-    /** @type {Change[]} */
+    /** @type {(Change & {taken: string})[]} */
     const changes = [];
     let place = 0;
     for (let n = 0; n <= this.#pieces.length; n += 1) {
       const piece = this.#pieces[n];
-      if (n === index && text !== "") changes.unshift({ at: place, removed: 0, text });
+      if (n === index && text !== "") changes.unshift({ at: place, removed: 0, text, taken: "" });
       if (piece === undefined || !piece.isOf("session")) continue;
       if (out.includes(piece)) {
-        if (changes.length === 0 || changes[0].at + changes[0].removed < place) changes.unshift({ at: place, removed: 0, text: "" });
+        const goesOn = changes.length > 0 && changes[0].at + changes[0].removed === place;
+        if (!goesOn) changes.unshift({ at: place, removed: 0, text: "", taken: "" });
         changes[0].removed += piece.text.length;
+        changes[0].taken += piece.text;
       }
       place += piece.text.length;
     }
@@ -134,17 +136,16 @@ export class EditorText {
     }
   }
 
-  /** Puts pieces in, and joins neighbours of one kind. */
+  /** Puts pieces in, and joins neighbours of one kind there. */
   #insert(index, pieces) {
-    this.#pieces.splice(index, 0, ...pieces);
-    /** @type {Piece[]} */
-    const joined = [];
-    for (const piece of this.#pieces) {
-      if (piece.text === "") continue;
-      if (joined.at(-1)?.owner === piece.owner) joined.at(-1).text += piece.text;
-      else joined.push(piece);
+    const put = pieces.filter((it) => it.text !== "");
+    this.#pieces.splice(index, 0, ...put);
+    for (let n = index + put.length; n >= Math.max(1, index); n -= 1) {
+      const [left, right] = [this.#pieces[n - 1], this.#pieces[n]];
+      if (right === undefined || left.owner !== right.owner) continue;
+      left.text += right.text;
+      this.#pieces.splice(n, 1);
     }
-    this.#pieces = joined;
   }
 
   /** The pieces of a text that are so many units of it from a place on. */

@@ -46,7 +46,7 @@ class Conversation {
     this.#tellState();
   }
 
-  /** What the lines ask, by their first key: whether its value is right, and what is done. */
+  /** What a line asks, by its key: whether the value is right, and what is done. */
   #asks = {
     replace: [isChange, (change, isMore) => this.#replace(change, isMore)],
     take: [isTrue, () => tell({ changes: this.#take() })],
@@ -76,14 +76,14 @@ class Conversation {
   }
 
   #obey(line) {
-    const request = parsed(line);
-    const [[key, value], ...others] = Object.entries(request);
+    const { more, ...request } = parsed(line);
+    const [[key, value] = ["more", more], ...others] = Object.entries(request);
     if (!Object.hasOwn(this.#asks, key)) throw new Wrong(`it asks for nothing that is known: ${key}`);
     const [isRight, does] = this.#asks[key];
+    const isMoreRight = more === undefined || (typeof more === "boolean" && key === "replace");
+    if (others.length > 0 || !isMoreRight) throw new Wrong(`a key is too many: ${others.length > 0 ? others[0][0] : "more"}`);
     if (!isRight(value)) throw new Wrong(`the value of ${key} isn't as it should be`);
-    const isMore = key === "replace" && others.length === 1 && others[0][0] === "more" && isTrue(others[0][1]);
-    if (others.length > 0 && !isMore) throw new Wrong(`a key too many: ${others[0][0]}`);
-    does(value, isMore);
+    does(value, more === true);
   }
 
   /** The editor has changed its text. */
@@ -99,9 +99,8 @@ class Conversation {
 
   /** Makes changes of the session's text, from the last place to the first: all of them or none. */
   #make(changes, isMore) {
-    mustFit(this.#session, changes);
-    for (const [n, { at, removed, text }] of changes.entries()) {
-      const taken = this.#session.text.slice(at, at + removed);
+    if (changes.length > 1) mustFit(this.#session, changes);
+    for (const [n, { at, removed, text, taken }] of changes.entries()) {
       this.#undo.note(this.#session.replace(at, removed, text), taken, Date.now(), isMore || n > 0);
     }
   }

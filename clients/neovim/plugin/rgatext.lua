@@ -3,8 +3,8 @@ local api = vim.api
 local folder = vim.fn.fnamemodify(debug.getinfo(1, "S").source:sub(2), ":p:h:h:h")
 local program = { "--experimental-websocket", "--no-warnings", folder .. "/stdio/rgatext-stdio.mjs" }
 
--- Milliseconds: until an answer is missed, until the room has all that is new, and until a busy editor is looked at again.
-local ANSWER, SENDING, BUSY = 2000, 5000, 50
+-- Milliseconds: until the program is given up, until the room has all that is new, and until a busy editor is looked at again.
+local ANSWER, SENDING, BUSY = 30000, 5000, 50
 local SCARCE = 13107 -- so many changes before a room is full it is told
 
 -- The characters of UTF-8 that have more than one byte (RFC 3629).
@@ -180,9 +180,13 @@ end
 function Room:ask(request, key, milliseconds)
   self.answer = {}
   self:send(request)
-  vim.wait(milliseconds or ANSWER, function()
+  local function is_done()
     return self.answer[key] ~= nil or self.is_over
-  end, 1, true)
+  end
+  local till = vim.loop.now() + (milliseconds or ANSWER)
+  while not is_done() and vim.loop.now() < till do
+    vim.wait(till - vim.loop.now(), is_done, 1, true) -- (which CTRL-C ends)
+  end
   return self.answer
 end
 
@@ -210,7 +214,6 @@ end
 
 -- The program has ended, and nobody carries changes any more.
 function Room:ends()
-  self.is_over = true
   if api.nvim_buf_is_loaded(self.buffer) then
     self:show({ state = "closed", why = "its program has ended", ahead = vim.bo[self.buffer].modified, left = SCARCE })
   end
@@ -278,7 +281,7 @@ end
 -- Plays changes that the program knows. Carets stay where they are in the text, and their lines where they are seen.
 function Room:play(told)
   if told.changes == nil then
-    return self:ends()
+    return self.process:kill("sigterm") -- what it may have told isn't known
   end
   local views, is_modifiable, is_modified = {}, vim.bo[self.buffer].modifiable, vim.bo[self.buffer].modified
   for _, window in ipairs(vim.fn.win_findbuf(self.buffer)) do
@@ -345,12 +348,14 @@ local function open(buffer)
   local input, output, held = vim.loop.new_pipe(), vim.loop.new_pipe(), ""
   self.input = input
   local arguments = vim.list_extend(vim.list_extend({}, program), { address, name, "bytes" })
-  local process, why = vim.loop.spawn("node", { args = arguments, stdio = { input, output, nil } }, function()
+  local why
+  self.process, why = vim.loop.spawn("node", { args = arguments, stdio = { input, output, nil } }, function()
+    self.is_over = true
     vim.schedule(function()
       self:ends()
     end)
   end)
-  if not process then
+  if not self.process then
     return api.nvim_err_writeln("rgatext: node can't be started: " .. why)
   end
   output:read_start(function(_, block)
