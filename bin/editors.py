@@ -75,7 +75,7 @@ def until(is_so, what, seconds=30):
     while not is_so():
         if time.monotonic() > end:
             told = "\n".join(f"{it.name}: {it.state}: {it.text[:200]!r} of {len(it.text)}" for it in editors)
-            sys.exit("\n".join([f"it didn't come to that: {what}", told, *(it.screen for it in terminals)]))
+            sys.exit("\n".join([f"it didn't come to that: {what}", told, *(it.screen for it in editors if it not in windows)]))
         time.sleep(0.1)
 
 
@@ -103,7 +103,7 @@ def one_of_each(room):
     for kind in {type(it): None for it in terminals}:
         it = kind(work, f"{room}{kind.__name__}", server.port, room)
         editors.append(it)
-        until(lambda: it.state.startswith("up to date"), f"{it.name} has joined", 60)
+        until(lambda: it.state not in ("", "joining"), f"{it.name} has joined", 60)
         yield it
         editors.remove(it)
         it.quit()

@@ -165,8 +165,8 @@ The value is the answer."
   "What the mode line tells of the room."
   (let ((told (rgatext--room-state rgatext--room)))
     (concat " " (plist-get told :state)
-            (unless (equal (plist-get told :why) "") (concat ": " (plist-get told :why)))
-            (when (< (plist-get told :left) rgatext--scarce) (format "; the room takes %d more changes" (plist-get told :left))))))
+            (cond ((not (equal (plist-get told :why) "")) (concat ": " (plist-get told :why)))
+                  ((< (plist-get told :left) rgatext--scarce) (format "; the room takes %d more changes" (plist-get told :left)))))))
 
 (defun rgatext--ended (process _)
   "The program of a PROCESS has ended, and nobody carries changes any more."

@@ -205,7 +205,7 @@ end
 
 -- Shows how the session stands: in the status line, by 'modified' and by 'modifiable'.
 function Room:show(told)
-  local scarce = told.left < SCARCE and ("; the room takes %d more changes"):format(told.left) or ""
+  local scarce = told.why == "" and told.left < SCARCE and ("; the room takes %d more changes"):format(told.left) or ""
   vim.b[self.buffer].rgatext = told.state .. (told.why == "" and "" or ": " .. told.why) .. scarce
   vim.bo[self.buffer].modified = told.ahead or told.state == "another text" or self.is_due
   vim.bo[self.buffer].modifiable = told.state ~= "refused" and told.state ~= "closed"
@@ -359,11 +359,11 @@ local function open(buffer)
     return api.nvim_err_writeln("rgatext: node can't be started: " .. why)
   end
   output:read_start(function(_, block)
-    held = held .. (block or "")
-    for line in held:gmatch("([^\n]*)\n") do
+    local lines = vim.split(held .. (block or ""), "\n", { plain = true })
+    held = table.remove(lines)
+    for _, line in ipairs(lines) do
       self:receive(line)
     end
-    held = held:match("[^\n]*$")
   end)
   rooms[buffer] = self
   for option, value in pairs({ buftype = "acwrite", swapfile = false, undolevels = -1, fileformat = "unix", modeline = false }) do
