@@ -109,6 +109,24 @@ def one_of_each(room):
         it.quit()
 
 
+def tries_page():
+    """The conversation of clients/stdio/README.md, byte for byte, with a room in which another has typed a word."""
+    fill("page", "world")
+    folder = TOP / "clients" / "stdio"
+    words = ["node", "--experimental-websocket", "--no-warnings", str(folder / "rgatext-stdio.mjs"), f"ws://127.0.0.1:{server.port}", "page"]
+    program = subprocess.Popen(words, stdin=subprocess.PIPE, stdout=subprocess.PIPE)
+    lines = (folder / "README.md").read_text(encoding="utf-8").split("```")[1].strip().splitlines()
+    for line in lines:
+        if line.startswith("> "):
+            program.stdin.write(line[2:].encode() + b"\n")
+            program.stdin.flush()
+        else:
+            told = program.stdout.readline().decode()
+            assert told == line[2:] + "\n", f"{told}, and not {line[2:]}"
+    assert len(lines) > 5 and (program.stdout.read(), program.wait(10)) == (b"", 0)
+    assert room_text("page") == "Hello, world"
+
+
 def tries_typing():
     wanted = ""
     for it in terminals:
@@ -355,7 +373,7 @@ def serve_pages():
 picture = KINDS.pop() if KINDS[-2:-1] == ["--picture"] else None
 work = pathlib.Path(tempfile.mkdtemp())
 editors, windows, terminals = [], [], []
-server = Server("notes", "full", "left", "another")
+server = Server("notes", "page", "full", "left", "another")
 try:
     for kind in (Neovim, Emacs):
         if kind.__name__.lower() in KINDS:
@@ -367,7 +385,7 @@ try:
         windows[0].name = "a window"
     editors = [*terminals, *windows]
     until(lambda: all(it.state.startswith("up to date") for it in editors), "all have joined", 60)
-    cases = (tries_typing, tries_undo, tries_lines, tries_wide, tries_bytes, tries_many_places, tries_random_typing)
+    cases = (tries_page, tries_typing, tries_undo, tries_lines, tries_wide, tries_bytes, tries_many_places, tries_random_typing)
     for attempt in (*cases, tries_full_room, tries_leaving, tries_server_that_ends, tries_another_text):
         began = time.monotonic()
         attempt()
