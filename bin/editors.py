@@ -265,6 +265,51 @@ def tries_bytes():
         clear("bytes")
 
 
+def tries_waiting():
+    """While Neovim's user selects, or sees what a command would do, others' changes wait, and nothing is sent."""
+    for it in of(Neovim):
+        other = next(o for o in terminals if o is not it)
+        it.put("one two")
+        same("a text", "one two")
+        for keys in ("ggv$", ":%s/one/three"):
+            it.keys(keys)
+            other.put("> ")
+            time.sleep(3)
+            wanted = room_text()
+            assert wanted == "> one two" and it.text != wanted and "> " not in it.screen, it.screen
+            it.keys(["Escape"])
+            same("it comes", wanted)
+            other.undo()
+            same("undone", "one two")
+        clear("waiting")
+
+
+def tries_commands():
+    """What is unsent is shown, a copy is saved as it is, and a room is opened anew."""
+    for it in one_of_each("left"):
+        it.clear()
+        it.paste("a\nb\n")
+        until(lambda: room_text("left") == "a\nb\n", "two lines")
+        server.kill()
+        until(lambda: it.state.startswith("offline"), f"{it.name} is told")
+        it.put("unsent ")
+        it.do({Neovim: "RgatextUnsent", Emacs: "rgatext-unsent"}[type(it)])
+        until(lambda: "put in: unsent" in it.screen, "what is unsent")
+        server.start()
+        until(lambda: room_text("left") == "unsent a\nb\n" and it.state == "up to date", "it is sent", 60)
+        if isinstance(it, Neovim):
+            it.do(f"w {work}/copy")
+            until(lambda: (work / "copy").exists() and (work / "copy").read_text() == "unsent a\nb\n", "a copy")
+            it.do("edit!")
+            until(lambda: it.text == "unsent a\nb\n" and it.state == "up to date", "opened anew")
+        else:
+            it.do("text-mode")
+            it.put("typed ")
+            until(lambda: room_text("left") == "typed unsent a\nb\n", "another major mode")
+        it.clear()
+        until(lambda: room_text("left") == "", "none")
+
+
 WORDS = ("alpha", "Beta", "γάμμα", "世界", "😀", "e\u0301")
 NEOVIM = ["gg", "G", "j", "k", "w", "b", "$", "0", "x", "dd", "p", "P", "J", "yy", "~", "D", ">>", "u", "2u", "guu", "vjd", "yip", "dw", "xp", "."]
 NEOVIM += ["i%\x1b", "o%\x1b", "A%\x1b", "O%\x1b", "cw%\x1b", "R%\x1b", "i%\r%\x1b", "ylp", ":s/a/bb/ge\r", ":m0\r", ":t.\r", ":sort\r", "\x12", "\x16jx"]
@@ -386,7 +431,8 @@ try:
     editors = [*terminals, *windows]
     until(lambda: all(it.state.startswith("up to date") for it in editors), "all have joined", 60)
     cases = (tries_page, tries_typing, tries_undo, tries_lines, tries_wide, tries_bytes, tries_many_places, tries_random_typing)
-    for attempt in (*cases, tries_full_room, tries_leaving, tries_server_that_ends, tries_another_text):
+    cases += (tries_waiting, tries_full_room, tries_leaving, tries_commands, tries_server_that_ends, tries_another_text)
+    for attempt in cases:
         began = time.monotonic()
         attempt()
         print(f"{attempt.__name__.removeprefix('tries_').replace('_', ' ')}: {time.monotonic() - began:.0f} s", flush=True)

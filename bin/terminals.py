@@ -65,7 +65,7 @@ class Neovim(Terminal):
 
     @property
     def state(self):
-        return self.ask("b:rgatext")
+        return self.ask("get(b:, 'rgatext', '')")
 
     def do(self, command):
         """Does a command of the command line."""
@@ -83,7 +83,7 @@ class Neovim(Terminal):
 
     def paste(self, text):
         """Puts a text in at the beginning, in one piece."""
-        self.ask(f"setreg('a', '{text}')")
+        self.ask(f"setreg('a', {json.dumps(text)})")
         self.keys('gg0"aP')
 
     def clear(self):
@@ -124,7 +124,7 @@ class Emacs(Terminal):
     @property
     def state(self):
         told = self.ask("(substring (rgatext--told) 1)")
-        return json.loads(told) if told.startswith('"') else told
+        return json.loads(told) if told.startswith('"') else ""
 
     def do(self, command):
         """Does a command by its name."""
@@ -142,11 +142,12 @@ class Emacs(Terminal):
 
     def paste(self, text):
         """Puts a text in at the beginning, in one piece."""
-        self.ask(f'(kill-new "{text}")')
+        self.ask(f"(kill-new {json.dumps(text)})")
         self.keys(["M-<", "C-y"])
 
     def clear(self):
-        self.keys(["C-x"], "h", ["DC"])
+        if self.text != "":  # (an error would throw away the keys that follow)
+            self.keys(["C-x"], "h", ["DC"])
 
     refuses = "isn't in the room. Leave it?"
 

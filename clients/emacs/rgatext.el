@@ -57,11 +57,17 @@
   "Do what a line asks that was TOLD."
   (cond ((plist-get told :state) (rgatext--show told))
         ((plist-get told :refused) (message "rgatext: %s" (plist-get told :refused)))
-        ((plist-get told :wrong) (message "rgatext: %s" (plist-get told :wrong)))
+        ((plist-get told :wrong)
+         (message "rgatext: %s" (plist-get told :wrong))
+         (rgatext--give-up))
         ((not (plist-get told :news)) (setf (rgatext--room-answer rgatext--room) told))
         ((not (rgatext--room-is-taking rgatext--room))
          (setf (rgatext--room-is-taking rgatext--room) t)
          (run-with-timer 0 nil #'rgatext--take (current-buffer)))))
+
+(defun rgatext--give-up ()
+  "End the program: what it has isn't known any more."
+  (process-send-eof (rgatext--room-process rgatext--room)))
 
 (defun rgatext--ask (seconds key &rest request)
   "Send a REQUEST, and wait some SECONDS for its answer, which has a KEY. Nothing is typed meanwhile."
@@ -106,7 +112,7 @@ The value is the answer."
   (let ((answer (rgatext--ask 30 :changes key t)))
     (if (plist-member answer :changes)
         (rgatext--play (plist-get answer :changes))
-      (delete-process (rgatext--room-process rgatext--room))) ; what it may have told isn't known
+      (rgatext--give-up))
     answer))
 
 (defun rgatext--play (changes)

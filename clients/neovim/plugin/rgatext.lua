@@ -200,7 +200,15 @@ function Room:hear(told)
     self:show(told)
   else
     api.nvim_echo({ { "rgatext: " .. (told.refused or told.wrong), "WarningMsg" } }, true, {})
+    if told.wrong then
+      self:give_up()
+    end
   end
+end
+
+-- What the program has isn't known any more.
+function Room:give_up()
+  self.process:kill("sigterm")
 end
 
 -- Shows how the session stands: in the status line, by 'modified' and by 'modifiable'.
@@ -281,7 +289,7 @@ end
 -- Plays changes that the program knows. Carets stay where they are in the text, and their lines where they are seen.
 function Room:play(told)
   if told.changes == nil then
-    return self.process:kill("sigterm") -- what it may have told isn't known
+    return self:give_up()
   end
   local views, is_modifiable, is_modified = {}, vim.bo[self.buffer].modifiable, vim.bo[self.buffer].modified
   for _, window in ipairs(vim.fn.win_findbuf(self.buffer)) do
@@ -366,7 +374,7 @@ local function open(buffer)
     end
   end)
   rooms[buffer] = self
-  for option, value in pairs({ buftype = "acwrite", swapfile = false, undolevels = -1, fileformat = "unix", modeline = false }) do
+  for option, value in pairs({ swapfile = false, undolevels = -1, fileformat = "unix", fixendofline = false, endofline = false }) do
     vim.bo[buffer][option] = value
   end
   vim.b[buffer].rgatext = "joining"
