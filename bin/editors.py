@@ -1,5 +1,5 @@
-"""What bin/try_editors tries. The arguments are the program and what there is of neovim, emacs and codemirror; and, behind `--picture`, a file
-for a picture."""
+"""What bin/try_editors tries. The arguments are the program, where to save a picture or an empty text, and what there is of neovim, emacs and
+codemirror."""
 import functools
 import http.server
 import json
@@ -12,10 +12,11 @@ import threading
 import time
 
 from serving import WebSocket, free_port
+from terminal_picture import terminal_html
 from terminals import Emacs, Neovim
 
 TOP = pathlib.Path(__file__).resolve().parent.parent
-PROGRAM, *KINDS = sys.argv[1:]
+PROGRAM, PICTURE, *KINDS = sys.argv[1:]
 OPERATIONS = 131_072  # of a room
 
 
@@ -202,20 +203,15 @@ def tries_lines():
 
 def tries_many_places():
     """A word is replaced at 2,000 places, and undone as one step."""
-    line = "the cat sat on the mat\n"
-    for it in terminals:
-        text = line * 1_000
-        fill("notes", text)
-        same("2,000 places", text, 60)
-        done = text.replace("the", "some")
-        if isinstance(it, Neovim):
-            it.do("%s/the/some/g")
-        else:
-            it.keys(["M-<", "M-%"], "the", ["Enter"], "some", ["Enter"], "!")
-        same(f"{it.name} replaces at 2,000 places", done, 120)
-        it.undo()
-        same("undone", text, 120)
-        clear("many places")
+    text = "the cat the\n" * 1_000
+    done = text.replace("the", "some")
+    fill("many", text)
+    for it in one_of_each("many"):
+        for turn, wanted in ((it.replace, done), (it.undo, text)):
+            began = time.monotonic()
+            turn()
+            until(lambda: it.text == wanted == room_text("many"), f"2,000 places: {turn.__name__}", 120)
+            print(f"{it.name}: {turn.__name__} at 2,000 places: {time.monotonic() - began:.1f} s until the room has it")
 
 
 def tries_wide():
@@ -415,10 +411,41 @@ def serve_pages():
     return f"http://127.0.0.1:{pages.server_address[1]}"
 
 
-picture = KINDS.pop() if KINDS[-2:-1] == ["--picture"] else None
+def save_picture():
+    """One of each editor, and the window, with a text that all of them typed."""
+    shown = [of(Neovim)[0], of(Emacs)[0]]
+    shown[0].put("One document in Neovim, Emacs and a page.\r", is_end=True)
+    same("a line")
+    shown[1].put("What each of them types shows in all: é, 世界, 😀.\r", is_end=True)
+    same("another line")
+    window = windows[0]
+    end = len(window.text.encode("utf-16-le")) // 2
+    window.select(end, end)
+    window.type("And each undoes its own alone.")
+    same("a picture")
+    until(lambda: all(it.state == "up to date" for it in editors), "all is sent")
+
+    def fit(width, height):
+        more = window.run("return [outerWidth - innerWidth, outerHeight - innerHeight]")
+        window.driver.set_window_size(width + more[0], height + more[1])
+
+    fit(440, 296)
+    for it in shown:
+        it.run("resize-window", "-x", "80", "-y", "9")
+    time.sleep(3)  # until no text is marked
+    left = "".join(terminal_html(it.run("capture-pane", "-e", "-p").stdout) for it in shown)
+    right = f'<img src="data:image/png;base64,{window.driver.get_screenshot_as_base64()}">'
+    style = "body{margin:8px;background:#ddd;display:flex;gap:8px;align-items:flex-start}pre{margin:0 0 8px;font:13px/16px DejaVu Sans Mono}"
+    page = f'<meta charset="utf-8"><style>{style}</style><div>{left}</div>{right}'
+    (work / "picture.html").write_text(page, encoding="utf-8")
+    window.driver.get(f"file://{work}/picture.html")
+    fit(window.run("return document.documentElement.scrollWidth") + 8, 312)
+    window.driver.save_screenshot(PICTURE)
+
+
 work = pathlib.Path(tempfile.mkdtemp())
 editors, windows, terminals = [], [], []
-server = Server("notes", "page", "full", "left", "another")
+server = Server("notes", "page", "many", "full", "left", "another")
 try:
     for kind in (Neovim, Emacs):
         if kind.__name__.lower() in KINDS:
@@ -436,6 +463,8 @@ try:
         began = time.monotonic()
         attempt()
         print(f"{attempt.__name__.removeprefix('tries_').replace('_', ' ')}: {time.monotonic() - began:.0f} s", flush=True)
+    if PICTURE:
+        save_picture()
 finally:
     for it in editors:
         it.quit()

@@ -89,6 +89,9 @@ class Neovim(Terminal):
     def clear(self):
         self.do("%d _")
 
+    def replace(self):
+        self.do("%s/the/some/g")
+
     refuses = "E37"
 
     def ask_to_leave(self):
@@ -148,6 +151,9 @@ class Emacs(Terminal):
     def clear(self):
         if self.text != "":  # (an error would throw away the keys that follow)
             self.keys(["C-x"], "h", ["DC"])
+
+    def replace(self):
+        self.keys(["M-<", "M-%"], "the", ["Enter"], "some", ["Enter"], "!")
 
     refuses = "isn't in the room. Leave it?"
 

@@ -22,7 +22,7 @@
   process
   (answer nil :documentation "The last line that answers something.")
   (held "" :documentation "The beginning of a line.")
-  (state '(:state "joining" :why "" :left 131072) :documentation "How the session stands, as the program told it.")
+  (state `(:state "joining" :why "" :ahead nil :left ,rgatext--scarce) :documentation "How the session stands, as the program told it.")
   (is-more nil :documentation "Whether something was changed since a command began.")
   (is-playing nil :documentation "Whether changes are made that the program knows.")
   (is-taking nil :documentation "Whether others' changes are about to be taken."))
@@ -117,8 +117,7 @@ The value is the answer."
 
 (defun rgatext--play (changes)
   "Make CHANGES that the program knows."
-  (let ((is-modified (buffer-modified-p))
-        (inhibit-read-only t)
+  (let ((inhibit-read-only t)
         (inhibit-modification-hooks nil)
         (deactivate-mark nil))
     (setf (rgatext--room-is-playing rgatext--room) t)
@@ -132,7 +131,7 @@ The value is the answer."
                 (delete-region (point) (+ (point) removed))
                 (insert text)))))
       (setf (rgatext--room-is-playing rgatext--room) nil))
-    (restore-buffer-modified-p is-modified)))
+    (rgatext--show (rgatext--room-state rgatext--room))))
 
 (defun rgatext--take (buffer)
   "Take what others changed in a room's BUFFER."
@@ -178,7 +177,7 @@ The value is the answer."
   "The program of a PROCESS has ended, and nobody carries changes any more."
   (when (and (buffer-live-p (process-buffer process)) (not (process-live-p process)))
     (with-current-buffer (process-buffer process)
-      (rgatext--show `(:state "closed" :why "its program has ended" :ahead ,(buffer-modified-p) :left ,rgatext--scarce)))))
+      (rgatext--show `(:state "closed" :why "its program has ended" :ahead ,(buffer-modified-p) :left 0)))))
 
 (defun rgatext--has-all (seconds)
   "Wait some SECONDS until the room has all that was done here. Whether it has."

@@ -213,9 +213,10 @@ end
 
 -- Shows how the session stands: in the status line, by 'modified' and by 'modifiable'.
 function Room:show(told)
+  self.told = told
   local scarce = told.why == "" and told.left < SCARCE and ("; the room takes %d more changes"):format(told.left) or ""
   vim.b[self.buffer].rgatext = told.state .. (told.why == "" and "" or ": " .. told.why) .. scarce
-  vim.bo[self.buffer].modified = told.ahead or told.state == "another text" or self.is_due
+  vim.bo[self.buffer].modified = told.ahead or told.state == "another text"
   vim.bo[self.buffer].modifiable = told.state ~= "refused" and told.state ~= "closed"
   vim.cmd("redrawstatus!")
 end
@@ -223,7 +224,7 @@ end
 -- The program has ended, and nobody carries changes any more.
 function Room:ends()
   if api.nvim_buf_is_loaded(self.buffer) then
-    self:show({ state = "closed", why = "its program has ended", ahead = vim.bo[self.buffer].modified, left = SCARCE })
+    self:show({ state = "closed", why = "its program has ended", ahead = self.told.ahead, left = 0 })
   end
 end
 
@@ -291,7 +292,7 @@ function Room:play(told)
   if told.changes == nil then
     return self:give_up()
   end
-  local views, is_modifiable, is_modified = {}, vim.bo[self.buffer].modifiable, vim.bo[self.buffer].modified
+  local views = {}
   for _, window in ipairs(vim.fn.win_findbuf(self.buffer)) do
     views[window] = { view = api.nvim_win_call(window, vim.fn.winsaveview), caret = self:caret(window) }
   end
@@ -318,7 +319,7 @@ function Room:play(told)
     end)
   end
   self.lines = api.nvim_buf_get_lines(self.buffer, 0, -1, true)
-  vim.bo[self.buffer].modifiable, vim.bo[self.buffer].modified = is_modifiable, is_modified
+  self:show(self.told)
 end
 
 -- Undoes one's own last step, or does it again.
@@ -377,7 +378,7 @@ local function open(buffer)
   for option, value in pairs({ swapfile = false, undolevels = -1, fileformat = "unix", fixendofline = false, endofline = false }) do
     vim.bo[buffer][option] = value
   end
-  vim.b[buffer].rgatext = "joining"
+  self:show({ state = "joining", why = "", ahead = false, left = SCARCE })
   api.nvim_buf_attach(buffer, false, {
     on_lines = function()
       self:keep_in_step()
