@@ -62,13 +62,13 @@ class Both {
       let shown = this.session.join("");
       for (const [n, { at: place, removed: units, text, taken: out }] of changes.entries()) {
         assert.equal(shown.slice(place, place + units), out);
-        assert.ok(n === 0 || place + units < changes[n - 1].at, "from the last one to the first, and none touches another");
+        assert.ok(n === 0 || place + units <= changes[n - 1].at, "from the last one to the first");
         shown = shown.slice(0, place) + text + shown.slice(place + units);
       }
       this.session = [...shown];
     };
-    if (isRefused) assert.throws(() => this.text.replace(change, make), Full);
-    else this.text.replace(change, make);
+    if (isRefused) assert.throws(() => this.text.replace(change, this.roll(3), make), Full);
+    else this.text.replace(change, this.roll(3), make);
     const left = this.editor[at - 1];
     this.editor.splice(at, removed, ...put);
     if (isRefused) return this.refused.push(...put);
@@ -119,6 +119,18 @@ for (const [count, plain] of Object.entries(PLAIN)) {
   for (const text of ["", "a", "é", "\u{4e00}", "\u{1f600}x", "\0\r\n"]) assert.equal(size(text, COUNTS[count]), plain(text));
 }
 const text = new EditorText();
-text.replace({ at: 0, removed: 0, text: "a\udcffb" }, (changes) => assert.equal(changes[0].text, "a\ufffdb"));
+text.replace({ at: 0, removed: 0, text: "a\udcffb" }, 0, (changes) => assert.equal(changes[0].text, "a\ufffdb"));
 assert.deepEqual(text.take(COUNTS.bytes), [[1, 1, "\ufffd"]], "a byte that is no UTF-8 becomes U+FFFD");
+for (const [from, to, caret, wanted] of [
+  ["aaa", "aaaa", 1, [[0, 0, "a"]]],
+  ["aaa", "aaaa", 3, [[2, 0, "a"]]],
+  ["the cat the end", "some cat some end", 17, [[8, 2, "som"], [0, 2, "som"]]],
+  ["same", "same", 0, []],
+]) {
+  const one = new EditorText();
+  one.replace({ at: 0, removed: 0, text: from }, 0, () => {});
+  one.replace({ at: 0, removed: from.length, text: to }, to.length - caret, (changes) => {
+    assert.deepEqual(changes.map((it) => [it.at, it.removed, it.text]), wanted, "what stays is no change, and the caret tells where letters are alike");
+  });
+}
 console.log("bin/taking.mjs: an editor that takes what there is has the session's text, in each count");

@@ -9,7 +9,7 @@
  * @typedef {import("./count.js").Count} Count
  */
 import { size } from "./count.js";
-import { difference } from "./module.js";
+import { difference, differences } from "./module.js";
 
 class Piece {
   constructor(text, owner) {
@@ -33,6 +33,16 @@ class Piece {
 function fresh(text) {
   const parts = text.match(/\p{Surrogate}|\P{Surrogate}+/gu) ?? [];
   return parts.flatMap((it) => (it.isWellFormed() ? new Piece(it, "both") : [new Piece(it, "editor"), new Piece("\ufffd", "session")]));
+}
+
+/**
+ * The changes that lead from a text to another, from the last place to the first: what stays the same is none. So many units stand behind the
+ * caret, and are taken to have stayed where they may.
+ * @returns {Change[]}
+ */
+function differing(from, to, behind) {
+  const { at, removed, text } = difference(from, to, behind);
+  return differences(from.slice(at, at + removed), text).map((it) => ({ ...it, at: at + it.at }));
 }
 
 export class EditorText {
@@ -65,26 +75,34 @@ export class EditorText {
   }
 
   /**
-   * The editor has changed its text. `make` changes the session's as well: by a list of changes, from the last place to the first. Where it
-   * throws, none of them was made, and what the editor did is to be taken back.
+   * The editor has changed its text; so many units of what it put in stand behind its caret. `make` changes the session's as well: by a list
+   * of changes, from the last place to the first. Where it throws, none of them was made, and what the editor did is to be taken back.
    * @param {Change} change
+   * @param {number} behind
    * @param {(changes: (Change & {taken: string})[]) => void} make
    */
-  replace({ at, removed, text }, make) {
+  replace({ at, removed, text }, behind, make) {
     const taken = this.#textOf("editor", this.#within("editor", at, removed));
-    const change = difference(taken, text); // what stays at both ends is no change
-    const index = this.#behind("editor", at + change.at);
-    const out = this.#within("editor", at + change.at, change.removed);
-    const put = fresh(change.text);
+    const changes = differing(taken, text, behind).map((it) => ({ ...it, at: at + it.at }));
     try {
-      make(this.#changes(index, out, this.#textOf("session", put)));
+      make(changes.flatMap((it) => this.#inSession(it)));
     } catch (fault) {
-      this.#remove(out, "session");
-      this.#insert(index, [new Piece(change.text, "editor")]);
+      for (const it of changes) this.#change(it, "session", [new Piece(it.text, "editor")]);
       throw fault;
     }
-    this.#remove(out, null);
+    for (const it of changes) this.#change(it, null, fresh(it.text));
+  }
+
+  /** A change of the editor's text. What it takes out of both texts stays in the other one, if there is one. */
+  #change({ at, removed }, other, put) {
+    const index = this.#behind("editor", at);
+    this.#remove(this.#within("editor", at, removed), other);
     this.#insert(index, put);
+  }
+
+  /** A change of the editor's text as changes of the session's. */
+  #inSession({ at, removed, text }) {
+    return this.#changes(this.#behind("editor", at), this.#within("editor", at, removed), this.#textOf("session", fresh(text)));
   }
 
   /** The changes of the session's text that take pieces out and put a text in, from the last place to the first, with what they take out. */

@@ -48,7 +48,7 @@ class Conversation {
 
   /** What a line asks, by its key: whether the value is right, and what is done. */
   #asks = {
-    replace: [isChange, (change, isMore) => this.#replace(change, isMore)],
+    replace: [isChange, (change, isMore, caret) => this.#replace(change, isMore, caret)],
     take: [isTrue, () => tell({ changes: this.#take() })],
     undo: [isTrue, () => this.#turn(false)],
     redo: [isTrue, () => this.#turn(true)],
@@ -76,24 +76,28 @@ class Conversation {
   }
 
   #obey(line) {
-    const { more, ...request } = parsed(line);
-    const [[key, value] = ["more", more], ...others] = Object.entries(request);
-    if (!Object.hasOwn(this.#asks, key)) throw new Wrong(`it asks for nothing that is known: ${key}`);
+    const { more = false, caret = null, ...request } = parsed(line);
+    const [[key, value] = [], ...others] = Object.entries(request);
+    if (key === undefined || !Object.hasOwn(this.#asks, key)) throw new Wrong(`it asks for nothing that is known: ${key ?? ""}`);
     const [isRight, does] = this.#asks[key];
-    const isMoreRight = more === undefined || (typeof more === "boolean" && key === "replace");
-    if (others.length > 0 || !isMoreRight) throw new Wrong(`a key is too many: ${others.length > 0 ? others[0][0] : "more"}`);
+    const isPlain = others.length === 0 && (key === "replace" || (more === false && caret === null));
+    if (!isPlain) throw new Wrong(`a key is too many beside ${key}`);
     if (!isRight(value)) throw new Wrong(`the value of ${key} isn't as it should be`);
-    does(value, more === true);
+    if (typeof more !== "boolean") throw new Wrong("more is true or false");
+    if (caret !== null && !isPlace(caret)) throw new Wrong("a caret is a place");
+    does(value, more, caret);
   }
 
-  /** The editor has changed its text. */
-  #replace([at, removed, text], isMore) {
+  /** The editor has changed its text, where its caret is at a place then. */
+  #replace([at, removed, text], isMore, caret) {
     const whole = this.#text.text;
     const start = gone(whole, at, count);
     const { index: units, rest } = gone(whole.slice(start.index), removed, count);
     if (start.rest > 0 || rest > 0) throw new Wrong("the change is beyond the text");
     if (start.rest < 0 || rest < 0) throw new Wrong("the change begins or ends inside of a character");
-    this.#change(() => this.#text.replace({ at: start.index, removed: units, text }, (changes) => this.#make(changes, isMore)));
+    const behind = caret === null || caret < at ? 0 : text.length - gone(text, caret - at, count).index;
+    const change = { at: start.index, removed: units, text };
+    this.#change(() => this.#text.replace(change, behind, (changes) => this.#make(changes, isMore)));
     this.#tellNews();
   }
 

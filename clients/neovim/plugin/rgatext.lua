@@ -33,91 +33,9 @@ local function spelled(bytes)
   return table.concat(parts)
 end
 
-local function is_inside(text, place)
-  return text:find("^" .. REST, place + 1) ~= nil
-end
-
--- How many bytes two texts have in common at the beginning and at the end, between characters; what is behind the caret counts first.
-local function common(from, to, behind)
-  local most, first, last = math.min(#from, #to), 0, 0
-  local function is_same_end()
-    return from:byte(-1 - last) == to:byte(-1 - last)
-  end
-  while last < math.min(behind, most) and is_same_end() do
-    last = last + 1
-  end
-  while first < most - last and from:byte(first + 1) == to:byte(first + 1) do
-    first = first + 1
-  end
-  while last < most - first and is_same_end() do
-    last = last + 1
-  end
-  while first > 0 and (is_inside(from, first) or is_inside(to, first)) do
-    first = first - 1
-  end
-  while last > 0 and (is_inside(from, #from - last) or is_inside(to, #to - last)) do
-    last = last - 1
-  end
-  return first, last
-end
-
--- Where two lists of texts differ: of each stretch its bytes before it and its text, in both. `line` makes a text one line. Stretches of as
--- many texts in both are one for each text if they are `paired`.
-local function stretches(old, new, line, paired)
-  local found, at, place, n, m = {}, 0, 0, 1, 1
-  local function add(removed, put)
-    local from, to = table.concat(old, "", n, n + removed - 1), table.concat(new, "", m, m + put - 1)
-    table.insert(found, { at = at, place = place, from = from, to = to })
-    at, place, n, m = at + #from, place + #to, n + removed, m + put
-  end
-  local function lines(list)
-    return table.concat(vim.tbl_map(line, list))
-  end
-  for _, it in ipairs(vim.diff(lines(old), lines(new), { result_type = "indices" })) do
-    local first, removed, _, put = unpack(it)
-    while n < (removed == 0 and first + 1 or first) do
-      at, place, n, m = at + #old[n], place + #new[m], n + 1, m + 1
-    end
-    if paired and removed == put then
-      for _ = 1, put do
-        add(1, 1)
-      end
-    else
-      add(removed, put)
-    end
-  end
-  return found
-end
-
-local function characters(text)
-  local list = {}
-  for it in text:gmatch("[%z\1-\127\192-\255]" .. REST .. "*") do
-    table.insert(list, it)
-  end
-  return list
-end
-
--- Adds the changes that lead from a text at a place to another, the last one first.
-local function add_changes(changes, at, from, to, behind)
-  local first, last = common(from, to, behind)
-  from, to, at = from:sub(first + 1, -1 - last), to:sub(first + 1, -1 - last), at + first
-  if from == "" and to == "" then
-    return
-  end
-  local found = { { at = 0, from = from, to = to } }
-  if from ~= "" and to ~= "" and not is_inside(from, 0) and not is_inside(to, 0) then
-    found = stretches(characters(from), characters(to), function(it)
-      return (it == "\n" and "LF" or it) .. "\n"
-    end)
-  end
-  for n = #found, 1, -1 do
-    table.insert(changes, { at + found[n].at, #found[n].from, found[n].to })
-  end
-end
-
--- The changes that lead from the lines of a text to others, the last one first. There is an LF between lines, and none behind the last one;
--- before the caret are so many bytes.
-local function changes_of(old, new, caret)
+-- The change that leads from the lines of a text to others: where, how many bytes, and the text. There is an LF between two lines, and none
+-- behind the last one.
+local function change_of(old, new)
   local first, last = 0, 0
   local most = math.min(#old, #new)
   while first < most - 1 and old[first + 1] == new[first + 1] do
@@ -126,27 +44,16 @@ local function changes_of(old, new, caret)
   while last < most - first and old[#old - last] == new[#new - last] do
     last = last + 1
   end
-  local function texts(lines)
-    local list = {}
-    for n = first + 1, #lines - last do
-      table.insert(list, n < #lines and lines[n] .. "\n" or lines[n])
-    end
-    return list
+  local function between(lines)
+    local text = table.concat(lines, "\n", first + 1, #lines - last)
+    return last > 0 and #lines - last > first and text .. "\n" or text
   end
   local before = first
   for n = 1, first do
     before = before + #old[n]
   end
-  local found = stretches(texts(old), texts(new), function(it)
-    return it
-  end, true)
-  local changes = {}
-  for n = #found, 1, -1 do
-    local it = found[n]
-    local behind = before + it.place + #it.to - caret
-    add_changes(changes, before + it.at, it.from, it.to, behind <= #it.to and math.max(0, behind) or 0)
-  end
-  return changes
+  local from, to = between(old), between(new)
+  return from ~= to and { before, #from, to } or nil
 end
 
 local function is_busy()
@@ -249,8 +156,9 @@ function Room:step()
     return
   end
   local lines = api.nvim_buf_get_lines(self.buffer, 0, -1, true)
-  for n, it in ipairs(changes_of(self.lines, lines, self:caret(0))) do
-    self:send({ replace = it, more = n > 1 or nil })
+  local change = change_of(self.lines, lines)
+  if change then
+    self:send({ replace = change, caret = self:caret(0) })
   end
   self.lines = lines
   if self.has_news then
