@@ -151,16 +151,20 @@ function Room:keep_in_step()
   vim.schedule(does)
 end
 
-function Room:step()
-  if self.is_over or not api.nvim_buf_is_loaded(self.buffer) then
-    return
-  end
+function Room:flush()
   local lines = api.nvim_buf_get_lines(self.buffer, 0, -1, true)
   local change = change_of(self.lines, lines)
   if change then
     self:send({ replace = change, caret = self:caret(0) })
   end
   self.lines = lines
+end
+
+function Room:step()
+  if self.is_over or not api.nvim_buf_is_loaded(self.buffer) then
+    return
+  end
+  self:flush()
   if self.has_news then
     self.has_news = false
     self:play(self:ask({ take = true }, "changes"))
@@ -250,9 +254,11 @@ end
 
 -- Leaves the room. The program ends once what is new was sent, in two seconds.
 function Room:leave()
-  self:step()
   rooms[self.buffer] = nil
-  self:send({ close = true })
+  if not self.is_over then
+    self:flush()
+    self:send({ close = true })
+  end
 end
 
 -- Opens the room that a buffer is named after.
