@@ -1,5 +1,5 @@
-"""What bin/try_editors tries. The arguments are the program, where to save a picture or an empty text, and what there is of neovim, emacs and
-codemirror."""
+"""What bin/try_editors tries. The arguments are the program, where to save a picture or an empty text, and what there is of neovim, emacs
+and codemirror."""
 import functools
 import http.server
 import json
@@ -114,8 +114,8 @@ def tries_page():
     """The conversation of clients/stdio/README.md, byte for byte, with a room in which another has typed a word."""
     fill("page", "world")
     folder = TOP / "clients" / "stdio"
-    words = ["node", "--experimental-websocket", "--no-warnings", str(folder / "rgatext-stdio.mjs"), f"ws://127.0.0.1:{server.port}", "page"]
-    program = subprocess.Popen(words, stdin=subprocess.PIPE, stdout=subprocess.PIPE)
+    words = ["node", "--experimental-websocket", "--no-warnings", str(folder / "rgatext-stdio.mjs")]
+    program = subprocess.Popen([*words, f"ws://127.0.0.1:{server.port}", "page"], stdin=subprocess.PIPE, stdout=subprocess.PIPE)
     lines = (folder / "README.md").read_text(encoding="utf-8").split("```")[1].strip().splitlines()
     for line in lines:
         if line.startswith("> "):
@@ -307,9 +307,9 @@ def tries_commands():
 
 
 WORDS = ("alpha", "Beta", "γάμμα", "世界", "😀", "e\u0301")
-NEOVIM = ["gg", "G", "j", "k", "w", "b", "$", "0", "x", "dd", "p", "P", "J", "yy", "~", "D", ">>", "u", "2u", "guu", "vjd", "yip", "dw", "xp", "."]
-NEOVIM += ["i%\x1b", "o%\x1b", "A%\x1b", "O%\x1b", "cw%\x1b", "R%\x1b", "i%\r%\x1b", "ylp", ":s/a/bb/ge\r", ":m0\r", ":t.\r", ":sort\r", "\x12", "\x16jx"]
-EMACS = ["C-n", "C-p", "C-f", "M-f", "M-b", "M-<", "M->", "BSpace", "DC", "C-k", "C-y", "M-d", "C-t", "M-u", "M-c", "C-_", "C-M-_", "M-q", "Enter"]
+NEOVIM = "gg G j k w b $ 0 x dd p P J yy ~ D >> u 2u guu vjd yip dw xp . \x12 \x16jx ylp".split()
+NEOVIM += ["i%\x1b", "o%\x1b", "A%\x1b", "O%\x1b", "cw%\x1b", "R%\x1b", "i%\r%\x1b", ":s/a/bb/ge\r", ":m0\r", ":t.\r", ":sort\r"]
+EMACS = "C-n C-p C-f M-f M-b M-< M-> BSpace DC C-k C-y M-d C-t M-u M-c C-_ C-M-_ M-q Enter".split()
 
 
 def types_at_random(it, seed):
@@ -435,7 +435,8 @@ def save_picture():
     time.sleep(3)  # until no text is marked
     left = "".join(terminal_html(it.run("capture-pane", "-e", "-p").stdout) for it in shown)
     right = f'<img src="data:image/png;base64,{window.driver.get_screenshot_as_base64()}">'
-    style = "body{margin:8px;background:#ddd;display:flex;gap:8px;align-items:flex-start}pre{margin:0 0 8px;font:13px/16px DejaVu Sans Mono}"
+    style = "body{margin:8px;background:#ddd;display:flex;gap:8px;align-items:flex-start}"
+    style += "pre{margin:0 0 8px;font:13px/16px DejaVu Sans Mono}"
     page = f'<meta charset="utf-8"><style>{style}</style><div>{left}</div>{right}'
     (work / "picture.html").write_text(page, encoding="utf-8")
     window.driver.get(f"file://{work}/picture.html")

@@ -159,7 +159,8 @@ class StdioTypist(threading.Thread):
         self.text = whole  # (what came between is in it)
         if not self.is_typing and text != whole and not self.has_news:
             self.differs += 1
-        self.reports.get()({"state": self.state["state"], "text": whole, "isAhead": self.state.get("ahead", False), "asked": self.asked, "differs": self.differs})
+        state, ahead = self.state["state"], self.state.get("ahead", False)
+        self.reports.get()({"state": state, "text": whole, "isAhead": ahead, "asked": self.asked, "differs": self.differs})
 
 
 class StdioTypists:

@@ -69,16 +69,17 @@ class Both {
     };
     if (isRefused) assert.throws(() => this.text.replace(change, this.roll(3), make), Full);
     else this.text.replace(change, this.roll(3), make);
-    const left = this.editor[at - 1];
+    const neighbour = this.editor[at - 1];
     this.editor.splice(at, removed, ...put);
     if (isRefused) return this.refused.push(...put);
     const isPut = new Set(put);
     const isTaken = new Set(taken.filter((it) => !this.moved.includes(it)));
-    assert.deepEqual(this.session.filter((it) => !isPut.has(it)), before.filter((it) => !isTaken.has(it)), "others' text stays, and its order");
+    const [left, wanted] = [this.session.filter((it) => !isPut.has(it)), before.filter((it) => !isTaken.has(it))];
+    assert.deepEqual(left, wanted, "others' text stays, and its order");
     const first = this.session.indexOf(put[0]);
     if (put.length > 0) assert.deepEqual(this.session.slice(first, first + put.length), put, "what is put in stays together");
-    const isBehind = put.length > 0 && this.session.includes(left) && !this.moved.includes(left);
-    if (isBehind) assert.equal(this.session[first - 1], left, "it stands right behind the character that it was put in behind");
+    const isBehind = put.length > 0 && this.session.includes(neighbour) && !this.moved.includes(neighbour);
+    if (isBehind) assert.equal(this.session[first - 1], neighbour, "it stands right behind the character that it was put in behind");
   }
 
   /** The editor takes what there is, in its own count, and has the session's text then. */
@@ -130,7 +131,8 @@ for (const [from, to, caret, wanted] of [
   const one = new EditorText();
   one.replace({ at: 0, removed: 0, text: from }, 0, () => {});
   one.replace({ at: 0, removed: from.length, text: to }, to.length - caret, (changes) => {
-    assert.deepEqual(changes.map((it) => [it.at, it.removed, it.text]), wanted, "what stays is no change, and the caret tells where letters are alike");
+    const told = changes.map((it) => [it.at, it.removed, it.text]);
+    assert.deepEqual(told, wanted, "what stays is no change, and the caret tells where letters are alike");
   });
 }
 console.log("bin/taking.mjs: an editor that takes what there is has the session's text, in each count");

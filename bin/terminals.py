@@ -13,8 +13,8 @@ class Terminal:
     def __init__(self, work, name, command):
         self.work, self.name, self.tmux = work, name, ["tmux", "-f", "/dev/null", "-S", str(work / "tmux")]
         self.file = work / f"{name}.text"
-        words = [*self.tmux, "new-session", "-d", "-s", name, "-x", "80", "-y", "20", "env", "TERM=tmux-256color", "LC_ALL=C.UTF-8", *command]
-        subprocess.run(words, check=True)
+        words = [*self.tmux, "new-session", "-d", "-s", name, "-x", "80", "-y", "20", "env", "TERM=tmux-256color", "LC_ALL=C.UTF-8"]
+        subprocess.run([*words, *command], check=True)
 
     def run(self, *words):
         return subprocess.run([*self.tmux, *words, "-t", self.name], capture_output=True, text=True)
@@ -112,7 +112,8 @@ class Emacs(Terminal):
 
     def __init__(self, work, name, port, room="notes"):
         self.socket, self.buffer = work / f"{name}.socket", f"ws://127.0.0.1:{port}/{room}"
-        began = f'(progn (setq server-name "{self.socket}" ring-bell-function #\'ignore) (server-start) (rgatext "ws://127.0.0.1:{port}" "{room}"))'
+        start = f'(setq server-name "{self.socket}" ring-bell-function #\'ignore) (server-start)'
+        began = f'(progn {start} (rgatext "ws://127.0.0.1:{port}" "{room}"))'
         super().__init__(work, name, ["emacs", "-nw", "-Q", "-l", str(TOP / "clients" / "emacs" / "rgatext.el"), "--eval", began])
 
     def ask(self, expression):

@@ -20,7 +20,7 @@
 
 (cl-defstruct (rgatext--room (:constructor rgatext--make-room))
   process
-  (answer nil :documentation "The last line that answers something.")
+  (answer nil :documentation "What was answered since something was asked.")
   (held "" :documentation "The beginning of a line.")
   (state `(:state "joining" :why "" :ahead nil :left ,rgatext--scarce) :documentation "How the session stands, as the program told it.")
   (is-more nil :documentation "Whether something was changed since a command began.")
@@ -34,7 +34,8 @@
 
 (defun rgatext--send (&rest request)
   "Send a REQUEST, a list of keys and values."
-  (process-send-string (rgatext--room-process rgatext--room) (concat (json-serialize request) "\n")))
+  (when (process-live-p (rgatext--room-process rgatext--room))
+    (process-send-string (rgatext--room-process rgatext--room) (concat (json-serialize request) "\n"))))
 
 (defun rgatext--parse (line)
   "The object of a LINE. Emacs's own parser takes no NUL in a text before Emacs 30."
@@ -60,7 +61,8 @@
         ((plist-get told :wrong)
          (message "rgatext: %s" (plist-get told :wrong))
          (rgatext--give-up))
-        ((not (plist-get told :news)) (setf (rgatext--room-answer rgatext--room) told))
+        ((not (plist-get told :news)) ; an answer that comes late hides no other
+         (setf (rgatext--room-answer rgatext--room) (append told (rgatext--room-answer rgatext--room))))
         ((not (rgatext--room-is-taking rgatext--room))
          (setf (rgatext--room-is-taking rgatext--room) t)
          (run-with-timer 0 nil #'rgatext--take (current-buffer)))))

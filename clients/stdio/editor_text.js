@@ -36,8 +36,8 @@ function fresh(text) {
 }
 
 /**
- * The changes that lead from a text to another, from the last place to the first: what stays the same is none. So many units stand behind the
- * caret, and are taken to have stayed where they may.
+ * The changes that lead from a text to another, from the last place to the first: what stays the same is none. So many units stand behind
+ * the caret, and are taken to have stayed where they may.
  * @returns {Change[]}
  */
 function differing(from, to, behind) {
@@ -75,8 +75,8 @@ export class EditorText {
   }
 
   /**
-   * The editor has changed its text; so many units of what it put in stand behind its caret. `make` changes the session's as well: by a list
-   * of changes, from the last place to the first. Where it throws, none of them was made, and what the editor did is to be taken back.
+   * The editor has changed its text; so many units of what it put in stand behind its caret. `make` changes the session's as well: by a
+   * list of changes, from the last place to the first. Where it throws, none of them was made, and what the editor did is to be taken back.
    * @param {Change} change
    * @param {number} behind
    * @param {(changes: (Change & {taken: string})[]) => void} make
@@ -105,7 +105,7 @@ export class EditorText {
     return this.#changes(this.#behind("editor", at), this.#within("editor", at, removed), this.#textOf("session", fresh(text)));
   }
 
-  /** The changes of the session's text that take pieces out and put a text in, from the last place to the first, with what they take out. */
+  /** The changes of the session's text that take pieces out and put a text in, from the last place to the first, with what is taken out. */
   #changes(index, out, text) {
     /** @type {(Change & {taken: string})[]} */
     const changes = [];

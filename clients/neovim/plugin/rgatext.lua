@@ -79,7 +79,7 @@ function Room:receive(line)
       self:hear(told)
     end)
   else
-    self.answer = told
+    self.answer = vim.tbl_extend("force", self.answer, told) -- one that comes late hides no other
   end
 end
 
