@@ -21,15 +21,16 @@ OPERATIONS = 131_072  # of a room
 
 
 class Server:
-    """A server that keeps its rooms, and may be killed and started anew at its port."""
+    """A server that keeps its rooms, and may be killed and started anew at its port; or with empty ones, of another site."""
 
     def __init__(self, *rooms):
         self.rooms, self.port, self.folder = rooms, free_port(), work / "rooms"
         self.folder.mkdir()
         self.start()
 
-    def start(self):
-        words = [PROGRAM, "serve", "--port", str(self.port), "--keep", str(self.folder), "--every", "1", *self.rooms]
+    def start(self, site=None):
+        how = ["--site", str(site)] if site else ["--keep", str(self.folder), "--every", "1"]
+        words = [PROGRAM, "serve", "--port", str(self.port), *how, *self.rooms]
         self.child = subprocess.Popen(words, stdout=subprocess.PIPE)
         assert self.child.stdout.readline() == f"listening {self.port}\n".encode()
 
@@ -390,16 +391,16 @@ def tries_leaving():
 def tries_another_text():
     """Where the room has another text the user chooses."""
     for it in one_of_each("another"):
-        for whose, wanted in (("mine", "here"), ("theirs", "there")):
+        for site, whose in ((2, "mine"), (3, "theirs")):
             it.paste("here")
             until(lambda: room_text("another") == "here", "a text")
             server.kill()
-            (server.folder / "another.ops").unlink(missing_ok=True)
-            server.start()
+            server.start(site)
             fill("another", "there")
             until(lambda: it.state.startswith("another text"), "another text", 60)
             assert it.text == "here"
             it.choose(whose)
+            wanted = {"mine": "here", "theirs": "there"}[whose]
             until(lambda: it.text == wanted == room_text("another") and it.state == "up to date", f"{whose} is taken", 60)
             it.clear()
             until(lambda: room_text("another") == "", "none")
