@@ -441,7 +441,7 @@ def save_picture():
     page = f'<meta charset="utf-8"><style>{style}</style><div>{left}</div>{right}'
     (work / "picture.html").write_text(page, encoding="utf-8")
     window.driver.get(f"file://{work}/picture.html")
-    fit(window.run("return document.documentElement.scrollWidth") + 8, 312)
+    fit(window.run("return Math.ceil(document.images[0].getBoundingClientRect().right)") + 8, 312)
     window.driver.save_screenshot(PICTURE)
 
 
