@@ -72,7 +72,8 @@
   (process-send-eof (rgatext--room-process rgatext--room)))
 
 (defun rgatext--ask (seconds key &rest request)
-  "Send a REQUEST, and wait some SECONDS for its answer, which has a KEY. Nothing is typed meanwhile."
+  "Send a REQUEST, and wait some SECONDS for its answer, which has a KEY.
+Nothing is typed meanwhile."
   (let ((room rgatext--room)
         (end (+ (float-time) seconds))
         (inhibit-quit t))
@@ -95,7 +96,7 @@
         (replace-match "\ufffd" t t)))))
 
 (defun rgatext--changed (beg end removed)
-  "Tell the program what was put in from BEG to END, in place of so many REMOVED characters."
+  "Tell what was put in from BEG to END, for so many REMOVED characters."
   (unless (rgatext--room-is-playing rgatext--room)
     (save-restriction
       (widen)
@@ -109,8 +110,7 @@
   (setf (rgatext--room-is-more rgatext--room) nil))
 
 (defun rgatext--ask-changes (key)
-  "Ask for changes by a KEY, and make them, which the program knows. Point and markers stay where they are in the text.
-The value is the answer."
+  "Ask for changes by a KEY, make them, and give the answer."
   (let ((answer (rgatext--ask 30 :changes key t)))
     (if (plist-member answer :changes)
         (rgatext--play (plist-get answer :changes))
@@ -118,7 +118,8 @@ The value is the answer."
     answer))
 
 (defun rgatext--play (changes)
-  "Make CHANGES that the program knows."
+  "Make CHANGES that the program knows.
+Point and markers stay where they are in the text."
   (let ((inhibit-read-only t)
         (inhibit-modification-hooks nil)
         (deactivate-mark nil))
@@ -143,7 +144,7 @@ The value is the answer."
       (rgatext--ask-changes :take))))
 
 (defun rgatext--turn (key times)
-  "Ask KEY so many TIMES, which is `:undo' or `:redo', and go where something changed."
+  "Ask KEY so many TIMES, `:undo' or `:redo', and go where it changes something."
   (barf-if-buffer-read-only)
   (dotimes (_ times)
     (let ((caret (plist-get (rgatext--ask-changes key) :caret)))
@@ -162,7 +163,8 @@ The value is the answer."
 ;;;; States
 
 (defun rgatext--show (told)
-  "Show how the session stands, as TOLD: in the mode line, and by whether the buffer is modified and may be changed."
+  "Show how the session stands, as TOLD.
+The mode line has it, and the buffer is modified and read-only by it."
   (setf (rgatext--room-state rgatext--room) told)
   (restore-buffer-modified-p (or (plist-get told :ahead) (equal (plist-get told :state) "another text")))
   (setq buffer-read-only (and (member (plist-get told :state) '("refused" "closed")) t))
