@@ -3,8 +3,10 @@ and codemirror."""
 import functools
 import http.server
 import json
+import os
 import pathlib
 import random
+import signal
 import subprocess
 import sys
 import tempfile
@@ -388,6 +390,21 @@ def tries_leaving():
             assert [line.ask(t="leave", s=s)["r"] for s in range(1, number + 1)] == ["no"] * (number - 1) + ["left"], "a session is left"
 
 
+def tries_program_that_ends():
+    """Where the program between is killed the text stays as it is, read-only."""
+    for it in one_of_each("ended"):
+        it.clear()
+        it.put("kept ")
+        until(lambda: room_text("ended") == "kept ", "a text")
+        for child in pathlib.Path(f"/proc/{it.pid}/task/{it.pid}/children").read_text().split():
+            if b"rgatext-stdio" in pathlib.Path(f"/proc/{child}/cmdline").read_bytes():
+                os.kill(int(child), signal.SIGKILL)
+        until(lambda: it.state == "closed: its program has ended", f"{it.name} is told")
+        it.put("no")
+        time.sleep(0.5)
+        assert it.text == "kept " == room_text("ended"), it.text
+
+
 def tries_another_text():
     """Where the room has another text the user chooses."""
     for it in one_of_each("another"):
@@ -447,7 +464,7 @@ def save_picture():
 
 work = pathlib.Path(tempfile.mkdtemp())
 editors, windows, terminals = [], [], []
-server = Server("notes", "page", "many", "full", "left", "another")
+server = Server("notes", "page", "many", "full", "left", "ended", "another")
 try:
     for kind in (Neovim, Emacs):
         if kind.__name__.lower() in KINDS:
@@ -460,7 +477,8 @@ try:
     editors = [*terminals, *windows]
     until(lambda: all(it.state.startswith("up to date") for it in editors), "all have joined", 60)
     cases = (tries_page, tries_typing, tries_undo, tries_lines, tries_wide, tries_bytes, tries_many_places, tries_random_typing)
-    cases += (tries_waiting, tries_full_room, tries_leaving, tries_commands, tries_server_that_ends, tries_another_text)
+    cases += (tries_waiting, tries_full_room, tries_leaving, tries_commands, tries_server_that_ends)
+    cases += (tries_program_that_ends, tries_another_text)
     for attempt in cases:
         began = time.monotonic()
         attempt()

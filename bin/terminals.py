@@ -86,6 +86,10 @@ class Neovim(Terminal):
         self.ask(f"setreg('a', {json.dumps(text)})")
         self.keys('gg0"aP')
 
+    @property
+    def pid(self):
+        return self.ask("getpid()")
+
     def clear(self):
         self.do("%d _")
 
@@ -148,6 +152,10 @@ class Emacs(Terminal):
         """Puts a text in at the beginning, in one piece."""
         self.ask(f"(kill-new {json.dumps(text)})")
         self.keys(["M-<", "C-y"])
+
+    @property
+    def pid(self):
+        return self.ask("(emacs-pid)")
 
     def clear(self):
         if self.text != "":  # (an error would throw away the keys that follow)

@@ -38,7 +38,7 @@
     (process-send-string (rgatext--room-process rgatext--room) (concat (json-serialize request) "\n"))))
 
 (defun rgatext--parse (line)
-  "The object of a LINE. Emacs's own parser takes no NUL in a text before Emacs 30."
+  "The object of a LINE. The parser of Emacs 28 itself takes no NUL in a text."
   (condition-case nil
       (json-parse-string line :object-type 'plist :array-type 'list :null-object nil :false-object nil)
     (json-parse-error
