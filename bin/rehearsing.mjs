@@ -2,7 +2,7 @@
 // ended and comes back, for bin/rehearse. The arguments are the program, the module's folder and the seed,
 // the input is what else is asked for.
 import { readFileSync, writeFileSync } from "node:fs";
-import { LIMITS } from "../examples/web/connection.js";
+import { USUAL } from "../examples/web/options.js";
 import { pause } from "../examples/web/seat.js";
 import { Clock } from "./clock.mjs";
 import { Room } from "./room.mjs";
@@ -92,7 +92,7 @@ class Line {
     const drawn = this.#fault;
     const fault = (SPARED[request.t] ?? FAULTS).includes(drawn) ? drawn : null;
     if (fault !== null) tell({ met: fault });
-    const timer = setTimeout(() => this.close(), LIMITS[request.t] ?? LIMITS.other);
+    const timer = setTimeout(() => this.close(), request.t === "join" ? USUAL.joined : USUAL.answer);
     const answer = new Promise((resolve, reject) => {
       const lose = () => reject(new Lost());
       this.#asked.add(lose);

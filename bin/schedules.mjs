@@ -1,7 +1,8 @@
 // What bin/try_merging plays with sessions and lines that break at a given request. The one argument is the program.
 import assert from "node:assert/strict";
-import { Connection, LIMITS } from "../examples/web/connection.js";
+import { Connection } from "../examples/web/connection.js";
 import { MOST } from "../examples/web/document.js";
+import { USUAL } from "../examples/web/options.js";
 import { Lost, open, Refused, Session } from "../examples/web/rgatext.js";
 import { pause } from "../examples/web/seat.js";
 import { Line, Room, until } from "./room.mjs";
@@ -15,7 +16,7 @@ async function isCutWhileChoosing() {
   await way.comesTo("another text", "hello");
   way.cutOff();
   await way.comesTo("offline", "hello");
-  assert.ok(way.editor.session.hasOther, "the choice is there while the line isn't");
+  assert.ok(way.editor.session.other !== null, "the choice is there while the line isn't");
   way.isUp = true;
   await way.comesTo("another text", "hello");
   assert.equal((await way.room.ask({ t: "leave", s: 1 })).n, 5, "the session before is left");
@@ -356,11 +357,11 @@ async function isOffline() {
     room.close();
   }
   await assert.rejects(Connection.open("ws://nowhere", "notes", Socket), Lost);
-  const session = open("ws://nowhere", "notes", Socket);
+  const session = open("ws://nowhere", "notes", { Socket });
   await until(() => session.state === "offline" && session.why.includes("no rgatext server"));
   await session.close();
-  assert.throws(() => open("ws://nowhere", "notes", null), /WebSocket/);
-  assert.ok(LIMITS.join > 2 * LIMITS.other, "each join that is missed costs a session");
+  assert.throws(() => open("ws://nowhere", "notes", { Socket: null }), /WebSocket/);
+  assert.ok(USUAL.joined > 2 * USUAL.answer, "each join that is missed costs a session");
 }
 
 await Promise.all([

@@ -18,16 +18,16 @@ async function chooses({ name, shown, room, late, operations }) {
   const other = await roomOf(whole(room), 2);
   way.cut(other);
   await way.comesTo("another text", mine);
-  assert.equal(session.otherText, whole(room), name);
+  assert.equal(session.other.text, whole(room), name);
   const began = (await other.ask({ t: "read" })).v;
   if (late) {
     await typedBy(other, late.k, late.x);
     session.putMine();
     const told = played(whole(room), [{ at: late.k, removed: 0, text: late.x }]);
-    await until(() => session.otherText === told, () => name);
+    await until(() => session.other.text === told, () => name);
     assert.deepEqual([session.state, await textOf(other)], ["another text", told], name);
   }
-  assert.equal(played(session.otherText, session.difference), mine, name);
+  assert.equal(played(session.other.text, session.other.difference), mine, name);
   session.putMine();
   await way.comesTo("up to date", mine);
   const { v, x } = await other.ask({ t: "read" });

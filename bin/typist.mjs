@@ -42,7 +42,7 @@ export class Typist {
   }
 
   choose(session) {
-    if (!session.hasOther) return;
+    if (session.other === null) return;
     try {
       if (this.answer === "mine") session.putMine();
       else session.takeTheirs();

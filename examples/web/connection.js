@@ -8,9 +8,7 @@
  * @typedef {{isOpen: boolean, ask(request: object): Promise<Reply>, close(): void}} Line
  */
 import { Lost, Refused } from "./faults.js";
-
-/** Milliseconds until an answer is missed. One to `join` has the whole text, and where it isn't seen a session is left that nobody uses. */
-export const LIMITS = { join: 60_000, other: 8_000 };
+import { USUAL } from "./options.js";
 
 /** A line over a WebSocket. */
 export class Connection {
@@ -18,8 +16,8 @@ export class Connection {
    * Connects, and opens the room. `Socket` is a class like WebSocket.
    * @returns {Promise<Line>}
    */
-  static async open(address, room, Socket) {
-    const connection = new Connection(new Socket(address));
+  static async open(address, room, Socket, options = USUAL) {
+    const connection = new Connection(new Socket(address), options);
     const reply = await connection.ask({ t: "open", room });
     if (reply.r !== "opened") {
       connection.close();
@@ -28,8 +26,9 @@ export class Connection {
     return connection;
   }
 
-  constructor(socket) {
+  constructor(socket, options) {
     this.socket = socket;
+    this.options = options;
     this.isOpen = true;
     this.waiting = []; // requests, until the socket is open; none from then on
     this.asked = [];
@@ -45,7 +44,7 @@ export class Connection {
   /** Sends a request at once, and gives its reply. An answer that is missed ends the connection. */
   async ask(request) {
     if (!this.isOpen) throw new Lost();
-    const timer = setTimeout(() => this.close(), LIMITS[request.t] ?? LIMITS.other);
+    const timer = setTimeout(() => this.close(), request.t === "join" ? this.options.joined : this.options.answer);
     try {
       return await new Promise((resolve, reject) => {
         this.asked.push({ resolve, reject });

@@ -207,6 +207,11 @@ export class Document {
     return this.#first(before) >= 0;
   }
 
+  /** Whether something that was made before an order isn't known to be in the room. */
+  isPending(before) {
+    return this.#pieces.list.some(({ isPending, order }) => isPending && order < before);
+  }
+
   #first(before) {
     const { list } = this.#pieces;
     let first = -1;

@@ -22,7 +22,7 @@ element("state").insertAdjacentHTML(
 );
 
 /** Whether some of the text may be lost where the page is left. */
-export const mayBeLost = (session) => session.isAhead || session.hasOther;
+export const mayBeLost = (session) => session.isAhead || session.other !== null;
 
 /** Shows a text, with stretches of it marked. */
 function showMarked(id, text, stretches) {
@@ -38,23 +38,24 @@ function showMarked(id, text, stretches) {
 }
 
 /** Shows the two texts of which the user is to choose, and what differs. */
-function showTexts({ hasOther, text, otherText, difference }) {
-  element("texts").hidden = !hasOther;
-  if (!hasOther) return;
+function showTexts({ text, other }) {
+  element("texts").hidden = other === null;
+  if (other === null) return;
   const [theirs, own] = [[], []];
   let further = 0;
-  for (const { at, removed, text: put } of difference.reverse()) {
+  for (const { at, removed, text: put } of other.difference.reverse()) {
     theirs.push([at, at + removed]);
     own.push([at + further, at + further + put.length]);
     further += put.length - removed;
   }
-  showMarked("other", otherText, theirs);
+  showMarked("other", other.text, theirs);
   showMarked("own", text, own);
 }
 
 /** Says how the session stands, or what is wrong. Gives whether the text may be changed. */
 export function tell(session, trouble = "") {
-  const { state, why, left, unsent, hasOther } = session;
+  const { state, why, left, unsent, other } = session;
+  const hasOther = other !== null;
   const isOver = state === "refused" || state === "closed";
   const scarce = left < SCARCE ? `; the room takes ${left} more changes` : "";
   element("state").textContent = trouble || (why === "" ? state : `${state}: ${why}`) + scarce;

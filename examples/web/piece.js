@@ -24,6 +24,11 @@ export class Piece {
     return this.owner === "new" || (this.gone === "new" && !this.isLost);
   }
 
+  /** Whether the room isn't known to have what became of it here. */
+  get isPending() {
+    return this.isNew || this.owner === "sent" || this.gone === "sent";
+  }
+
   get isLost() {
     return this.owner === "lost";
   }

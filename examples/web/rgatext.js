@@ -12,24 +12,27 @@ import { Connection } from "./connection.js";
 import { differences } from "./differences.js";
 import { Document } from "./document.js";
 import { Ended, Full, Lost, Refused } from "./faults.js";
+import { withUsual } from "./options.js";
 import { Session } from "./session.js";
 import { difference } from "./text.js";
 
 export { carried, difference, differences, Document, Ended, Full, Lost, played, Refused, Session };
 
 /**
- * Opens a session with a room of a server, as open("ws://127.0.0.1:7878", "notes"). Throws a TypeError where that is no address, or where
- * there is no WebSocket: Node has it from 22 on, Node 20 with --experimental-websocket; else a class like it is the third argument.
+ * Opens a session with a room of a server, as open("ws://127.0.0.1:7878", "notes"). Throws a TypeError where that is no address, where there
+ * is no option of a name, or where there is no WebSocket: Node has it from 22 on, Node 20 with --experimental-websocket; else a class like it
+ * is the option `Socket`.
  * @param {string} address
  * @param {string} room
- * @param {new (address: string) => any} [Socket]
+ * @param {import("./options.js").Options & {Socket?: new (address: string) => any}} [options]
  * @returns {Session}
  */
-export function open(address, room, Socket = globalThis.WebSocket) {
+export function open(address, room, { Socket = globalThis.WebSocket, ...options } = {}) {
   if (!/^wss?:\/\/[^/]/.test(address)) throw new TypeError("an address is ws://HOST:PORT");
   const isThere = typeof Socket === "function";
   if (!isThere) throw new TypeError("there is no WebSocket: start Node 20 with --experimental-websocket, or name a class");
-  const session = new Session(() => Connection.open(address, room, Socket));
+  const times = withUsual(options);
+  const session = new Session(() => Connection.open(address, room, Socket, times), options);
   session.isHidden = globalThis.document?.hidden ?? false;
   return session;
 }

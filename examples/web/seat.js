@@ -5,13 +5,7 @@
 import { Document, MOST } from "./document.js";
 import { Lost, Refused } from "./faults.js";
 import { Log } from "./log.js";
-
-/** Milliseconds until a request is sent again for which memory was refused, and until it is told that no answer comes. */
-export const RETRY = 100;
-const SILENCE = 2_000;
-
-/** The most operations of a room. */
-export const OPERATIONS = 131_072;
+import { USUAL } from "./options.js";
 
 /** The room and the session don't have one count any more, on a line that is there: the run of the server is the same. */
 export class OutOfStep extends Error {
@@ -40,8 +34,9 @@ export class Seat {
   #unknown = []; // what was joined, until its log is known and it alone is left
 
   /** @param {() => void} onSilence is called where an answer doesn't come soon */
-  constructor(onSilence = () => {}) {
+  constructor(onSilence = () => {}, options = USUAL) {
     this.onSilence = onSilence;
+    this.options = options;
   }
 
   get isTaken() {
@@ -59,7 +54,7 @@ export class Seat {
 
   /** Sends a request, and gives the reply. */
   async send(request) {
-    const timer = setTimeout(this.onSilence, SILENCE);
+    const timer = setTimeout(this.onSilence, this.options.silence);
     try {
       return await this.line.ask(request);
     } finally {
@@ -73,7 +68,7 @@ export class Seat {
       const reply = await this.send(request);
       if (reply.r !== "no" || (reply.n !== 25 && reply.n !== 26)) return reply;
       if (reply.n === 25) throw new Lost();
-      await pause(RETRY);
+      await pause(this.options.retry);
     }
   }
 
@@ -120,7 +115,7 @@ export class Seat {
 
   /** Whether the room takes calls, and so many changes. */
   async takes(changes) {
-    const reply = await this.ask({ t: "ops", after: Math.max(0, OPERATIONS - changes), max: 1 });
+    const reply = await this.ask({ t: "ops", after: Math.max(0, this.options.operations - changes), max: 1 });
     return reply.r === "no" ? reply.n === 23 : reply.ops.length === 0;
   }
 
@@ -178,7 +173,7 @@ export class Seat {
   /** The edits of a reply to a pull; none where memory was refused, which is waited for. */
   async editsOf(reply) {
     if (reply.r === "no" && reply.n !== 26) throw refusal(reply.n);
-    if (reply.r === "no") await pause(RETRY);
+    if (reply.r === "no") await pause(this.options.retry);
     return reply.es ?? null;
   }
 
@@ -239,7 +234,7 @@ export class Seat {
       document.site ??= await this.log.siteOf(reply.from);
       return;
     }
-    if (reply.n === 26) return pause(RETRY);
+    if (reply.n === 26) return pause(this.options.retry);
     const fault = refusal(reply.r === "ok" ? 7 : reply.n);
     if (fault instanceof Lost) throw fault;
     this.#underWay = null;

@@ -5,14 +5,16 @@ import { add } from "./changes.js";
 import { differences } from "./differences.js";
 import { Document, MOST } from "./document.js";
 import { Ended, Full, Lost, Refused } from "./faults.js";
-import { Pace, TYPING } from "./pace.js";
+import { withUsual } from "./options.js";
+import { Pace } from "./pace.js";
 import { wayTo } from "./rejoin.js";
-import { OPERATIONS, OutOfStep, pause, RETRY, Seat } from "./seat.js";
+import { OutOfStep, Seat } from "./seat.js";
 import { turn } from "./turn.js";
 
 /**
  * @typedef {import("./changes.js").Change} Change
  * @typedef {import("./connection.js").Line} Line
+ * @typedef {import("./document.js").Unsent} Unsent
  * @typedef {"joining" | "up to date" | "sending" | "no answer" | "offline" | "refused" | "another text" | "closed"} State
  * @typedef {{
  *   addEventListener(name: "changes", listener: (event: CustomEvent<Change[]>) => void): void,
@@ -20,21 +22,17 @@ import { turn } from "./turn.js";
  * }} Tells
  */
 
-/** Milliseconds: until a line is tried again at most, until a room is asked again that took nothing more, until a closed one is left. */
-const LONGEST = 5_000;
-const SHUT = 30_000;
-const CLOSING = 2_000;
-
 const ANOTHER = "the room has another text by now";
 
 /**
  * A session. It tells of itself by events: `changes`, whose `detail` is a list of changes of the shown text, made by others or by the room;
- * and `state`, when `state` or `why` has become another, or the other text that the user is to choose of.
+ * and `state`, when `state`, `why` or `number` has become another, or the other text that the user is to choose of.
  */
 export class Session extends /** @type {{new (): Tells & EventTarget}} */ (EventTarget) {
   #connect;
-  #seat = new Seat(() => this.#isClosed || this.state === "refused" || this.#tell("no answer"));
-  #pace = new Pace();
+  #options;
+  #seat;
+  #pace;
   #other = null; // the document of another run of the server, until the user chooses
   #joined = null; // the document of the room that was joined, until it is gone on with or is another's
   #compared = null; // its version where the user chose to put in what is shown
@@ -46,20 +44,30 @@ export class Session extends /** @type {{new (): Tells & EventTarget}} */ (Event
   #isClosed = false;
   #isShut = false; // the room takes nothing more for now
   #isRefused = false; // for good: nothing is tried any more
+  #isJoined = false; // the room's text was shown at some time
+  #hasOther = false; // as it was told
+  #awaited = []; // what callers wait for: whether it has come, and how they are told
 
   /**
    * `connect` gives an open line to the room, at each call a new one.
    * @param {() => Promise<Line>} connect
+   * @param {import("./options.js").Options} [options]
    */
-  constructor(connect) {
+  constructor(connect, options = {}) {
     super();
     this.#connect = connect;
+    this.#options = withUsual(options);
+    this.#seat = new Seat(() => this.#isClosed || this.state === "refused" || this.#tell("no answer"), this.#options);
+    this.#pace = new Pace(this.#options);
     this.document = new Document();
     /** @type {State} */
     this.state = "joining";
     this.why = "";
-    /** Whether another run of the server has another text, of which the user is to choose. */
-    this.hasOther = false;
+    /** Of a refusal, where `why` tells one, its number. @type {number | null} */
+    this.number = null;
+    /** Settles when the room's text is shown for the first time; rejects, as `sent` does, where the room refuses before. @type {Promise<void>} */
+    this.ready = this.#until(() => this.#isJoined);
+    this.ready.catch(() => {});
     /** Settles when the session has ended; `state` and `why` tell how. */
     this.ended = this.#run();
     this.ended.catch(() => {});
@@ -70,14 +78,20 @@ export class Session extends /** @type {{new (): Tells & EventTarget}} */ (Event
     return this.document.text;
   }
 
-  /** The text of another run of the server, of which the user is to choose; else null. */
-  get otherText() {
-    return this.#other === null ? null : this.#other.roomText;
-  }
-
-  /** The changes that lead from the other text to the one that is shown, the last one in the text first. */
-  get difference() {
-    return this.#other === null ? [] : differences(this.#other.roomText, this.text);
+  /**
+   * What another run of the server has, where the user is to choose: its text, and the changes that lead from it to the one that is shown,
+   * the last one in the text first. Else null.
+   * @returns {{text: string, readonly difference: Change[]} | null}
+   */
+  get other() {
+    if (this.#other === null) return null;
+    const [text, shown] = [this.#other.roomText, this.text];
+    return {
+      text,
+      get difference() {
+        return differences(text, shown);
+      },
+    };
   }
 
   /** What was changed here and the room isn't known to have: a list of texts that were put in or deleted, each with its `kind`. */
@@ -87,7 +101,7 @@ export class Session extends /** @type {{new (): Tells & EventTarget}} */ (Event
 
   /** How many more changes the room takes, as far as is known here: a character put in or deleted is one. */
   get left() {
-    return OPERATIONS - this.document.version - this.document.pending;
+    return Math.max(0, this.#options.operations - this.document.version - this.document.pending);
   }
 
   /** Whether the session has something that the room isn't known to have. */
@@ -148,8 +162,8 @@ export class Session extends /** @type {{new (): Tells & EventTarget}} */ (Event
   putMine() {
     if (this.#other === null) return;
     if (this.#isRefused) throw new Ended(this.why);
-    const cost = this.difference.reduce((sum, { at, removed, text }) => sum + this.#other.cost(at, removed, text), 0);
-    const left = OPERATIONS - this.#other.version;
+    const cost = this.other.difference.reduce((sum, { at, removed, text }) => sum + this.#other.cost(at, removed, text), 0);
+    const left = this.#options.operations - this.#other.version;
     if (cost > left) throw new Full(left);
     this.#compared = this.#other.version;
     this.#wake();
@@ -168,13 +182,30 @@ export class Session extends /** @type {{new (): Tells & EventTarget}} */ (Event
   }
 
   /**
-   * Ends the session: sends what is new, for some seconds, and leaves the room; where nothing is new at once. Where the line isn't there
-   * it tries to leave, once.
+   * Settles once the room has all that was done here until now. Rejects with `Refused`, where the room refuses before, and with `Ended`,
+   * where the session is closed.
+   * @returns {Promise<void>}
    */
-  async close() {
+  sent() {
+    const { document } = this;
+    const before = document.order;
+    const isSent = () => !this.isAhead || (document === this.document && !document.isPending(before));
+    return this.#until(() => this.#other === null && isSent());
+  }
+
+  /**
+   * Ends the session: sends what is new, for some seconds, and leaves the room; where nothing is new at once. Where the line isn't there
+   * it tries to leave, once. With `flush` it first tries for so many milliseconds to have all in the room, also where the line isn't
+   * there yet. Gives whether the room has all.
+   * @param {{flush?: number}} [options]
+   * @returns {Promise<boolean>}
+   */
+  async close({ flush = 0 } = {}) {
     this.#isClosing = true;
-    if (this.#isServed && this.#other === null && this.document.hasNew()) {
-      const timer = setTimeout(() => this.#close(), CLOSING);
+    if (flush > 0) this.#isPaused = false;
+    const isNew = this.#isServed && this.#other === null && this.document.hasNew();
+    if (isNew || (flush > 0 && this.isAhead)) {
+      const timer = setTimeout(() => this.#close(), flush || this.#options.closing);
       this.#wake();
       await this.ended;
       clearTimeout(timer);
@@ -182,6 +213,7 @@ export class Session extends /** @type {{new (): Tells & EventTarget}} */ (Event
       this.#close();
       await this.ended;
     }
+    return !this.isAhead && this.#other === null;
   }
 
   #close() {
@@ -213,11 +245,31 @@ export class Session extends /** @type {{new (): Tells & EventTarget}} */ (Event
     this.#wake();
   }
 
-  #tell(state, why = "") {
+  #tell(state, why = "", number = null) {
     const hasOther = this.#other !== null;
-    if (state === this.state && why === this.why && hasOther === this.hasOther) return;
-    Object.assign(this, { state, why, hasOther });
-    this.dispatchEvent(new CustomEvent("state"));
+    const isTold = state === this.state && why === this.why && number === this.number && hasOther === this.#hasOther;
+    this.#hasOther = hasOther;
+    Object.assign(this, { state, why, number });
+    this.#look();
+    if (!isTold) this.dispatchEvent(new CustomEvent("state"));
+  }
+
+  /** Settles once something has come, or rejects where the room refuses before, or the session ends. */
+  #until(hasCome) {
+    return new Promise((resolve, reject) => {
+      this.#awaited.push({ hasCome, resolve, reject });
+      this.#look();
+    });
+  }
+
+  /** Tells those who wait for what has come. */
+  #look() {
+    const isOver = this.state === "refused" || this.state === "closed";
+    for (const it of this.#awaited.splice(0)) {
+      if (it.hasCome()) it.resolve();
+      else if (isOver) it.reject(this.number === null ? new Ended(this.why) : new Refused(this.number));
+      else this.#awaited.push(it);
+    }
   }
 
   #tellChanges(changes) {
@@ -230,14 +282,15 @@ export class Session extends /** @type {{new (): Tells & EventTarget}} */ (Event
 
   /** Connects, again and again, and serves each line as long as it lasts. */
   async #run() {
-    for (let wait = RETRY; !this.#isClosed && !this.#isRefused; wait = Math.min(2 * wait, LONGEST)) {
+    const { retry, longest } = this.#options;
+    for (let wait = retry; !this.#isClosed && !this.#isRefused; wait = Math.min(2 * wait, longest)) {
       try {
         this.#seat.line = await this.#connect();
         if (this.#isShut) await this.#awaitRoom();
         await this.#resume();
         this.#isShut = false;
         this.#isServed = true;
-        wait = RETRY;
+        wait = retry;
         await this.#serve();
         await this.#seat.leave();
       } catch (fault) {
@@ -245,7 +298,7 @@ export class Session extends /** @type {{new (): Tells & EventTarget}} */ (Event
       }
       this.#isServed = false;
       this.#seat.line?.close();
-      while (this.#isPaused && !this.#isClosed) await this.#sleep(LONGEST);
+      while (this.#isPaused && !this.#isClosed) await this.#sleep(longest);
       if (!this.#isClosed && !this.#isRefused) await this.#sleep(wait);
     }
     if (!this.#isClosed) return;
@@ -260,7 +313,7 @@ export class Session extends /** @type {{new (): Tells & EventTarget}} */ (Event
     if (isFault || (fault instanceof Refused && fault.number !== 26)) {
       this.#isShut ||= fault.number === 12 || fault.number === 13;
       this.#isRefused = ![6, 12, 13].includes(fault.number);
-      this.#tell("refused", fault.message);
+      this.#tell("refused", fault.message, fault.number ?? null);
     } else if (!this.#isShut) {
       this.#tell("offline", fault.message);
     }
@@ -271,7 +324,7 @@ export class Session extends /** @type {{new (): Tells & EventTarget}} */ (Event
   /** Asks now and then whether the room takes calls again, and what is pending. */
   async #awaitRoom() {
     while (!(await this.#seat.takes(Math.max(1, this.document.pending)))) {
-      for (let until = Date.now() + SHUT; Date.now() < until; await this.#sleep(1_000)) {
+      for (let until = Date.now() + this.#options.shut; Date.now() < until; await this.#sleep(1_000)) {
         if (!this.#seat.line.isOpen || this.#isOver) throw new Lost();
       }
     }
@@ -291,7 +344,12 @@ export class Session extends /** @type {{new (): Tells & EventTarget}} */ (Event
 
   /** Waits, but not longer than until something is to be done. */
   async #sleep(milliseconds) {
-    await Promise.race([pause(milliseconds), new Promise((resolve) => (this.#wake = resolve))]);
+    let timer;
+    await new Promise((resolve) => {
+      this.#wake = resolve;
+      timer = setTimeout(resolve, milliseconds);
+    });
+    clearTimeout(timer); // a program that has closed its session may end
     this.#wake = () => {};
   }
 
@@ -325,6 +383,7 @@ export class Session extends /** @type {{new (): Tells & EventTarget}} */ (Event
     }
     const changes = go();
     this.document.site = null;
+    this.#isJoined = true;
     this.#tellChanges(changes);
     this.#goOn();
   }
@@ -332,7 +391,7 @@ export class Session extends /** @type {{new (): Tells & EventTarget}} */ (Event
   /** Sends what is new and pulls what others did, until the session is closed. */
   async #serve() {
     for (let began = 0; !this.#isOver; ) {
-      if (this.document.pending <= MOST || this.#other !== null) await this.#rest(began + TYPING);
+      if (this.document.pending <= MOST || this.#other !== null) await this.#rest(began + this.#options.typing);
       if (this.#isOver) return;
       began = Date.now();
       const isMore = await this.#step();
@@ -400,7 +459,7 @@ export class Session extends /** @type {{new (): Tells & EventTarget}} */ (Event
     const isAsSeen = other.version === this.#compared;
     this.#compared = null;
     if (isAsSeen) {
-      const { difference } = this;
+      const { difference } = this.other;
       this.document = other;
       for (const { at, removed, text } of difference) this.document.replace(at, removed, text);
       this.#goOn();

@@ -1,6 +1,5 @@
 /** One round of a session on its line. */
 import { MOST } from "./document.js";
-import { TYPING } from "./pace.js";
 
 /**
  * Sends what was done before the turn began, each submission with a pull right behind it, and pulls on as long as there is more; but no
@@ -12,7 +11,7 @@ import { TYPING } from "./pace.js";
  * @param {(changes: import("./changes.js").Change[]) => void} tell
  */
 export async function turn(document, seat, mayGoOn, tell) {
-  const until = Date.now() + TYPING;
+  const until = Date.now() + seat.options.typing;
   const before = document.order;
   const edits = [];
   try {

@@ -1,0 +1,203 @@
+// Tries what the module promises its callers, with rooms in memory: it needs Node 20, and no server.
+import assert from "node:assert/strict";
+import { execFile } from "node:child_process";
+import { promisify } from "node:util";
+import { MemoryRoom } from "./memory_room.js";
+import { Ended, Full, Lost, open, played, Refused, Session } from "./rgatext.js";
+
+const pause = (milliseconds) => new Promise((resolve) => setTimeout(resolve, milliseconds));
+
+/** Waits until something is so, ten seconds at most. */
+async function until(is, what = `${is}`) {
+  for (let n = 0; !is(); n += 1) {
+    if (n > 1_000) throw new Error(`it doesn't come to that: ${what}`);
+    await pause(10);
+  }
+}
+
+/** What a call takes, in milliseconds. */
+async function timed(call) {
+  const began = performance.now();
+  await call();
+  return performance.now() - began;
+}
+
+async function isReady() {
+  const room = new MemoryRoom();
+  const first = new Session(() => room.connect());
+  first.insert(0, "hello");
+  await first.sent();
+  const second = new Session(() => room.connect({ delay: 30 }));
+  assert.equal(second.text, "");
+  await second.ready;
+  assert.equal(second.text, "hello");
+  const nowhere = new Session(async () => {
+    throw new Refused(4);
+  });
+  await assert.rejects(nowhere.ready, ({ number }) => number === 4);
+  assert.deepEqual([nowhere.state, nowhere.number], ["refused", 4]);
+  const early = new Session(() => new Promise(() => {}));
+  early.close();
+  assert.throws(() => early.insert(0, "x"), Ended);
+  await Promise.all([first.close(), second.close()]);
+  assert.equal(room.sessions, 0);
+}
+
+/** What is sent is in the room when that is told, also over lines that go wrong, and while more is typed. */
+async function isSent() {
+  const room = new MemoryRoom();
+  let count = 0;
+  const meets = () => ["", "", "", "", "answer", "", "", "request"][(count += 1) % 8];
+  const session = new Session(() => room.connect({ delay: 2, meets }));
+  for (const word of ["one ", "two ", "three "]) {
+    session.insert(session.text.length, word);
+    const isWordSent = session.sent();
+    session.insert(session.text.length, "more ");
+    await isWordSent;
+    assert.ok(room.text.includes(word), word);
+  }
+  await session.sent();
+  assert.equal(room.text, "one more two more three more ");
+  await session.sent();
+  assert.equal(await session.close({ flush: 5_000 }), true);
+  await assert.doesNotReject(session.sent(), "nothing is pending");
+  const full = new MemoryRoom({ operations: 4 });
+  const late = new Session(() => full.connect());
+  late.insert(0, "hello");
+  await assert.rejects(late.sent(), ({ number }) => number === 12);
+  assert.deepEqual([late.state, late.number, late.unsent], ["refused", 12, [{ kind: "put in", text: "hello" }]]);
+  assert.throws(() => late.insert(0, "x"), Ended);
+  await late.close();
+}
+
+/** A script that opens, puts in and ends has put it in; where nobody answers that is told when the time is over. */
+async function isFlushed() {
+  const room = new MemoryRoom();
+  const plain = new Session(() => room.connect({ delay: 50 }));
+  plain.insert(0, "lost");
+  assert.equal(await plain.close(), false);
+  assert.equal(room.text, "");
+  const session = new Session(() => room.connect({ delay: 50 }));
+  session.insert(0, "x".repeat(200));
+  assert.equal(await session.close({ flush: 5_000 }), true);
+  assert.deepEqual([room.text, room.sessions], ["x".repeat(200), 0]);
+  let isThere = false;
+  const connect = async () => {
+    if (!isThere) throw new Lost();
+    return room.connect();
+  };
+  const late = new Session(connect);
+  late.insert(0, "late ");
+  const closed = late.close({ flush: 5_000 });
+  assert.throws(() => late.insert(0, "x"), Ended);
+  setTimeout(() => (isThere = true), 300);
+  assert.equal(await closed, true);
+  assert.equal(room.text, `late ${"x".repeat(200)}`);
+  isThere = false;
+  const never = new Session(connect);
+  never.insert(0, "never");
+  const took = await timed(async () => assert.equal(await never.close({ flush: 300 }), false));
+  assert.ok(took > 250 && took < 1_000, `${took} ms`);
+  assert.deepEqual([never.state, never.unsent], ["closed", [{ kind: "put in", text: "never" }]]);
+  const left = new Session(() => room.connect());
+  await left.ready;
+  left.pause();
+  left.insert(0, "paused ");
+  assert.equal(await left.close({ flush: 5_000 }), true);
+  assert.ok(room.text.startsWith("paused "));
+  assert.equal(room.sessions, 0);
+}
+
+/** A program ends once its session is closed. */
+async function ends() {
+  const program = `
+    import { MemoryRoom } from ${JSON.stringify(new URL("memory_room.js", import.meta.url))};
+    import { Session } from ${JSON.stringify(new URL("rgatext.js", import.meta.url))};
+    const room = new MemoryRoom();
+    const session = new Session(() => room.connect());
+    session.insert(0, "hello");
+    console.log(await session.close({ flush: 5_000 }), room.text);`;
+  const run = () => promisify(execFile)(process.execPath, ["--input-type=module", "--eval", program]);
+  const took = await timed(async () => assert.equal((await run()).stdout, "true hello\n"));
+  assert.ok(took < 2_000, `${took} ms`);
+}
+
+/** Changes that others made are told, in turn, and own ones aren't. */
+async function tellsChanges() {
+  const room = new MemoryRoom();
+  const [one, other] = [1, 2].map(() => new Session(() => room.connect()));
+  await Promise.all([one.ready, other.ready]);
+  const told = [];
+  one.addEventListener("changes", ({ detail }) => told.push(...detail));
+  assert.deepEqual(one.replace(0, 0, "b\ud83d"), { at: 0, removed: 0, text: "b\ufffd" });
+  await one.sent();
+  await until(() => other.text === "b\ufffd");
+  other.insert(0, "a");
+  other.remove(1, 1);
+  await until(() => one.text === "a\ufffd");
+  assert.equal(played("b\ufffd", told), "a\ufffd");
+  other.insert(2, "😀");
+  for (const [at, removed] of [[3, 0], [2, 1], [9, 0], [-1, 0]]) assert.throws(() => other.replace(at, removed, ""), RangeError);
+  await Promise.all([one.close(), other.close()]);
+}
+
+async function takesOptions() {
+  const room = new MemoryRoom({ operations: 6 });
+  assert.throws(() => new Session(() => room.connect(), { speed: 1 }), /no option speed/);
+  assert.throws(() => open("ws://nowhere", "notes", { answer: "1", Socket: EventTarget }), /answer/);
+  const session = new Session(() => room.connect({ delay: 150 }), { operations: 6, silence: 100, idle: 5_000 });
+  await until(() => session.state === "no answer");
+  await session.ready;
+  assert.throws(() => session.insert(0, "1234567"), ({ left }) => left === 6);
+  session.insert(0, "123456");
+  assert.deepEqual([session.left, session.cost(0, 1, "")], [0, -1]);
+  assert.throws(() => session.insert(0, "7"), Full);
+  await session.close({ flush: 5_000 });
+  assert.equal(room.text, "123456");
+}
+
+/** The next run of a server has another text: the user is asked, and may type on meanwhile. */
+async function hasAnother() {
+  let room = new MemoryRoom();
+  const [one, other] = [1, 2].map(() => new Session(() => room.connect()));
+  one.insert(0, "hello");
+  await one.sent();
+  await until(() => other.text === "hello");
+  assert.equal(one.other, null);
+  room.cut();
+  room = new MemoryRoom({ site: 7 });
+  await until(() => one.state === "another text" && other.state === "another text");
+  one.insert(5, "!");
+  assert.deepEqual([one.other.text, one.other.difference], ["", [{ at: 0, removed: 0, text: "hello!" }]]);
+  let isKnown = false;
+  const sent = one.sent().then(() => (isKnown = true));
+  await pause(100);
+  assert.equal(isKnown, false, "nothing of it is in the room");
+  one.putMine();
+  await sent;
+  assert.equal(room.text, "hello!");
+  other.takeTheirs();
+  await until(() => other.text === "hello!" && other.state === "up to date");
+  await Promise.all([one.close(), other.close()]);
+}
+
+/** What a room of memory loses with its lines, and with its end, sessions put in again. */
+async function losesNothing() {
+  let room = new MemoryRoom();
+  let count = 0;
+  const meets = ({ t }) => (["join", "leave"].includes(t) ? "" : ["", "", "request", "", "", "", "answer"][(count += 1) % 7]);
+  const sessions = [1, 2].map(() => new Session(() => room.connect({ delay: 1, meets })));
+  for (let n = 0; n < 30; n += 1) {
+    for (const [who, it] of sessions.entries()) it.insert(it.text.length, "ab"[who]);
+    if (n === 15) await Promise.all(sessions.map((it) => it.sent()));
+    if (n === 20) room = room.restart(room.version - 5);
+    await pause(20);
+  }
+  await Promise.all(sessions.map((it) => it.sent()));
+  await until(() => sessions[0].text === sessions[1].text && sessions[0].text === room.text);
+  for (const letter of "ab") assert.equal(room.text.split(letter).length - 1, 30, `${letter} in ${room.text}`);
+  await Promise.all(sessions.map((it) => it.close()));
+}
+
+await Promise.all([isReady(), isSent(), isFlushed(), ends(), tellsChanges(), takesOptions(), hasAnother(), losesNothing()]);
+console.log("the module: what is ready, sent, closed, told and asked is as the page says");
