@@ -15,6 +15,13 @@ async function until(is, what = `${is}`) {
   }
 }
 
+/** What requests meet, each seventh: in turn they are lost, or their answers. Those for which a session would be left are spared. */
+function fault() {
+  let count = 0;
+  const faults = { 7: "request", 14: "answer" };
+  return ({ t }) => (t === "join" || t === "leave" ? "" : faults[(count += 1) % 15] ?? "");
+}
+
 /** What a call takes, in milliseconds. */
 async function timed(call) {
   const began = performance.now();
@@ -46,9 +53,7 @@ async function isReady() {
 /** What is sent is in the room when that is told, also over lines that go wrong, and while more is typed. */
 async function isSent() {
   const room = new MemoryRoom();
-  let count = 0;
-  const meets = () => ["", "", "", "", "answer", "", "", "request"][(count += 1) % 8];
-  const session = new Session(() => room.connect({ delay: 2, meets }));
+  const session = new Session(() => room.connect({ delay: 2, meets: fault() }));
   for (const word of ["one ", "two ", "three "]) {
     session.insert(session.text.length, word);
     const isWordSent = session.sent();
@@ -184,8 +189,7 @@ async function hasAnother() {
 /** What a room of memory loses with its lines, and with its end, sessions put in again. */
 async function losesNothing() {
   let room = new MemoryRoom();
-  let count = 0;
-  const meets = ({ t }) => (["join", "leave"].includes(t) ? "" : ["", "", "request", "", "", "", "answer"][(count += 1) % 7]);
+  const meets = fault();
   const sessions = [1, 2].map(() => new Session(() => room.connect({ delay: 1, meets })));
   for (let n = 0; n < 30; n += 1) {
     for (const [who, it] of sessions.entries()) it.insert(it.text.length, "ab"[who]);
