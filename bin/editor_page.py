@@ -1,7 +1,10 @@
-"""What bin/try_editor_page tries. The arguments are the checkout and, if wanted, where to save a picture."""
+"""What bin/try_editor_page tries. The arguments are the checkout and, if wanted, a folder for pictures."""
 
 import functools
 import http.server
+import json
+import os
+import pathlib
 import random
 import sys
 import tempfile
@@ -10,10 +13,10 @@ import time
 
 from client import Session, Socket
 from selenium.webdriver.common.keys import Keys
-from windows import AREA, ELSEWHERE, Cable, Handler, Mirror, Server, Window
+from windows import AREA, ELSEWHERE, Bare, Cable, Handler, History, Mirror, Server, Window
 
 top = sys.argv[1]
-PROGRAM = top + "/bin/rgatext"
+PROGRAM = os.environ.get("RGATEXT", top + "/bin/rgatext")
 OPERATIONS = 131_072  # of a room
 
 
@@ -153,7 +156,124 @@ def tries_composition():
         windows[0].commit(wanted)
         until(lambda: wanted in windows[1].text, wanted)
     same("composition beside another typist", "zz<日本é>")
+    windows[0].compose("に")
+    until(lambda: "being composed" in windows[0].told, "what is composed for long is said to be held back")
+    windows[0].commit("二")
+    same("what was held back", "zz<日本é二>")
+    assert windows[0].told == "notes: saved" or "not sent" in windows[0].told, windows[0].told
     clear("composition")
+
+
+def tries_carriage_returns():
+    """A text area shows CR as a sign, CodeMirror as it is, and both leave it in the room."""
+    line = Socket(f"ws://127.0.0.1:{server.port}", "returns")
+    session = line({"t": "join"})["s"]
+    line({"t": "ins", "s": session, "n": 1, "v": 0, "k": 0, "x": "one\rtwo\r\nthree"})
+    line({"t": "leave", "s": session})
+    both = [Window(PAGES, server.port, "returns"), Mirror(PAGES, server.port, "returns")]
+    until(lambda: [it.state for it in both] == ["up to date"] * 2, "both have joined")
+    assert both[0].text == "one\u240dtwo\u240d\nthree" and both[1].text == "one\rtwo\r\nthree", [it.text for it in both]
+    for it, end in ((both[0], 14), (both[1], 15)):
+        it.select(end, end)
+        it.type("!")
+        until(lambda: len(both[0].text) == len(both[1].text) == end + 1, "both show it")
+    until(lambda: line({"t": "read"})["x"] == "one\rtwo\r\nthree!!", "the room has its CRs")
+    line.close()
+    for it in both:
+        it.quit()
+
+
+def widths(window, name):
+    """The page at 1,200 and at 390 pixels: nothing of it scrolls sideways, and each field has a name. Its pictures are saved if wanted."""
+    for width in (1_200, 390):
+        window.resize(width)
+        overflow = window.run("return document.documentElement.scrollWidth - document.documentElement.clientWidth")
+        assert overflow <= 0, f"{name} at {width} pixels scrolls sideways by {overflow}"
+        unnamed = window.run("return [...document.querySelectorAll('input, textarea')].filter((it) => !it.labels?.length && !it.ariaLabel).length")
+        assert unnamed == 0, f"{unnamed} fields of {name} have no name"
+        if len(sys.argv) > 2:
+            window.driver.save_screenshot(str(pathlib.Path(sys.argv[2], f"{name}_{width}.png")))
+
+
+def tries_widths():
+    """All pages as they are seen, with a long word, and while the user is asked."""
+    windows[0].put("Two windows, one document.\nWhat each of them types shows at once in both.\n" + "long" * 100, 0, 0)
+    same("a long word")
+    until(lambda: windows[0].state == "up to date", "it is sent")
+    widths(windows[0], "editor")
+    mirror, past = Mirror(PAGES, server.port, "notes"), History(PAGES, server.port, "notes")
+    until(lambda: mirror.text == windows[0].text and past.text.endswith(windows[0].text[-50:]), "all show it")
+    widths(mirror, "codemirror")
+    widths(past, "history")
+    past.quit()
+    server.kill()
+    server.start(site=3)
+    until(lambda: windows[0].state == mirror.state == "another text", "an empty room", 30)
+    widths(windows[0], "editor_asked")
+    widths(mirror, "codemirror_asked")
+    mirror.quit()
+    for it in windows:
+        it.resize(800)
+    windows[0].click("mine")
+    until(lambda: windows[0].state == "up to date", "mine is put in", 30)
+    windows[1].click("theirs")
+    same("after the choice")
+    clear("widths")
+
+
+def tries_history():
+    """Each version of a room is shown, with its edit, and so is a file that was kept."""
+    line = Socket(f"ws://127.0.0.1:{server.port}", "past")
+    session = line({"t": "join"})["s"]
+    line({"t": "ins", "s": session, "n": 1, "v": 0, "k": 0, "x": "helo"})
+    line({"t": "pull", "s": session, "have": 0, "max": 64})
+    line({"t": "ins", "s": session, "n": 2, "v": 4, "k": 3, "x": "l"})
+    line({"t": "del", "s": session, "n": 3, "v": 4, "k": 0, "c": 1})
+    kept = line({"t": "ops", "after": 0, "max": 64})
+    line({"t": "leave", "s": session})
+    line.close()
+    page = History(PAGES, server.port, "past")
+    until(lambda: "version 6 of 6" in page.told, "the newest version")
+    shown = {6: "<del>h</del>ello", 5: "hel<mark>l</mark>o", 4: "hel<mark>o</mark>", 1: "<mark>h</mark>", 0: ""}
+    for version, text in shown.items():
+        page.go(version)
+        assert page.html == text, (version, page.html)
+    page.press("play")
+    until(lambda: "version 6 of 6" in page.told, "it plays to the end")
+    with tempfile.NamedTemporaryFile("w", suffix=".ops") as file:
+        file.write(json.dumps(kept) + "\n" + '{"cut')
+        file.flush()
+        page.choose(file.name)
+        until(lambda: ".ops: version 6 of 6" in page.told, "a kept file")
+    with tempfile.NamedTemporaryFile("w", suffix=".txt") as file:
+        file.write("no log\n")
+        file.flush()
+        page.choose(file.name)
+        until(lambda: "is no kept file" in page.told, "another file")
+    for port, room, told in ((server.port, "nowhere", "no room of this name"), (1, "past", "no server answers"), ("x", "past", "no address")):
+        page.open(port, room)
+        until(lambda: told in page.told, told)
+    page.quit()
+
+
+def tries_long_history():
+    """131,072 versions are open within two seconds, and a step of the slider takes 50 milliseconds at most."""
+    fill("full", 0)
+    page = History(PAGES, server.port, "past")
+    opened = page.opens("full", "version 131,072 of 131,072")
+    steps = sorted(page.timed(version) for version in (1, 40_000, 65_536, 100_000, 131_071, 131_072))
+    print(f"131,072 versions were open in {opened:.0f} ms, and a step of the slider took {steps[0]:.0f} to {steps[-1]:.0f} ms")
+    assert opened <= 2_000 and steps[-1] <= 50, (opened, steps)
+    page.quit()
+
+
+def tries_missing_lib():
+    bare = http.server.ThreadingHTTPServer(("127.0.0.1", 0), functools.partial(Bare, directory=top + "/examples"))
+    threading.Thread(target=bare.serve_forever, daemon=True).start()
+    window = Window(f"http://127.0.0.1:{bare.server_address[1]}", server.port)
+    window.driver.get(f"{window.pages}/codemirror/")
+    until(lambda: "lib isn't there" in window.told, "a missing lib is told")
+    window.quit()
 
 
 def tries_undo():
@@ -174,8 +294,8 @@ def tries_undo():
     for wanted in ("miTHEIRSn", "miTHEIRSne "):
         windows[0].type(undo)
         same("a deletion undone", wanted)
-    for wanted in ("miTHEIRSn", "THEIRSn"):
-        windows[0].type(redo)
+    for wanted, keys in (("miTHEIRSn", redo), ("THEIRSn", Keys.CONTROL + "y")):
+        windows[0].type(keys)
         same("a deletion done again", wanted)
     clear("undo")
 
@@ -197,9 +317,9 @@ def tries_another_run():
     server.kill()
     windows[0].type("!")
     server.start(site=2)
-    until(lambda: all("another text" in it.state for it in windows), "an empty room", 30)
+    until(lambda: all(it.state == "another text" for it in windows), "an empty room", 30)
     assert windows[0].text == "kept here!" and windows[1].text == "kept here", [it.text for it in windows]
-    own = windows[0].run("return document.getElementById('own').innerHTML")
+    own = windows[0].run("return document.querySelector('.own').innerHTML")
     assert own == "<mark>kept here!</mark>" and not windows[0].is_hidden("texts"), own
     windows[0].click("mine")
     until(lambda: windows[0].state == "up to date", "mine is put in")
@@ -216,7 +336,7 @@ def tries_refilled_run():
     line.close()
     server.kill()
     server.start(site=1)
-    until(lambda: all("another text" in it.state for it in windows), "a room that nobody has refilled", 30)
+    until(lambda: all(it.state == "another text" for it in windows), "a room that nobody has refilled", 30)
     line = Socket(f"ws://127.0.0.1:{server.port}", "notes")
     for ops in told:
         line({"t": "put", "ops": ops})
@@ -259,7 +379,7 @@ def tries_origins():
         window.quit()
     for there, is_in in ((kept, False), (open_to, True)):
         window = Window(elsewhere, there.port)
-        until(lambda: window.state.startswith("up to date" if is_in else "offline"), f"a page of {elsewhere}, {is_in}")
+        until(lambda: window.state == ("up to date" if is_in else "offline"), f"a page of {elsewhere}, {is_in}")
         window.quit()
         there.kill()
 
@@ -268,7 +388,7 @@ def tries_65_windows():
     line = Socket(f"ws://127.0.0.1:{server.port}", "notes")
     sessions = [line({"t": "join"})["s"] for _ in range(62)]
     third = Window(PAGES, server.port)
-    until(lambda: "64" in third.state, "the 65th is told that the room is taken")
+    until(lambda: "64" in third.told, "the 65th is told that the room is taken")
     line({"t": "leave", "s": sessions[0]})
     until(lambda: third.state == "up to date", "one has left", 30)
     third.quit()
@@ -314,17 +434,17 @@ def tries_full_room():
     fill("full", 6_400)
     window = Window(PAGES, server.port, "full")
     windows.append(window)
-    until(lambda: "takes 6400 more" in window.state, "a scarce room is told")
+    until(lambda: "95 % full and takes 6,400 more" in window.told, "a scarce room is told")
     window.put("y" * 6_401, 0, 0)
-    until(lambda: "didn't fit" in window.state, "a paste that doesn't fit")
+    until(lambda: "didn't fit" in window.told, "a paste that doesn't fit")
     assert "y" not in window.text, "it is shown as if it were in the room"
     window.put("z" * 6_000, 0, 0)
     fill("full", 3_000)
-    until(lambda: "refused: the room is full" in window.state, "a room that gets full amid a paste", 60)
+    until(lambda: "refused: the room is full" in window.told, "a room that gets full amid a paste", 60)
     line = Socket(f"ws://127.0.0.1:{server.port}", "full")
     sent = line({"t": "read"})["x"].count("z")
     line.close()
-    lost = window.run("return document.getElementById('lost').textContent")
+    lost = window.run("return document.querySelector('.lost').textContent")
     assert 0 < sent < 6_000 and lost == "put in: " + "z" * (6_000 - sent), (sent, len(lost))
     assert window.text.count("z") == 6_000 and window.run(f"return {AREA}.readOnly"), "what was pasted isn't kept"
     assert window.is_hidden("mine") and window.saved() == window.text, "what is shown can't be saved"
@@ -333,10 +453,10 @@ def tries_full_room():
 
 def tries_bad_addresses():
     window = Window(PAGES, server.port, "nowhere")
-    until(lambda: "no room of this name" in window.state, "a missing room")
-    window.run("document.getElementById('host').value = 'nonsense'")
+    until(lambda: "no room of this name" in window.told, "a missing room")
+    window.run("document.getElementById('server').value = 'nonsense'")
     window.press_open()
-    until(lambda: "is no address" in window.state, "a bad address")
+    until(lambda: "an address is ws://" in window.told, "a bad address")
     window.quit()
 
 
@@ -364,7 +484,7 @@ def tries_codemirror():
     show("miXne\ufffd", "half a pair is none")
     server.kill()
     server.start()
-    until(lambda: all("another text" in it.state for it in both), "an empty room", 30)
+    until(lambda: all(it.state == "another text" for it in both), "an empty room", 30)
     both[0].click("mine")
     until(lambda: both[0].state == "up to date", "mine is put in")
     both[1].click("theirs")
@@ -376,19 +496,19 @@ def tries_codemirror():
 def tries_codemirror_in_a_full_room():
     fill("scarce", 40)
     window = Mirror(PAGES, server.port, "scarce")
-    until(lambda: "takes 40 more" in window.state, "a room with forty left")
+    until(lambda: "takes 40 more" in window.told, "a room with forty left")
     window.put("", 0, 30)
-    until(lambda: window.state.startswith("up to date") and "takes 10 more" in window.state, "a deletion of thirty")
+    until(lambda: window.state == "up to date" and "takes 10 more" in window.told, "a deletion of thirty")
     text = window.text
     for _ in range(2):
         window.type(Keys.CONTROL + "z")
-        assert window.text == text and "takes 10 more" in window.state, "an undo that doesn't fit is begun"
+        assert window.text == text and "takes 10 more" in window.told, "an undo that doesn't fit is begun"
     window.quit()
 
 
 windows = []
 PAGES = serve_pages()
-server = Server(PROGRAM, "notes", "pasted", "full", "mirror", "scarce")
+server = Server(PROGRAM, "notes", "pasted", "full", "mirror", "scarce", "past", "returns")
 cable = Cable(server.port)
 try:
     windows = [Window(PAGES, cable.port), Window(PAGES, server.port)]
@@ -397,16 +517,9 @@ try:
     for attempt in (tries_cut_lines, *writing, tries_another_run, tries_refilled_run):
         attempt()
         print(attempt.__name__.removeprefix("tries_").replace("_", " "))
-    if len(sys.argv) > 2:
-        for it, text in zip(windows, ("Two windows, one document.\n", "What each of them types shows at once in both.\n")):
-            it.type(Keys.CONTROL + Keys.END)
-            it.type(text)
-            same("a picture")
-        windows[0].run("scrollTo(0, 0)")
-        windows[0].driver.save_screenshot(sys.argv[2])
-        clear("a picture")
-    rooms = (tries_kept_run, tries_origins, tries_65_windows, tries_full_room, tries_bad_addresses)
-    for attempt in (*rooms, tries_codemirror, tries_codemirror_in_a_full_room, tries_pastes):
+    rooms = (tries_kept_run, tries_origins, tries_65_windows, tries_full_room, tries_bad_addresses, tries_missing_lib)
+    mirrors = (tries_carriage_returns, tries_codemirror, tries_codemirror_in_a_full_room)
+    for attempt in (tries_widths, tries_history, *rooms, *mirrors, tries_pastes, tries_long_history):
         attempt()
         print(attempt.__name__.removeprefix("tries_").replace("_", " "))
     print("bin/try_editor_page: all as it should be")

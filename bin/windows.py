@@ -29,6 +29,13 @@ class Handler(http.server.SimpleHTTPRequestHandler):
         pass
 
 
+class Bare(http.server.SimpleHTTPRequestHandler):
+    """The folder as it is."""
+
+    def log_message(self, *_):
+        pass
+
+
 class Server:
     """`rgatext serve`, which may be killed and started anew at the same port, and keeps its rooms in a folder if there is one."""
 
@@ -119,7 +126,7 @@ class Window:
 
     def open(self, port, room):
         self.driver.get(f"{self.pages}/editor/")
-        for name, text in (("host", f"ws://127.0.0.1:{port}"), ("room", room)):
+        for name, text in (("server", f"ws://127.0.0.1:{port}"), ("room", room)):
             field = self.driver.find_element(By.ID, name)
             field.clear()
             field.send_keys(text)
@@ -141,7 +148,13 @@ class Window:
 
     @property
     def state(self):
-        return self.run("return document.getElementById('state').textContent")
+        """The session's."""
+        return self.run("return document.querySelector('.state').dataset.state ?? ''")
+
+    @property
+    def told(self):
+        """What the page says of it."""
+        return self.run("return document.querySelector('.state').textContent")
 
     def type(self, *keys):
         self.area.send_keys(*keys)
@@ -165,10 +178,10 @@ class Window:
         self.driver.execute_cdp_cmd("Input.insertText", {"text": text})
 
     def click(self, name):
-        self.driver.find_element(By.ID, name).click()
+        self.driver.find_element(By.CLASS_NAME, name).click()
 
     def is_hidden(self, name):
-        return self.run("return document.getElementById(arguments[0]).hidden", name)
+        return self.run("return document.querySelector(`.${arguments[0]}`).hidden", name)
 
     @property
     def asks_before_leaving(self):
@@ -184,6 +197,11 @@ class Window:
                 if (file := pathlib.Path(folder, "text.txt")).exists():
                     return file.read_text(encoding="utf-8")
         return None
+
+    def resize(self, width):
+        """Shows the page as wide as a screen of so many pixels."""
+        screen = {"width": width, "height": 900, "deviceScaleFactor": 1, "mobile": False}
+        self.driver.execute_cdp_cmd("Emulation.setDeviceMetricsOverride", screen)
 
     def quit(self):
         self.driver.quit()
@@ -215,3 +233,46 @@ class Mirror(Window):
             start,
             end,
         )
+
+
+class History(Window):
+    """A window with the page of examples/history."""
+
+    def open(self, port, room):
+        self.driver.get(f"{self.pages}/history/?server=ws://127.0.0.1:{port}&room={room}")
+
+    @property
+    def text(self):
+        return self.run("return document.getElementById('text').textContent")
+
+    @property
+    def html(self):
+        return self.run("return document.getElementById('text').innerHTML")
+
+    def go(self, version):
+        self.run("const it = document.getElementById('version'); it.value = arguments[0]; it.dispatchEvent(new Event('input'))", version)
+
+    def opens(self, room, told):
+        """Milliseconds until a room is open, and that is told of it."""
+        return self.driver.execute_async_script(
+            "const [room, told, done] = arguments, began = performance.now();"
+            "document.getElementById('room').value = room; document.getElementById('where').requestSubmit();"
+            "const look = () => document.getElementById('state').textContent.includes(told)"
+            " ? done(performance.now() - began) : setTimeout(look, 5); look();",
+            room,
+            told,
+        )
+
+    def timed(self, version):
+        """Milliseconds until a version is shown, laid out."""
+        return self.run(
+            "const it = document.getElementById('version'), began = performance.now(); it.value = arguments[0];"
+            "it.dispatchEvent(new Event('input')); document.getElementById('text').offsetHeight; return performance.now() - began",
+            version,
+        )
+
+    def press(self, name):
+        self.driver.find_element(By.ID, name).click()
+
+    def choose(self, name):
+        self.driver.find_element(By.ID, "file").send_keys(name)

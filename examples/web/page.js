@@ -1,95 +1,180 @@
-/**
- * What a page tells of its session, and what it asks: the examples' pages have it in common. They have an element `state`, a line; behind
- * it comes what another text of the room asks, and what the room doesn't have at the end.
- */
-import { Ended, Full } from "./rgatext.js";
+/** What a page tells of its session and asks of its user, and how a session comes and goes with its page. */
+import { Ended, Full } from "./faults.js";
 
-/** So many changes before a room is full it is told. */
-const SCARCE = 13_107;
+/** @typedef {import("./session.js").Session} Session */
 
-/** @returns {any} */
-export const element = (id) => document.getElementById(id);
+/** What is said of a state. */
+const WORDS = {
+  "joining": "opening",
+  "up to date": "saved",
+  "sending": "not sent yet",
+  "no answer": "no answer",
+  "offline": "offline, trying again",
+  "refused": "refused",
+  "another text": "another text",
+  "closed": "closed",
+};
 
-element("state").insertAdjacentHTML(
-  "afterend",
-  `<p id="choice" hidden>
-    <button id="theirs">Take the room's text</button>
-    <button id="mine">Put mine in</button>
-    <button id="save">Save what is shown</button>
-  </p>
-  <div id="texts" hidden>The room has: <pre id="other"></pre>and here is: <pre id="own"></pre></div>
-  <div id="unsent" hidden>The room has what is shown, but for this: <pre id="lost"></pre></div>`,
-);
+/** From this part on it is told how full a room is. */
+const SCARCE = 0.75;
 
-/** Whether some of the text may be lost where the page is left. */
+/** Milliseconds for which something has to be so until it is read out. */
+const SAID = 1_000;
+
+/** Whether some of the text may be lost where the session is left. */
 export const mayBeLost = (session) => session.isAhead || session.other !== null;
 
+const number = (count) => count.toLocaleString("en");
+
+/** How full a room is, where that is told. */
+function fullness({ left, operations }) {
+  const used = 1 - left / operations;
+  return used < SCARCE ? "" : `; the room is ${Math.floor(100 * used)} % full and takes ${number(left)} more changes`;
+}
+
+/** An element with a text, and with others in it. */
+function made(name, className, ...inside) {
+  const element = document.createElement(name);
+  if (className !== "") element.className = className;
+  element.append(...inside);
+  return element;
+}
+
 /** Shows a text, with stretches of it marked. */
-function showMarked(id, text, stretches) {
+function showMarked(element, text, stretches) {
   const parts = [];
   let shown = 0;
   for (const [from, to] of stretches) {
-    const mark = document.createElement("mark");
-    mark.textContent = text.slice(from, to);
-    parts.push(text.slice(shown, from), mark);
+    parts.push(text.slice(shown, from), made("mark", "", text.slice(from, to)));
     shown = to;
   }
-  element(id).replaceChildren(...parts, text.slice(shown));
-}
-
-/** Shows the two texts of which the user is to choose, and what differs. */
-function showTexts({ text, other }) {
-  element("texts").hidden = other === null;
-  if (other === null) return;
-  const [theirs, own] = [[], []];
-  let further = 0;
-  for (const { at, removed, text: put } of other.difference.reverse()) {
-    theirs.push([at, at + removed]);
-    own.push([at + further, at + further + put.length]);
-    further += put.length - removed;
-  }
-  showMarked("other", other.text, theirs);
-  showMarked("own", text, own);
-}
-
-/** Says how the session stands, or what is wrong. Gives whether the text may be changed. */
-export function tell(session, trouble = "") {
-  const { state, why, left, unsent, other } = session;
-  const hasOther = other !== null;
-  const isOver = state === "refused" || state === "closed";
-  const scarce = left < SCARCE ? `; the room takes ${left} more changes` : "";
-  element("state").textContent = trouble || (why === "" ? state : `${state}: ${why}`) + scarce;
-  element("state").className = trouble || why || state === "offline" || state === "no answer" ? "trouble" : "";
-  element("choice").hidden = !hasOther && state !== "refused";
-  element("theirs").hidden = element("mine").hidden = !hasOther;
-  showTexts(session);
-  element("unsent").hidden = !isOver || hasOther || unsent.length === 0;
-  element("lost").textContent = isOver ? unsent.map(({ kind, text }) => `${kind}: ${text}`).join("\n") : "";
-  return !isOver;
+  element.replaceChildren(...parts, text.slice(shown));
 }
 
 /**
- * Makes the choice's buttons work, asks before text is left, leaves the room with the page, and goes on where the page comes back.
- * `current` gives the session, if there is one.
+ * Tells in an element of the page how a session stands, and asks what the user has to choose. `name` is what the room is called there.
+ * @param {Session} session
+ * @param {HTMLElement} place
+ * @param {{name?: string}} [options]
  */
-export function listen(current) {
-  element("theirs").addEventListener("click", () => current().takeTheirs());
-  element("mine").addEventListener("click", () => {
+export function bindStatus(session, place, options) {
+  return new StatusBinding(session, place, options);
+}
+
+class StatusBinding {
+  #session;
+  #place;
+  #name;
+  #trouble = "";
+  #timer;
+  #bound = new AbortController();
+  #state = made("p", "state");
+  #said = made("p", "said");
+  #theirs = made("button", "theirs", "Take the room's text");
+  #mine = made("button", "mine", "Put mine in");
+  #save = made("button", "save", "Save what is shown");
+  #choice = made("p", "choice", this.#theirs, " ", this.#mine, " ", this.#save);
+  #other = made("pre", "other");
+  #own = made("pre", "own");
+  #texts = made("div", "texts", "The room has:", this.#other, "and here is:", this.#own);
+  #lost = made("pre", "lost");
+  #unsent = made("div", "unsent", "The room has what is shown, but for this:", this.#lost);
+
+  constructor(session, place, { name = "" } = {}) {
+    this.#session = session;
+    this.#place = place;
+    this.#name = name;
+    for (const it of [this.#theirs, this.#mine, this.#save]) it.type = "button";
+    this.#said.setAttribute("aria-live", "polite");
+    const { signal } = this.#bound;
+    this.#theirs.addEventListener("click", () => session.takeTheirs(), { signal });
+    this.#mine.addEventListener("click", () => this.#putMine(), { signal });
+    this.#save.addEventListener("click", () => this.#saveText(), { signal });
+    session.addEventListener("state", () => this.#tell(), { signal });
+    session.addEventListener("changes", () => this.#tell(), { signal });
+    place.classList.add("rgatext-status");
+    place.replaceChildren(this.#state, this.#said, this.#choice, this.#texts, this.#unsent);
+    this.#tell();
+  }
+
+  /** Tells what an editor's binding has trouble with, until it is called with an empty text. */
+  trouble(trouble) {
+    this.#trouble = trouble;
+    this.#tell();
+  }
+
+  /** Lets go of the session and the element. */
+  release() {
+    this.#bound.abort();
+    clearTimeout(this.#timer);
+    this.#place.replaceChildren();
+  }
+
+  #tell() {
+    const { state, why, unsent, other } = this.#session;
+    const isOver = state === "refused" || state === "closed";
+    const words = (!isOver && this.#trouble) || WORDS[state] + (why === "" ? "" : `: ${why}`);
+    this.#state.textContent = (this.#name === "" ? "" : `${this.#name}: `) + words + fullness(this.#session);
+    this.#state.dataset.state = state;
+    this.#state.classList.toggle("trouble", words !== WORDS[state] || ["no answer", "offline", "refused"].includes(state));
+    this.#choice.hidden = other === null && state !== "refused";
+    this.#theirs.hidden = this.#mine.hidden = other === null;
+    this.#showTexts(other);
+    this.#unsent.hidden = !isOver || other !== null || unsent.length === 0;
+    this.#lost.textContent = isOver ? unsent.map((it) => `${it.kind}: ${it.text}`).join("\n") : "";
+    clearTimeout(this.#timer);
+    this.#timer = setTimeout(() => this.#say(words), SAID);
+  }
+
+  /** Reads out what has been so for a while. */
+  #say(words) {
+    if (this.#said.textContent !== words) this.#said.textContent = words;
+  }
+
+  /** Shows the two texts of which the user is to choose, and what differs. */
+  #showTexts(other) {
+    this.#texts.hidden = other === null;
+    if (other === null) return;
+    const [theirs, own] = [[], []];
+    let further = 0;
+    for (const { at, removed, text: put } of other.difference.reverse()) {
+      theirs.push([at, at + removed]);
+      own.push([at + further, at + further + put.length]);
+      further += put.length - removed;
+    }
+    showMarked(this.#other, other.text, theirs);
+    showMarked(this.#own, this.#session.text, own);
+  }
+
+  #putMine() {
     try {
-      current().putMine();
+      this.#session.putMine();
     } catch (fault) {
       if (!(fault instanceof Full || fault instanceof Ended)) throw fault;
-      tell(current(), fault instanceof Full ? `${fault.message}: that doesn't fit` : fault.message);
+      this.trouble(fault instanceof Full ? `${fault.message}: that doesn't fit` : fault.message);
     }
-  });
-  element("save").addEventListener("click", () => {
+  }
+
+  #saveText() {
     const link = document.createElement("a");
-    link.href = URL.createObjectURL(new Blob([current().text]));
+    link.href = URL.createObjectURL(new Blob([this.#session.text]));
     link.download = "text.txt";
     link.click();
-  });
-  addEventListener("beforeunload", (event) => current() && mayBeLost(current()) && event.preventDefault());
-  addEventListener("pagehide", ({ persisted }) => (persisted ? current()?.pause() : current()?.close()));
-  addEventListener("pageshow", ({ persisted }) => persisted && current()?.resume());
-  document.addEventListener("visibilitychange", () => current() && (current().isHidden = document.hidden));
+    URL.revokeObjectURL(link.href);
+  }
+}
+
+/**
+ * Asks before text is left that may be lost, leaves the room with the page, goes on where the page comes back, and asks rarely while it is
+ * hidden. Gives what unbinds it.
+ * @param {Session} session
+ */
+export function bindPage(session) {
+  const bound = new AbortController();
+  const { signal } = bound;
+  addEventListener("beforeunload", (event) => mayBeLost(session) && event.preventDefault(), { signal });
+  addEventListener("pagehide", ({ persisted }) => (persisted ? session.pause() : session.close()), { signal });
+  addEventListener("pageshow", ({ persisted }) => persisted && session.resume(), { signal });
+  document.addEventListener("visibilitychange", () => (session.isHidden = document.hidden), { signal });
+  return { release: () => bound.abort() };
 }

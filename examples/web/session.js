@@ -99,9 +99,14 @@ export class Session extends /** @type {{new (): Tells & EventTarget}} */ (Event
     return this.document.unsent;
   }
 
+  /** How many changes the room takes in all. */
+  get operations() {
+    return this.#options.operations;
+  }
+
   /** How many more changes the room takes, as far as is known here: a character put in or deleted is one. */
   get left() {
-    return Math.max(0, this.#options.operations - this.document.version - this.document.pending);
+    return Math.max(0, this.operations - this.document.version - this.document.pending);
   }
 
   /** Whether the session has something that the room isn't known to have. */
@@ -163,7 +168,7 @@ export class Session extends /** @type {{new (): Tells & EventTarget}} */ (Event
     if (this.#other === null) return;
     if (this.#isRefused) throw new Ended(this.why);
     const cost = this.other.difference.reduce((sum, { at, removed, text }) => sum + this.#other.cost(at, removed, text), 0);
-    const left = this.#options.operations - this.#other.version;
+    const left = this.operations - this.#other.version;
     if (cost > left) throw new Full(left);
     this.#compared = this.#other.version;
     this.#wake();

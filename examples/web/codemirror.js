@@ -1,0 +1,148 @@
+/** CodeMirror 5 over a session: what is typed goes to the room, and what others type comes into the editor. */
+import { carried } from "./changes.js";
+import { Ended, Full } from "./faults.js";
+import { Undo } from "./undo.js";
+
+/** Milliseconds for which what others put in has the class `others`. */
+const SHOWN = 2_000;
+
+/**
+ * Keeps an editor in step with a session. Its own history drops what others touch on the same line, so the user's steps are kept beside it,
+ * and others' changes are none of them.
+ * @param {import("./session.js").Session} session
+ * @param {any} editor of CodeMirror 5
+ * @param {import("./textarea.js").BindingOptions} [options]
+ */
+export function bindCodeMirror(session, editor, options) {
+  return new CodeMirrorBinding(session, editor, options);
+}
+
+class CodeMirrorBinding {
+  #session;
+  #editor;
+  #onTrouble;
+  #undo = new Undo();
+  #isPlaying = false; // changes that the session knows
+  #bound = new AbortController();
+  #typedBefore = (_, change) => this.#isPlaying || this.#typed(change);
+  #keys = {
+    "Ctrl-Z": () => this.undo(),
+    "Cmd-Z": () => this.undo(),
+    "Shift-Ctrl-Z": () => this.redo(),
+    "Shift-Cmd-Z": () => this.redo(),
+    "Ctrl-Y": () => this.redo(),
+  };
+
+  constructor(session, editor, { onTrouble = () => {} } = {}) {
+    this.#session = session;
+    this.#editor = editor;
+    this.#onTrouble = onTrouble;
+    const { signal } = this.#bound;
+    editor.setOption("lineSeparator", "\n"); // a CR of the room is kept
+    this.#play(() => editor.setValue(session.text));
+    editor.on("beforeChange", this.#typedBefore);
+    editor.addKeyMap(this.#keys);
+    session.addEventListener("changes", ({ detail }) => this.#follow(detail), { signal });
+    session.addEventListener("state", () => this.#setReadOnly(), { signal });
+    this.#setReadOnly();
+  }
+
+  /** Undoes the user's last step. */
+  undo() {
+    this.#turn(false);
+  }
+
+  /** Does again what was undone last. */
+  redo() {
+    this.#turn(true);
+  }
+
+  /** Lets go of the editor and the session. */
+  release() {
+    this.#bound.abort();
+    this.#editor.off("beforeChange", this.#typedBefore);
+    this.#editor.removeKeyMap(this.#keys);
+  }
+
+  #setReadOnly() {
+    this.#editor.setOption("readOnly", this.#session.state === "refused" || this.#session.state === "closed");
+  }
+
+  /** Makes a change, or says why it can't be made. Gives whether it was made. */
+  #change(make) {
+    try {
+      make();
+    } catch (fault) {
+      if (!(fault instanceof Full || fault instanceof Ended)) throw fault;
+      this.#onTrouble(fault instanceof Full ? `${fault.message}: that didn't fit` : fault.message);
+      return false;
+    }
+    this.#onTrouble("");
+    return true;
+  }
+
+  /** Plays changes that the session knows. */
+  #play(make) {
+    this.#isPlaying = true;
+    try {
+      this.#editor.operation(make);
+    } finally {
+      this.#isPlaying = false;
+    }
+  }
+
+  #put(at, removed, text) {
+    this.#editor.replaceRange(text, this.#editor.posFromIndex(at), this.#editor.posFromIndex(at + removed));
+  }
+
+  /** Tells the session what the user is about to change. */
+  #typed(change) {
+    const at = this.#editor.indexFromPos(change.from);
+    const taken = this.#editor.getRange(change.from, change.to);
+    const text = change.text.join("\n");
+    const isMade = this.#change(() => {
+      const made = this.#session.replace(at, taken.length, text);
+      this.#undo.note(made, taken);
+      if (made.text !== text) change.update(change.from, change.to, made.text.split("\n")); // half a pair is none of the room's
+    });
+    if (!isMade) change.cancel();
+  }
+
+  /** Shows what others changed. The line of the caret stays where it is seen. */
+  #follow(changes) {
+    const editor = this.#editor;
+    this.#undo.follow(changes);
+    const follow = (it) => carried(editor.indexFromPos(it), changes);
+    const selected = editor.listSelections().map(({ anchor, head }) => [follow(anchor), follow(head)]);
+    const { top } = editor.getScrollInfo();
+    const heightToCaret = () => editor.heightAtLine(editor.getCursor().line, "local");
+    const before = heightToCaret();
+    this.#play(() => {
+      for (const { at, removed, text, to = at } of changes) {
+        this.#put(at, removed, "");
+        this.#put(to, 0, text);
+        this.#mark(to, text.length);
+      }
+      const places = selected.map(([anchor, head]) => ({ anchor: editor.posFromIndex(anchor), head: editor.posFromIndex(head) }));
+      editor.setSelections(places, null, { scroll: false });
+    });
+    editor.scrollTo(null, top + heightToCaret() - before);
+  }
+
+  /** Marks what others put in, for a while. */
+  #mark(at, units) {
+    if (units === 0) return;
+    const mark = this.#editor.markText(this.#editor.posFromIndex(at), this.#editor.posFromIndex(at + units), { className: "others" });
+    setTimeout(() => mark.clear(), SHOWN);
+  }
+
+  #turn(isRedo) {
+    if (this.#editor.getOption("readOnly")) return;
+    const replace = (at, removed, text) => {
+      this.#session.replace(at, removed, text);
+      this.#put(at, removed, text);
+      this.#editor.setCursor(this.#editor.posFromIndex(at + text.length));
+    };
+    this.#change(() => this.#play(() => this.#undo.turn(isRedo, this.#session, replace)));
+  }
+}
