@@ -51,6 +51,10 @@ export class History {
     }
   }
 
+  #mustHave(version) {
+    if (!Number.isInteger(version) || version < 0 || version > this.version) throw new RangeError(`there is no version ${version}`);
+  }
+
   #element(stamp) {
     const element = this.#elements.get(stamp === null ? 0 : stampOf(stamp));
     if (element === undefined) throw new RangeError(`the operation behind version ${this.version} builds on an element that isn't there`);
@@ -81,13 +85,16 @@ export class History {
 
   /** The elements of a version's text. */
   elements(version) {
-    if (!(version >= 0 && version <= this.version)) throw new RangeError(`there is no version ${version}`);
+    this.#mustHave(version);
     return this.#ordered.filter((it) => isIn(version, it));
   }
 
   /** The text of a version. */
   text(version) {
-    return this.elements(version).map(({ sign }) => sign).join("");
+    this.#mustHave(version);
+    const signs = [];
+    for (const it of this.#ordered) if (isIn(version, it)) signs.push(it.sign);
+    return signs.join("");
   }
 
   /**
@@ -95,8 +102,9 @@ export class History {
    * @returns {Change}
    */
   change(version) {
+    this.#mustHave(version);
+    if (version === 0) throw new RangeError("no operation led to version 0");
     const element = this.#log[version - 1];
-    if (element === undefined) throw new RangeError(`nothing led to version ${version}`);
     let at = 0;
     for (const it of this.#ordered) {
       if (it === element) break;

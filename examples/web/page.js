@@ -11,7 +11,7 @@ const WORDS = {
   "no answer": "no answer",
   "offline": "offline, trying again",
   "refused": "refused",
-  "another text": "another text",
+  "another text": "please choose",
   "closed": "closed",
 };
 
