@@ -1,16 +1,20 @@
 /**
  * The past of a room: its text at each version, made of its operations by the definitions of docs/EXCHANGE.md. The elements are a tree, each
  * below the one that it stands behind. They are read from the top, of those below one the one with the greatest stamp first.
- *
+ */
+import { MOST } from "./document.js";
+import { Refused } from "./faults.js";
+
+/**
  * @typedef {import("./changes.js").Change} Change
+ *
+ * An operation or a run of them, as docs/EXCHANGE.md has it.
  * @typedef {{c: number[][], k: string, s: number, p?: number[] | null, t?: number[], x?: string}} Operation
+ *
  * An element: the character, its stamp, from which version on it is there, up to which one it isn't any more, and those below it, the least
  * stamp first.
  * @typedef {{sign: string, stamp: number, from: number, to: number, below: Element[]}} Element
  */
-
-import { MOST } from "./document.js";
-import { Refused } from "./faults.js";
 
 /** So many requests are on their way at one time. */
 const AHEAD = 32;
@@ -83,13 +87,19 @@ export class History {
     return this.#order;
   }
 
-  /** The elements of a version's text. */
+  /**
+   * The elements of a version's text.
+   * @param {number} version
+   */
   elements(version) {
     this.#mustHave(version);
     return this.#ordered.filter((it) => isIn(version, it));
   }
 
-  /** The text of a version. */
+  /**
+   * The text of a version.
+   * @param {number} version
+   */
   text(version) {
     this.#mustHave(version);
     const signs = [];
@@ -99,6 +109,7 @@ export class History {
 
   /**
    * What led to a version from the one before. Where that deleted what was gone already, nothing is removed.
+   * @param {number} version
    * @returns {Change}
    */
   change(version) {
@@ -139,6 +150,7 @@ export async function follow(history, line) {
 /**
  * The history of a text: that of a file of `serve --keep`, of which a last line that was cut short is left out and the digests aren't
  * looked at, or a snapshot. Throws a SyntaxError or a RangeError where it is neither.
+ * @param {string} text
  */
 export function historyOfFile(text) {
   const history = new History();

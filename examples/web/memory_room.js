@@ -4,15 +4,17 @@
  *
  *     const room = new MemoryRoom();
  *     const session = new Session(() => room.connect({ delay: 20, meets: ({ t }) => (t === "ins" && isUnlucky() ? "answer" : "") }));
- *
- * @typedef {import("./history.js").Operation} Operation
- * @typedef {import("./connection.js").Line} Line
  */
 import { MOST } from "./document.js";
 import { Lost } from "./faults.js";
 import { History } from "./history.js";
 import { OPERATIONS } from "./options.js";
 import { pause } from "./seat.js";
+
+/**
+ * @typedef {import("./history.js").Operation} Operation
+ * @typedef {import("./connection.js").Line} Line
+ */
 
 const SESSIONS = 64;
 const SITES = 32;
@@ -43,7 +45,10 @@ const KINDS = {
   put: { ops: Array.isArray },
 };
 
-/** The single operations of an object. @returns {Operation[]} */
+/**
+ * The single operations of an object.
+ * @returns {Operation[]}
+ */
 function singles({ c, k, s, p, t, x }) {
   if (k === "d") return [{ c, k, s, t }];
   const sum = sumOf(c);
@@ -120,7 +125,10 @@ export class MemoryRoom {
     return this.#sessions.size;
   }
 
-  /** The log, packed as replies have it. @returns {Operation[]} */
+  /**
+   * The log, packed as replies have it.
+   * @returns {Operation[]}
+   */
   get log() {
     return packed(this.#log);
   }
@@ -186,7 +194,11 @@ export class MemoryRoom {
     return structuredClone(reply);
   }
 
-  /** The reply to a request, at once. */
+  /**
+   * The reply to a request, at once.
+   * @param {object} request
+   * @returns {import("./connection.js").Reply}
+   */
   answer(request) {
     try {
       const { t, u, ...rest } = Object(request);

@@ -17,8 +17,8 @@ import { turn } from "./turn.js";
  * @typedef {import("./document.js").Unsent} Unsent
  * @typedef {"joining" | "up to date" | "sending" | "no answer" | "offline" | "refused" | "another text" | "closed"} State
  * @typedef {{
- *   addEventListener(name: "changes", listener: (event: CustomEvent<Change[]>) => void): void,
- *   addEventListener(name: "state", listener: () => void): void,
+ *   addEventListener(name: "changes", listener: (event: CustomEvent<Change[]>) => void, options?: AddEventListenerOptions): void,
+ *   addEventListener(name: "state", listener: () => void, options?: AddEventListenerOptions): void,
  * }} Tells
  */
 
@@ -63,9 +63,15 @@ export class Session extends /** @type {{new (): Tells & EventTarget}} */ (Event
     /** @type {State} */
     this.state = "joining";
     this.why = "";
-    /** Of a refusal, where `why` tells one, its number. @type {number | null} */
+    /**
+     * The number of a refusal that `why` tells, else null.
+     * @type {number | null}
+     */
     this.number = null;
-    /** Settles when the room's text is shown for the first time; rejects, as `sent` does, where the room refuses before. @type {Promise<void>} */
+    /**
+     * Settles when the room's text is shown for the first time; rejects, as `sent` does, where the room refuses before.
+     * @type {Promise<void>}
+     */
     this.ready = this.#until(() => this.#isJoined);
     this.ready.catch(() => {});
     /** Settles when the session has ended; `state` and `why` tell how. */
@@ -114,23 +120,42 @@ export class Session extends /** @type {{new (): Tells & EventTarget}} */ (Event
     return this.document.pending > 0;
   }
 
-  /** Whether nobody looks at the text: then news is asked for rarely. */
+  /**
+   * Whether nobody looks at the text: then news is asked for rarely.
+   * @param {boolean} isHidden
+   */
   set isHidden(isHidden) {
     this.#pace.isHidden = isHidden;
     this.#wake();
   }
 
-  /** @returns {Change} */
+  /**
+   * Puts a text in: `replace` that removes nothing.
+   * @param {number} at
+   * @param {string} text
+   * @returns {Change}
+   */
   insert(at, text) {
     return this.replace(at, 0, text);
   }
 
-  /** @returns {Change} */
+  /**
+   * Removes so many units: `replace` that puts nothing in.
+   * @param {number} at
+   * @param {number} removed
+   * @returns {Change}
+   */
   remove(at, removed) {
     return this.replace(at, removed, "");
   }
 
-  /** How many of the changes that the room takes are used up where the shown text is changed so; less than none where it undoes some. */
+  /**
+   * How many of the changes that the room takes are used up where the shown text is changed so; less than none where it undoes some.
+   * @param {number} at
+   * @param {number} removed
+   * @param {string} text
+   * @returns {number}
+   */
   cost(at, removed, text) {
     return this.document.cost(at, removed, text);
   }

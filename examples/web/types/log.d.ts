@@ -1,0 +1,78 @@
+export class Log {
+    /** @param {(request: object) => Promise<import("./connection.js").Reply>} ask */
+    constructor(ask: (request: object) => Promise<import("./connection.js").Reply>);
+    /**
+     * The last operations up to a version.
+     * @returns {Promise<Known[]>}
+     */
+    last(version: any): Promise<Known[]>;
+    /** The site of an operation. */
+    siteOf(number: any): Promise<number>;
+    /**
+     * Whether the log goes on from what a document knows of it.
+     * @param {Document} document
+     */
+    goesOn({ version, memory }: Document): Promise<any>;
+    /**
+     * Up to which version the log is the one that a document knows, and whether it surely lost what was behind that; null where not even
+     * its beginning is known.
+     * @param {Document} document
+     */
+    upTo({ version, memory }: Document): Promise<{
+        kept: any;
+        isSure: boolean;
+    } | {
+        kept: number;
+        isSure: boolean;
+        isWhole: boolean;
+    } | null>;
+    /**
+     * Whether a site is that of the server's run: that takes no operation of its own from elsewhere. This one deletes what isn't there, so
+     * nobody takes it.
+     */
+    isOfRun(site: any): Promise<boolean>;
+    /**
+     * Whether the operations from a version to another are what a document has under way.
+     * @param {Document} document
+     * @param {number} from
+     * @param {number} to
+     */
+    is(document: Document, from: number, to: number): Promise<boolean>;
+    /**
+     * Where the log has what a document has under way: behind what the document knows, and in one piece; or its beginning alone, where the
+     * log lost the end. Null where it hasn't. `from`: the version that it leads from, where that is known.
+     * @param {Document} document
+     */
+    find(document: Document, from?: any): Promise<{
+        from: number;
+        count: number;
+    } | null>;
+    /**
+     * The text that one site typed from its beginning to its end, where the log begins so, and whether it is that of a new document: site 0
+     * typed it, as a room is renewed, before this run of the server. Null where the log begins otherwise.
+     */
+    firstText(): Promise<{
+        text: string;
+        version: number;
+        last: {
+            sign: string;
+            site: any;
+        }[];
+        isNew: boolean;
+    } | null>;
+    #private;
+}
+export type Document = import("./document.js").Document;
+/**
+ * A single operation: the character that it puts in, or an empty text of a deletion; its site; which of its site's it is; its clock; its
+ * stamp, and that of the element that it stands behind or deletes.
+ */
+export type Known = import("./memory.js").Known;
+export type Single = {
+    sign: string;
+    site: number;
+    sequence: number;
+    clock: number[][];
+    stamp: string;
+    of: string;
+};

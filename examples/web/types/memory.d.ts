@@ -1,0 +1,79 @@
+/** So many operations tell one log from another. */
+export const SIGNS: 64;
+/**
+ * What is known of an operation: the character that it puts in, or an empty text of a deletion; and its site, where that is known.
+ * @typedef {{sign: string, site: number | null}} Known
+ *
+ * What took the room's text from a version to another: what was deleted at a place, each text with whether it was deleted here too, and
+ * the number of the wait in which it came; and what was put in there. `known` are its last operations.
+ * @typedef {{at: number, taken: {text: string, isMine: boolean, since: number}[], put: string}} Way
+ * @typedef {{from: number, to: number, known: Known[], isOwn: boolean, ways: Way[], when: number}} Entry
+ */
+export class Memory {
+    /**
+     * Remembers nothing but the version, and what the log has last up to there.
+     * @param {Known[]} last
+     */
+    constructor(version: any, last: Known[]);
+    /** The version that can be gone back to. */
+    base: any;
+    /** The sites of all operations that were known at some time. @type {Set<number>} */
+    sites: Set<any>;
+    /** @param {Omit<Entry, "when">} entry */
+    add(entry: Omit<Entry, "when">): void;
+    /** What is known of the operations from some number below the base on; of those in between nothing may be known. */
+    get known(): {
+        start: number;
+        known: (Known | undefined)[];
+    };
+    /** What is known of the last operations up to a version, at most `SIGNS`. */
+    last(version: any): (Known | undefined)[];
+    /** How many entries lead to the document's version. */
+    get length(): number;
+    /** How many entries lead to a version; fewer where the entries don't tell it alone. */
+    lengthAt(version: any): number;
+    /** Forgets all but so many entries, the last one first. */
+    since(length: any): Generator<Entry | undefined, void, unknown>;
+    /** The room's texts that led to this one, the last first, and how many entries lead to each. */
+    texts(text: any): Generator<{
+        text: any;
+        length: number;
+    }, void, unknown>;
+    /** The entries that put in something here that the room's text of so many units still has, the last first: how many lead to each, and where. */
+    own(units: any): Generator<{
+        length: number;
+        places: number[];
+    }, void, unknown>;
+    #private;
+}
+/**
+ * What took the room's text from a version to another: what was deleted at a place, each text with whether it was deleted here too, and
+ * the number of the wait in which it came; and what was put in there. `known` are its last operations.
+ */
+export type Known = {
+    sign: string;
+    site: number | null;
+};
+/**
+ * What is known of an operation: the character that it puts in, or an empty text of a deletion; and its site, where that is known.
+ */
+export type Way = {
+    at: number;
+    taken: {
+        text: string;
+        isMine: boolean;
+        since: number;
+    }[];
+    put: string;
+};
+/**
+ * What is known of an operation: the character that it puts in, or an empty text of a deletion; and its site, where that is known.
+ */
+export type Entry = {
+    from: number;
+    to: number;
+    known: Known[];
+    isOwn: boolean;
+    ways: Way[];
+    when: number;
+};

@@ -1,0 +1,23 @@
+/**
+ * A piece: its text; whose it is; what becomes of it; and, where something of it is new, when that was made. Text that others put in and
+ * the room lost stays where it stood, unseen, for when they put it in again.
+ */
+export class Piece {
+    constructor(text: any, owner: any, gone?: null, order?: number, since?: number);
+    text: any;
+    owner: any;
+    gone: any;
+    order: number;
+    since: number;
+    get isShown(): boolean;
+    get isRooms(): boolean;
+    /** Whether something of it is to be sent, as soon as the room has it. */
+    get isNew(): boolean;
+    /** Whether the room isn't known to have what became of it here. */
+    get isPending(): boolean;
+    get isLost(): boolean;
+    /** Takes what stands behind the place off, and gives it as a piece of its own. */
+    cut(place: any): Piece;
+    /** Whether both are of one kind, so that they may be one piece. */
+    isLike(other: any): boolean;
+}
