@@ -16,6 +16,12 @@ import { withUsual } from "./options.js";
 import { Session } from "./session.js";
 import { difference } from "./text.js";
 
+/**
+ * @typedef {import("./changes.js").Change} Change
+ * @typedef {import("./options.js").Options} Options
+ * @typedef {import("./session.js").State} State
+ */
+
 export { carried, difference, differences, Document, Ended, Full, Lost, played, Refused, Session };
 
 /**
@@ -24,7 +30,7 @@ export { carried, difference, differences, Document, Ended, Full, Lost, played, 
  * is the option `Socket`.
  * @param {string} address
  * @param {string} room
- * @param {import("./options.js").Options & {Socket?: new (address: string) => any}} [options]
+ * @param {Options & {Socket?: new (address: string) => any}} [options]
  * @returns {Session}
  */
 export function open(address, room, { Socket = globalThis.WebSocket, ...options } = {}) {

@@ -4,12 +4,15 @@
  * is the option `Socket`.
  * @param {string} address
  * @param {string} room
- * @param {import("./options.js").Options & {Socket?: new (address: string) => any}} [options]
+ * @param {Options & {Socket?: new (address: string) => any}} [options]
  * @returns {Session}
  */
 export function open(address: string, room: string, { Socket, ...options }?: (import("./options.js").Options & {
     Socket?: (new (address: string) => any) | undefined;
 }) | undefined): Session;
+export type Change = import("./changes.js").Change;
+export type Options = import("./options.js").Options;
+export type State = import("./session.js").State;
 import { Session } from "./session.js";
 import { carried } from "./changes.js";
 import { difference } from "./text.js";
