@@ -6,6 +6,9 @@ import json
 import os
 import pathlib
 import random
+import re
+import shutil
+import subprocess
 import sys
 import tempfile
 import threading
@@ -13,11 +16,12 @@ import time
 
 from client import Session, Socket
 from selenium.webdriver.common.keys import Keys
-from windows import AREA, ELSEWHERE, Bare, Cable, Handler, History, Mirror, Server, Window
+from windows import AREA, ELSEWHERE, Bare, Cable, Handler, History, Mirror, Server, Walk, Window
 
 top = sys.argv[1]
 PROGRAM = os.environ.get("RGATEXT", top + "/bin/rgatext")
 OPERATIONS = 131_072  # of a room
+NODE = int(subprocess.run(["node", "-p", "parseInt(process.versions.node)"], capture_output=True, text=True, check=True).stdout)
 
 
 def serve_pages():
@@ -267,6 +271,42 @@ def tries_long_history():
     page.quit()
 
 
+def written(page, language):
+    """The first example of a page in a language, for the room `walk` of the server."""
+    (example,) = re.findall(f"```{language}\n(.*?)```", (pathlib.Path(top) / page).read_text(encoding="utf-8"), re.S)[:1]
+    return example.replace("127.0.0.1:7878", f"127.0.0.1:{server.port}").replace('"notes"', '"walk"')
+
+
+def tries_walk():
+    """What the pages of the clients tell an author to write: a text area in ten lines, a script that sends and ends, and a chat."""
+    with tempfile.TemporaryDirectory() as folder:
+        module = pathlib.Path(shutil.copytree(f"{top}/examples/web", f"{folder}/module"))
+        (module / "index.html").write_text(written("examples/web/README.md", "html"), encoding="utf-8")
+        (module / "script.mjs").write_text(written("examples/web/README.md", "js"), encoding="utf-8")
+        (module / "chat.py").write_text(written("examples/python_readme.md", "python"), encoding="utf-8")
+        pages = http.server.ThreadingHTTPServer(("127.0.0.1", 0), functools.partial(Bare, directory=folder))
+        threading.Thread(target=pages.serve_forever, daemon=True).start()
+        window = Walk(f"http://127.0.0.1:{pages.server_address[1]}", server.port)
+        until(lambda: window.told == "notes: saved" or window.told == "walk: saved", "the page's example")
+        window.type("from the page\n")
+        until(lambda: window.state == "up to date", "it is sent")
+        node = ["node", *(["--experimental-websocket"] if NODE < 22 else []), str(module / "script.mjs")]
+        done = subprocess.run(node, capture_output=True, text=True, timeout=20)
+        assert (done.returncode, done.stderr) == (0, "") or "ExperimentalWarning" in done.stderr, done
+        until(lambda: window.text == "from the page\none more line\n", "the script's line")
+        chat = [sys.executable, "-B", str(module / "chat.py"), f"ws://127.0.0.1:{server.port}", "walk"]
+        pipes = {"stdin": subprocess.PIPE, "stdout": subprocess.PIPE, "text": True, "env": {**os.environ, "PYTHONPATH": f"{top}/examples"}}
+        chats = [subprocess.Popen(chat, **pipes) for _ in range(2)]
+        chats[0].stdin.write("hello\n")
+        chats[0].stdin.flush()
+        until(lambda: window.text.endswith("line\nhello\n"), "the chat's line")
+        time.sleep(1.5)
+        told = [it.communicate()[0] for it in chats]
+        assert told == ["from the page\none more line\nhello\n"] * 2 and all(it.returncode == 0 for it in chats), told
+        window.quit()
+        pages.shutdown()
+
+
 def tries_missing_lib():
     bare = http.server.ThreadingHTTPServer(("127.0.0.1", 0), functools.partial(Bare, directory=top + "/examples"))
     threading.Thread(target=bare.serve_forever, daemon=True).start()
@@ -508,7 +548,7 @@ def tries_codemirror_in_a_full_room():
 
 windows = []
 PAGES = serve_pages()
-server = Server(PROGRAM, "notes", "pasted", "full", "mirror", "scarce", "past", "returns")
+server = Server(PROGRAM, "notes", "pasted", "full", "mirror", "scarce", "past", "returns", "walk")
 cable = Cable(server.port)
 try:
     windows = [Window(PAGES, cable.port), Window(PAGES, server.port)]
@@ -519,7 +559,7 @@ try:
         print(attempt.__name__.removeprefix("tries_").replace("_", " "))
     rooms = (tries_kept_run, tries_origins, tries_65_windows, tries_full_room, tries_bad_addresses, tries_missing_lib)
     mirrors = (tries_carriage_returns, tries_codemirror, tries_codemirror_in_a_full_room)
-    for attempt in (tries_widths, tries_history, *rooms, *mirrors, tries_pastes, tries_long_history):
+    for attempt in (tries_walk, tries_widths, tries_history, *rooms, *mirrors, tries_pastes, tries_long_history):
         attempt()
         print(attempt.__name__.removeprefix("tries_").replace("_", " "))
     print("bin/try_editor_page: all as it should be")

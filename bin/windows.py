@@ -235,6 +235,13 @@ class Mirror(Window):
         )
 
 
+class Walk(Window):
+    """A window with the page of a folder `module`."""
+
+    def open(self, port, room):
+        self.driver.get(f"{self.pages}/module/")
+
+
 class History(Window):
     """A window with the page of examples/history."""
 

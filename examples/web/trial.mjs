@@ -1,6 +1,7 @@
 // Tries what the module promises its callers, with rooms in memory: it needs Node 20, and no server.
 import assert from "node:assert/strict";
 import { execFile } from "node:child_process";
+import { readFile } from "node:fs/promises";
 import { promisify } from "node:util";
 import { MemoryRoom } from "./memory_room.js";
 import { Ended, Full, Lost, open, played, Refused, Session } from "./rgatext.js";
@@ -127,6 +128,15 @@ async function ends() {
   assert.ok(took < 2_000, `${took} ms`);
 }
 
+/** The example of a room in memory does what it says. */
+async function isAsThePageTells() {
+  const page = await readFile(new URL("README.md", import.meta.url), "utf8");
+  const [, example] = page.split("## A room in memory")[1].match(/```js\n([^`]*)```/);
+  const program = example.replaceAll('"./', `"${new URL("./", import.meta.url)}`);
+  const { stdout } = await promisify(execFile)(process.execPath, ["--input-type=module", "--eval", program]);
+  assert.equal(stdout, "Hello true\n");
+}
+
 /** Changes that others made are told, in turn, and own ones aren't. */
 async function tellsChanges() {
   const room = new MemoryRoom();
@@ -203,5 +213,6 @@ async function losesNothing() {
   await Promise.all(sessions.map((it) => it.close()));
 }
 
-await Promise.all([isReady(), isSent(), isFlushed(), ends(), tellsChanges(), takesOptions(), hasAnother(), losesNothing()]);
+const trials = [isReady, isSent, isFlushed, ends, isAsThePageTells, tellsChanges, takesOptions, hasAnother, losesNothing];
+await Promise.all(trials.map((it) => it()));
 console.log("the module: what is ready, sent, closed, told and asked is as the page says");
