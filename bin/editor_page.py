@@ -25,8 +25,8 @@ NODE = int(subprocess.run(["node", "-p", "parseInt(process.versions.node)"], cap
 
 
 def serve_pages():
-    """Serves the examples at a port of this machine: the origin of their pages."""
-    pages = http.server.ThreadingHTTPServer(("127.0.0.1", 0), functools.partial(Handler, directory=top + "/examples"))
+    """Serves the checkout at a port of this machine: the origin of its pages."""
+    pages = http.server.ThreadingHTTPServer(("127.0.0.1", 0), functools.partial(Handler, directory=top))
     threading.Thread(target=pages.serve_forever, daemon=True).start()
     return f"http://127.0.0.1:{pages.server_address[1]}"
 
@@ -280,10 +280,10 @@ def written(page, language):
 def tries_walk():
     """What the pages of the clients tell an author to write: a text area in ten lines, a script that sends and ends, and a chat."""
     with tempfile.TemporaryDirectory() as folder:
-        module = pathlib.Path(shutil.copytree(f"{top}/examples/web", f"{folder}/module"))
-        (module / "index.html").write_text(written("examples/web/README.md", "html"), encoding="utf-8")
-        (module / "script.mjs").write_text(written("examples/web/README.md", "js"), encoding="utf-8")
-        (module / "chat.py").write_text(written("examples/python_readme.md", "python"), encoding="utf-8")
+        module = pathlib.Path(shutil.copytree(f"{top}/clients/js", f"{folder}/module"))
+        (module / "index.html").write_text(written("clients/js/README.md", "html"), encoding="utf-8")
+        (module / "script.mjs").write_text(written("clients/js/README.md", "js"), encoding="utf-8")
+        (module / "chat.py").write_text(written("clients/python/README.md", "python"), encoding="utf-8")
         pages = http.server.ThreadingHTTPServer(("127.0.0.1", 0), functools.partial(Bare, directory=folder))
         threading.Thread(target=pages.serve_forever, daemon=True).start()
         window = Walk(f"http://127.0.0.1:{pages.server_address[1]}", server.port)
@@ -295,7 +295,7 @@ def tries_walk():
         assert (done.returncode, done.stderr) == (0, "") or "ExperimentalWarning" in done.stderr, done
         until(lambda: window.text == "from the page\none more line\n", "the script's line")
         chat = [sys.executable, "-B", str(module / "chat.py"), f"ws://127.0.0.1:{server.port}", "walk"]
-        pipes = {"stdin": subprocess.PIPE, "stdout": subprocess.PIPE, "text": True, "env": {**os.environ, "PYTHONPATH": f"{top}/examples"}}
+        pipes = {"stdin": subprocess.PIPE, "stdout": subprocess.PIPE, "text": True, "env": {**os.environ, "PYTHONPATH": f"{top}/clients/python"}}
         chats = [subprocess.Popen(chat, **pipes) for _ in range(2)]
         chats[0].stdin.write("hello\n")
         chats[0].stdin.flush()
@@ -308,10 +308,10 @@ def tries_walk():
 
 
 def tries_missing_lib():
-    bare = http.server.ThreadingHTTPServer(("127.0.0.1", 0), functools.partial(Bare, directory=top + "/examples"))
+    bare = http.server.ThreadingHTTPServer(("127.0.0.1", 0), functools.partial(Bare, directory=top))
     threading.Thread(target=bare.serve_forever, daemon=True).start()
     window = Window(f"http://127.0.0.1:{bare.server_address[1]}", server.port)
-    window.driver.get(f"{window.pages}/codemirror/")
+    window.driver.get(f"{window.pages}/examples/codemirror/")
     until(lambda: "lib isn't there" in window.told, "a missing lib is told")
     window.quit()
 

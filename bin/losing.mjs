@@ -1,8 +1,8 @@
 // What bin/try_merging plays with sessions behind a run of the server that lost the end of its log, or whose room was renewed. The one
 // argument is the program.
 import assert from "node:assert/strict";
-import { carried } from "../examples/web/changes.js";
-import { Undo } from "../examples/web/undo.js";
+import { carried } from "../clients/js/changes.js";
+import { Undo } from "../clients/js/undo.js";
 import { Room, until } from "./room.mjs";
 import { begin, deletedBy, end, endsAs, keptRun, renewedRun, roomOf, textOf, typedBy, Way } from "./way.mjs";
 

@@ -1,10 +1,10 @@
 // What bin/try_merging plays with a document. The one argument is the program.
 import assert from "node:assert/strict";
-import { carried, played } from "../examples/web/changes.js";
-import { Document, MOST } from "../examples/web/document.js";
-import { Log } from "../examples/web/log.js";
-import { wayTo } from "../examples/web/rejoin.js";
-import { isInside } from "../examples/web/text.js";
+import { carried, played } from "../clients/js/changes.js";
+import { Document, MOST } from "../clients/js/document.js";
+import { Log } from "../clients/js/log.js";
+import { wayTo } from "../clients/js/rejoin.js";
+import { isInside } from "../clients/js/text.js";
 import { rejoin } from "./rejoining.mjs";
 import { dice, Room } from "./room.mjs";
 import { mustFitWhole, undoAtRandom, undoOnesOwn, undoQuickly, undoTogether } from "./undoing.mjs";

@@ -1,4 +1,4 @@
-"""Editors of the module of examples/web that type, all in one Node, for bin/soak_clients."""
+"""Editors of the module of clients/js that type, all in one Node, for bin/soak_clients."""
 import json
 import pathlib
 import subprocess

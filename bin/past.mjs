@@ -2,11 +2,11 @@
 // that three sites typed at random, and each edit leads from one to the next. The one argument is the program.
 import assert from "node:assert/strict";
 import { spawnSync } from "node:child_process";
-import { MOST } from "../examples/web/document.js";
-import { follow, History, historyOfFile } from "../examples/web/history.js";
-import { MemoryRoom } from "../examples/web/memory_room.js";
-import { played } from "../examples/web/rgatext.js";
-import { isInside } from "../examples/web/text.js";
+import { MOST } from "../clients/js/document.js";
+import { follow, History, historyOfFile } from "../clients/js/history.js";
+import { MemoryRoom } from "../clients/js/memory_room.js";
+import { played } from "../clients/js/rgatext.js";
+import { isInside } from "../clients/js/text.js";
 import { dice } from "./room.mjs";
 
 const LOGS = 12;

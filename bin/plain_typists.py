@@ -1,4 +1,4 @@
-"""Editors of examples/client.py that type, a thread for each, for bin/soak_clients."""
+"""Editors of clients/python/client.py that type, a thread for each, for bin/soak_clients."""
 import json
 import pathlib
 import random
@@ -7,7 +7,7 @@ import threading
 import time
 import traceback
 
-sys.path.insert(0, str(pathlib.Path(__file__).resolve().parent.parent / "examples"))
+sys.path.insert(0, str(pathlib.Path(__file__).resolve().parent.parent / "clients" / "python"))
 from client import Full, JoinAnew, Lost, Refused, Session  # noqa: E402
 from serving import WebSocket  # noqa: E402
 

@@ -1,9 +1,9 @@
-// Editors that type by sessions of a module like examples/web, in a time of their own, over lines that go wrong and at a room that is
+// Editors that type by sessions of a module like clients/js, in a time of their own, over lines that go wrong and at a room that is
 // ended and comes back, for bin/rehearse. The arguments are the program, the module's folder and the seed,
 // the input is what else is asked for.
 import { readFileSync, writeFileSync } from "node:fs";
-import { USUAL } from "../examples/web/options.js";
-import { pause } from "../examples/web/seat.js";
+import { USUAL } from "../clients/js/options.js";
+import { pause } from "../clients/js/seat.js";
 import { Clock } from "./clock.mjs";
 import { Room } from "./room.mjs";
 import { moduleOf, Typist } from "./typist.mjs";

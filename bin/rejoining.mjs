@@ -1,6 +1,6 @@
-// What bin/merging.mjs plays of examples/vectors/rejoining.json with a session of the module.
+// What bin/merging.mjs plays of clients/vectors/rejoining.json with a session of the module.
 import assert from "node:assert/strict";
-import { MOST } from "../examples/web/document.js";
+import { MOST } from "../clients/js/document.js";
 import { Room, until } from "./room.mjs";
 import { whole } from "./vectors.mjs";
 import { deletedBy, end, roomOf, textOf, typedBy, Way } from "./way.mjs";

@@ -1,4 +1,4 @@
-"""Plays the cases of examples/vectors/rejoining.json with examples/client.py and the program, for bin/try_client."""
+"""Plays the cases of clients/vectors/rejoining.json with clients/python/client.py and the program, for bin/try_client."""
 from client import JoinAnew, Lost, Pipe, Session
 from past import MOST
 
@@ -9,7 +9,7 @@ def whole(text):
 
 
 class Player:
-    """Plays a case of examples/vectors/rejoining.json with a session and the program."""
+    """Plays a case of clients/vectors/rejoining.json with a session and the program."""
 
     def __init__(self, case, program):
         self.case, self.program, self.site, self.lines = case, program, 0, 0

@@ -2,9 +2,9 @@
 import assert from "node:assert/strict";
 import { spawn } from "node:child_process";
 import { createInterface } from "node:readline";
-import { MOST } from "../examples/web/document.js";
-import { Lost, played, Session } from "../examples/web/rgatext.js";
-import { pause } from "../examples/web/seat.js";
+import { MOST } from "../clients/js/document.js";
+import { Lost, played, Session } from "../clients/js/rgatext.js";
+import { pause } from "../clients/js/seat.js";
 
 /** Numbers that look random, the same in each run. */
 export function dice(seed) {

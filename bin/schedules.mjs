@@ -1,10 +1,10 @@
 // What bin/try_merging plays with sessions and lines that break at a given request. The one argument is the program.
 import assert from "node:assert/strict";
-import { Connection } from "../examples/web/connection.js";
-import { MOST } from "../examples/web/document.js";
-import { USUAL } from "../examples/web/options.js";
-import { Lost, open, Refused, Session } from "../examples/web/rgatext.js";
-import { pause } from "../examples/web/seat.js";
+import { Connection } from "../clients/js/connection.js";
+import { MOST } from "../clients/js/document.js";
+import { USUAL } from "../clients/js/options.js";
+import { Lost, open, Refused, Session } from "../clients/js/rgatext.js";
+import { pause } from "../clients/js/seat.js";
 import { Line, Room, until } from "./room.mjs";
 import { begin, deletedBy, end, endsAs, keptRun, textOf, typedBy, Way } from "./way.mjs";
 

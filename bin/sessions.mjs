@@ -1,9 +1,9 @@
 // What bin/try_merging plays with sessions. The one argument is the program.
 import assert from "node:assert/strict";
-import { carried } from "../examples/web/changes.js";
-import { MOST } from "../examples/web/document.js";
-import { Ended } from "../examples/web/rgatext.js";
-import { pause } from "../examples/web/seat.js";
+import { carried } from "../clients/js/changes.js";
+import { MOST } from "../clients/js/document.js";
+import { Ended } from "../clients/js/rgatext.js";
+import { pause } from "../clients/js/seat.js";
 import { dice, editorOf, Line, Room, until } from "./room.mjs";
 
 /** Two sessions over lines that break again and again go on with their numbers, and lose and double nothing. */

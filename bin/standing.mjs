@@ -1,11 +1,11 @@
 // What bin/try_merging plays of what a session tells, asks and sends: its states, a choice of the user, full rooms, closing, and how many
 // calls it makes. The one argument is the program.
 import assert from "node:assert/strict";
-import { differences } from "../examples/web/differences.js";
-import { MOST } from "../examples/web/document.js";
-import { Pace } from "../examples/web/pace.js";
-import { Ended, played } from "../examples/web/rgatext.js";
-import { pause } from "../examples/web/seat.js";
+import { differences } from "../clients/js/differences.js";
+import { MOST } from "../clients/js/document.js";
+import { Pace } from "../clients/js/pace.js";
+import { Ended, played } from "../clients/js/rgatext.js";
+import { pause } from "../clients/js/seat.js";
 import { dice, Room, until } from "./room.mjs";
 import { vectors, whole } from "./vectors.mjs";
 import { begin, end, endsAs, keptRun, roomOf, textOf, typedBy, Way } from "./way.mjs";

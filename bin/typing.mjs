@@ -1,4 +1,4 @@
-// Editors that type by sessions of a module like examples/web, for bin/soak_clients. The arguments are the module's folder and the
+// Editors that type by sessions of a module like clients/js, for bin/soak_clients. The arguments are the module's folder and the
 // address; a line of input tells what to do, and each line of output is what one did.
 import { createInterface } from "node:readline";
 import { moduleOf, Typist } from "./typist.mjs";

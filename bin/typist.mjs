@@ -1,4 +1,4 @@
-// An editor that types at random by a session of a module like examples/web, for bin/typing.mjs and bin/rehearsing.mjs.
+// An editor that types at random by a session of a module like clients/js, for bin/typing.mjs and bin/rehearsing.mjs.
 import { pathToFileURL } from "node:url";
 
 const pause = (milliseconds) => new Promise((resolve) => setTimeout(resolve, milliseconds));

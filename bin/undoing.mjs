@@ -1,7 +1,7 @@
 // What bin/try_merging plays of the undoing of one's own steps.
 import assert from "node:assert/strict";
-import { Full } from "../examples/web/rgatext.js";
-import { Undo } from "../examples/web/undo.js";
+import { Full } from "../clients/js/rgatext.js";
+import { Undo } from "../clients/js/undo.js";
 
 /** A text with the steps of its user, each long after the one before unless a time is told, and with others' changes. */
 class Typed {

@@ -1,9 +1,9 @@
 // Editors and their ways to a room, which break at given requests, for bin/schedules.mjs.
 import assert from "node:assert/strict";
-import { MOST } from "../examples/web/document.js";
-import { Lost } from "../examples/web/rgatext.js";
-import { pause } from "../examples/web/seat.js";
-import { beginning, characters } from "../examples/web/text.js";
+import { MOST } from "../clients/js/document.js";
+import { Lost } from "../clients/js/rgatext.js";
+import { pause } from "../clients/js/seat.js";
+import { beginning, characters } from "../clients/js/text.js";
 import { editorOf, Line, Room, until } from "./room.mjs";
 
 /**

@@ -19,10 +19,10 @@ AREA = "document.getElementById('text')"
 
 
 class Handler(http.server.SimpleHTTPRequestHandler):
-    """The folder examples, where codemirror/lib is Debian's."""
+    """The checkout, where examples/codemirror/lib is Debian's."""
 
     def translate_path(self, path):
-        head, _, rest = path.partition("/codemirror/lib/")
+        head, _, rest = path.partition("/examples/codemirror/lib/")
         return str(pathlib.Path("/", CODEMIRROR, rest)) if rest and not head else super().translate_path(path)
 
     def log_message(self, *_):
@@ -125,7 +125,7 @@ class Window:
         self.open(port, room)
 
     def open(self, port, room):
-        self.driver.get(f"{self.pages}/editor/")
+        self.driver.get(f"{self.pages}/examples/editor/")
         for name, text in (("server", f"ws://127.0.0.1:{port}"), ("room", room)):
             field = self.driver.find_element(By.ID, name)
             field.clear()
@@ -213,7 +213,7 @@ class Mirror(Window):
     EDITOR = "document.querySelector('.CodeMirror').CodeMirror"
 
     def open(self, port, room):
-        self.driver.get(f"{self.pages}/codemirror/?server=ws://127.0.0.1:{port}&room={room}")
+        self.driver.get(f"{self.pages}/examples/codemirror/?server=ws://127.0.0.1:{port}&room={room}")
         self.run(f"{self.EDITOR}.focus()")
 
     @property
@@ -246,7 +246,7 @@ class History(Window):
     """A window with the page of examples/history."""
 
     def open(self, port, room):
-        self.driver.get(f"{self.pages}/history/?server=ws://127.0.0.1:{port}&room={room}")
+        self.driver.get(f"{self.pages}/examples/history/?server=ws://127.0.0.1:{port}&room={room}")
 
     @property
     def text(self):

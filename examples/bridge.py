@@ -16,11 +16,13 @@ goes on with it. Two documents that are to become one are told by `--merge`.
 """
 import collections
 import json
+import pathlib
 import sys
 import time
 import urllib.parse
 
-from client import Lost, Refused, Socket
+sys.path.insert(0, str(pathlib.Path(__file__).resolve().parent.parent / "clients" / "python"))
+from client import Lost, Refused, Socket  # noqa: E402
 
 MOST = 64  # operations of an `ops` or a `put`, a run counting as many as it has characters
 MANY = 1_000  # operations that are read from a stream or put there at once

@@ -1,6 +1,6 @@
 // What the pages of editors have in common: a form with a server and a room, and a line that tells how the session stands.
-import { bindPage, bindStatus, mayBeLost } from "./web/page.js";
-import { open } from "./web/rgatext.js";
+import { bindPage, bindStatus, mayBeLost } from "../clients/js/page.js";
+import { open } from "../clients/js/rgatext.js";
 
 const element = (id) => document.getElementById(id);
 

@@ -1,6 +1,6 @@
 /**
  * What is asked of the module: it is imported here alone.
- * @typedef {import("../../examples/web/changes.js").Change} Change
+ * @typedef {import("../js/changes.js").Change} Change
  */
-export { difference, differences, Ended, Full, open } from "../../examples/web/rgatext.js";
-export { mustFit, Undo } from "../../examples/web/undo.js";
+export { difference, differences, Ended, Full, open } from "../js/rgatext.js";
+export { mustFit, Undo } from "../js/undo.js";

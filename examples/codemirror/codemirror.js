@@ -1,6 +1,6 @@
 // An editor of rgatext rooms in CodeMirror 5.
 import { openRooms, tellTrouble } from "../page.js";
-import { bindCodeMirror } from "../web/codemirror.js";
+import { bindCodeMirror } from "../../clients/js/codemirror.js";
 
 const { CodeMirror } = globalThis;
 if (CodeMirror === undefined) {

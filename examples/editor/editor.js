@@ -1,6 +1,6 @@
 // An editor of rgatext rooms on a text area.
 import { openRooms } from "../page.js";
-import { bindTextarea } from "../web/textarea.js";
+import { bindTextarea } from "../../clients/js/textarea.js";
 
 const area = document.getElementById("text");
 openRooms((session, options) => {

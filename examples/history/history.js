@@ -1,7 +1,7 @@
 // The past of a room: each of its versions by a slider, and where its edit was. Of a server's room, or of a kept file.
-import { Connection } from "../web/connection.js";
-import { Lost, Refused } from "../web/faults.js";
-import { follow, History, historyOfFile } from "../web/history.js";
+import { Connection } from "../../clients/js/connection.js";
+import { Lost, Refused } from "../../clients/js/faults.js";
+import { follow, History, historyOfFile } from "../../clients/js/history.js";
 
 /** Milliseconds between two steps of a play, and how many steps it has at most. */
 const STEP = 50;
