@@ -187,6 +187,11 @@ def tries_carriage_returns():
         it.quit()
 
 
+def picture(window, name):
+    if len(sys.argv) > 2:
+        window.driver.save_screenshot(str(pathlib.Path(sys.argv[2], f"{name}.png")))
+
+
 def widths(window, name):
     """The page at 1,200 and at 390 pixels: nothing of it scrolls sideways, and each field has a name. Its pictures are saved if wanted."""
     for width in (1_200, 390):
@@ -195,13 +200,16 @@ def widths(window, name):
         assert overflow <= 0, f"{name} at {width} pixels scrolls sideways by {overflow}"
         unnamed = window.run("return [...document.querySelectorAll('input, textarea')].filter((it) => !it.labels?.length && !it.ariaLabel).length")
         assert unnamed == 0, f"{unnamed} fields of {name} have no name"
-        if len(sys.argv) > 2:
-            window.driver.save_screenshot(str(pathlib.Path(sys.argv[2], f"{name}_{width}.png")))
+        picture(window, f"{name}_{width}")
 
 
 def tries_widths():
     """All pages as they are seen, with a long word, and while the user is asked."""
-    windows[0].put("Two windows, one document.\nWhat each of them types shows at once in both.\n" + "long" * 100, 0, 0)
+    windows[0].put("Two windows, one document.\nWhat each of them types shows at once in both.\n", 0, 0)
+    same("two lines")
+    until(lambda: windows[0].state == "up to date", "they are sent")
+    picture(windows[0], "editor")
+    windows[1].put("long" * 100, 0, 0)
     same("a long word")
     until(lambda: windows[0].state == "up to date", "it is sent")
     widths(windows[0], "editor")
@@ -212,15 +220,14 @@ def tries_widths():
     past.quit()
     server.kill()
     server.start(site=3)
-    until(lambda: windows[0].state == mirror.state == "another text", "an empty room", 30)
+    until(lambda: all(it.state == "another text" for it in (*windows, mirror)), "an empty room", 30)
     widths(windows[0], "editor_asked")
     widths(mirror, "codemirror_asked")
     mirror.quit()
     for it in windows:
         it.resize(800)
     windows[0].click("mine")
-    until(lambda: windows[0].state == "up to date", "mine is put in", 30)
-    windows[1].click("theirs")
+    until(lambda: all(it.state == "up to date" for it in windows), "mine is put in, and the other has the same", 30)
     same("after the choice")
     clear("widths")
 
@@ -528,8 +535,6 @@ def tries_codemirror():
     server.start()
     until(lambda: all(it.state == "another text" for it in both), "an empty room", 30)
     both[0].click("mine")
-    until(lambda: both[0].state == "up to date", "mine is put in")
-    both[1].click("theirs")
     show("miXne\ufffd", "another run")
     for it in both:
         it.quit()
