@@ -198,7 +198,8 @@ def widths(window, name):
         window.resize(width)
         overflow = window.run("return document.documentElement.scrollWidth - document.documentElement.clientWidth")
         assert overflow <= 0, f"{name} at {width} pixels scrolls sideways by {overflow}"
-        unnamed = window.run("return [...document.querySelectorAll('input, textarea')].filter((it) => !it.labels?.length && !it.ariaLabel).length")
+        fields = "[...document.querySelectorAll('input, textarea')]"
+        unnamed = window.run(f"return {fields}.filter((it) => !it.labels?.length && !it.ariaLabel).length")
         assert unnamed == 0, f"{unnamed} fields of {name} have no name"
         picture(window, f"{name}_{width}")
 
@@ -261,7 +262,8 @@ def tries_history():
         file.flush()
         page.choose(file.name)
         until(lambda: "is no kept file" in page.told, "another file")
-    for port, room, told in ((server.port, "nowhere", "no room of this name"), (1, "past", "no server answers"), ("x", "past", "no address")):
+    wrong = ((server.port, "nowhere", "no room of this name"), (1, "past", "no server answers"), ("x", "past", "no address"))
+    for port, room, told in wrong:
         page.open(port, room)
         until(lambda: told in page.told, told)
     page.quit()
@@ -294,7 +296,7 @@ def tries_walk():
         pages = http.server.ThreadingHTTPServer(("127.0.0.1", 0), functools.partial(Bare, directory=folder))
         threading.Thread(target=pages.serve_forever, daemon=True).start()
         window = Walk(f"http://127.0.0.1:{pages.server_address[1]}", server.port)
-        until(lambda: window.told == "notes: saved" or window.told == "walk: saved", "the page's example")
+        until(lambda: window.told == "walk: saved", "the page's example")
         window.type("from the page\n")
         until(lambda: window.state == "up to date", "it is sent")
         node = ["node", *(["--experimental-websocket"] if NODE < 22 else []), str(module / "script.mjs")]
@@ -302,7 +304,8 @@ def tries_walk():
         assert (done.returncode, done.stderr) == (0, "") or "ExperimentalWarning" in done.stderr, done
         until(lambda: window.text == "from the page\none more line\n", "the script's line")
         chat = [sys.executable, "-B", str(module / "chat.py"), f"ws://127.0.0.1:{server.port}", "walk"]
-        pipes = {"stdin": subprocess.PIPE, "stdout": subprocess.PIPE, "text": True, "env": {**os.environ, "PYTHONPATH": f"{top}/clients/python"}}
+        environment = {**os.environ, "PYTHONPATH": f"{top}/clients/python"}
+        pipes = {"stdin": subprocess.PIPE, "stdout": subprocess.PIPE, "text": True, "env": environment}
         chats = [subprocess.Popen(chat, **pipes) for _ in range(2)]
         chats[0].stdin.write("hello\n")
         chats[0].stdin.flush()

@@ -1,5 +1,5 @@
-// What bin/try_merging plays with the history of a room: the texts of its versions are those that `rgatext text --version` prints, over logs
-// that three sites typed at random, and each edit leads from one to the next. The one argument is the program.
+// What bin/try_merging plays with the history of a room: the texts of its versions are those that `rgatext text --version` prints, over
+// logs that three sites typed at random, and each edit leads from one to the next. The one argument is the program.
 import assert from "node:assert/strict";
 import { spawnSync } from "node:child_process";
 import { MOST } from "../clients/js/document.js";

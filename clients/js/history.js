@@ -1,6 +1,6 @@
 /**
- * The past of a room: its text at each version, made of its operations by the definitions of docs/EXCHANGE.md. The elements are a tree, each
- * below the one that it stands behind. They are read from the top, of those below one the one with the greatest stamp first.
+ * The past of a room: its text at each version, made of its operations by the definitions of docs/EXCHANGE.md. The elements are a tree,
+ * each below the one that it stands behind. They are read from the top, of those below one the one with the greatest stamp first.
  */
 import { MOST } from "./document.js";
 import { Refused } from "./faults.js";

@@ -32,6 +32,9 @@ const must = (isSo, n) => {
 
 const isCount = (it) => Number.isInteger(it) && it >= 0 && it <= 0xffffffff;
 const isText = (it) => typeof it === "string" && it.isWellFormed();
+const isPair = (it) => Array.isArray(it) && it.length === 2 && it.every(isCount);
+const isPut = ({ k, p, x }) => (k === "i" || k === "r") && (p === null || isPair(p)) && isText(x);
+const isOperation = (it) => isCount(it?.s) && Array.isArray(it.c) && it.c.every(isPair) && (it.k === "d" ? isPair(it.t) : isPut(it));
 
 /** Of each kind of a request its keys, and what each has to be. */
 const KINDS = {
@@ -42,7 +45,7 @@ const KINDS = {
   leave: { s: isCount },
   read: {},
   ops: { after: isCount, max: isCount },
-  put: { ops: Array.isArray },
+  put: { ops: (it) => Array.isArray(it) && it.every(isOperation) },
 };
 
 /**

@@ -1,7 +1,7 @@
 /**
- * Opens a session with a room of a server, as open("ws://127.0.0.1:7878", "notes"). Throws a TypeError where that is no address, where there
- * is no option of a name, or where there is no WebSocket: Node has it from 22 on, Node 20 with --experimental-websocket; else a class like it
- * is the option `Socket`.
+ * Opens a session with a room of a server, as open("ws://127.0.0.1:7878", "notes"). Throws a TypeError where that is no address, where
+ * there is no option of a name, or where there is no WebSocket: Node has it from 22 on, Node 20 with --experimental-websocket; else a class
+ * like it is the option `Socket`.
  * @param {string} address
  * @param {string} room
  * @param {Options & {Socket?: new (address: string) => any}} [options]
