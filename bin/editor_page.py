@@ -543,6 +543,24 @@ def tries_codemirror():
         it.quit()
 
 
+def tries_codemirror_scroll():
+    """The line of the caret stays where it is seen, whether others type above it or below."""
+    both = [Mirror(PAGES, server.port, "scrolled") for _ in range(2)]
+    both[0].put("line\n" * 200, 0, 0)
+    until(lambda: both[1].text == both[0].text != "", "200 lines")
+    caret = f"{Mirror.EDITOR}.cursorCoords(true, 'page').top"
+    both[0].select(500, 500)
+    both[0].run(f"const it = {Mirror.EDITOR}; it.scrollTo(null, it.heightAtLine(95, 'local'))")
+    before = both[0].run(f"return {caret}")
+    for text, place in (("above\n" * 10, 0), ("below\n" * 10, 900)):
+        both[1].put(text, place, place)
+        until(lambda: both[1].text == both[0].text, text)
+        moved = both[0].run(f"return {caret}") - before
+        assert abs(moved) < 3, f"the caret moved by {moved} pixels where others typed {text[:5]}"
+    for it in both:
+        it.quit()
+
+
 def tries_codemirror_in_a_full_room():
     fill("scarce", 40)
     window = Mirror(PAGES, server.port, "scarce")
@@ -558,7 +576,7 @@ def tries_codemirror_in_a_full_room():
 
 windows = []
 PAGES = serve_pages()
-server = Server(PROGRAM, "notes", "pasted", "full", "mirror", "scarce", "past", "returns", "walk")
+server = Server(PROGRAM, "notes", "pasted", "full", "mirror", "scarce", "past", "returns", "walk", "scrolled")
 cable = Cable(server.port)
 try:
     windows = [Window(PAGES, cable.port), Window(PAGES, server.port)]
@@ -568,7 +586,7 @@ try:
         attempt()
         print(attempt.__name__.removeprefix("tries_").replace("_", " "))
     rooms = (tries_kept_run, tries_origins, tries_65_windows, tries_full_room, tries_bad_addresses, tries_missing_lib)
-    mirrors = (tries_carriage_returns, tries_codemirror, tries_codemirror_in_a_full_room)
+    mirrors = (tries_carriage_returns, tries_codemirror, tries_codemirror_scroll, tries_codemirror_in_a_full_room)
     for attempt in (tries_walk, tries_widths, tries_history, *rooms, *mirrors, tries_pastes, tries_long_history):
         attempt()
         print(attempt.__name__.removeprefix("tries_").replace("_", " "))
