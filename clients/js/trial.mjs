@@ -1,7 +1,7 @@
 // Tries what the module promises its callers, with rooms in memory: it needs Node 20, and no server.
 import assert from "node:assert/strict";
 import { execFile } from "node:child_process";
-import { readFile } from "node:fs/promises";
+import { access, readFile } from "node:fs/promises";
 import { promisify } from "node:util";
 import { MemoryRoom } from "./memory_room.js";
 import { Ended, Full, Lost, open, played, Refused, Session } from "./rgatext.js";
@@ -16,11 +16,14 @@ async function until(is, what = `${is}`) {
   }
 }
 
-/** What requests meet, each seventh: in turn they are lost, or their answers. Those for which a session would be left are spared. */
-function fault() {
+/**
+ * What requests meet: in turn one of so many is lost, or its answer. Those for which a session would be left are spared. To find out what
+ * became of another run takes a line some twenty requests.
+ */
+function fault(every) {
   let count = 0;
-  const faults = { 7: "request", 14: "answer" };
-  return ({ t }) => (t === "join" || t === "leave" ? "" : faults[(count += 1) % 15] ?? "");
+  const faults = { [every]: "request", [2 * every]: "answer" };
+  return ({ t }) => (t === "join" || t === "leave" ? "" : faults[(count += 1) % (2 * every + 1)] ?? "");
 }
 
 /** What a call takes, in milliseconds. */
@@ -54,7 +57,7 @@ async function isReady() {
 /** What is sent is in the room when that is told, also over lines that go wrong, and while more is typed. */
 async function isSent() {
   const room = new MemoryRoom();
-  const session = new Session(() => room.connect({ delay: 2, meets: fault() }));
+  const session = new Session(() => room.connect({ delay: 2, meets: fault(11) }));
   for (const word of ["one ", "two ", "three "]) {
     session.insert(session.text.length, word);
     const isWordSent = session.sent();
@@ -137,6 +140,15 @@ async function isAsThePageTells() {
   assert.equal(stdout, "Hello true\n");
 }
 
+/** What the package exports is there by its name, with its declarations; importing it needs no page, and opens nothing. */
+async function isAPackage() {
+  const { exports } = JSON.parse(await readFile(new URL("package.json", import.meta.url), "utf8"));
+  for (const [name, { types }] of Object.entries(exports)) {
+    await import(name.replace(".", "rgatext"));
+    await access(new URL(types, import.meta.url));
+  }
+}
+
 /** Changes that others made are told, in turn, and own ones aren't. */
 async function tellsChanges() {
   const room = new MemoryRoom();
@@ -199,7 +211,7 @@ async function hasAnother() {
 /** What a room of memory loses with its lines, and with its end, sessions put in again. */
 async function losesNothing() {
   let room = new MemoryRoom();
-  const meets = fault();
+  const meets = fault(41);
   const sessions = [1, 2].map(() => new Session(() => room.connect({ delay: 1, meets })));
   for (let n = 0; n < 30; n += 1) {
     for (const [who, it] of sessions.entries()) it.insert(it.text.length, "ab"[who]);
@@ -213,6 +225,6 @@ async function losesNothing() {
   await Promise.all(sessions.map((it) => it.close()));
 }
 
-const trials = [isReady, isSent, isFlushed, ends, isAsThePageTells, tellsChanges, takesOptions, hasAnother, losesNothing];
+const trials = [isReady, isSent, isFlushed, ends, isAsThePageTells, isAPackage, tellsChanges, takesOptions, hasAnother, losesNothing];
 await Promise.all(trials.map((it) => it()));
 console.log("the module: what is ready, sent, closed, told and asked is as the page says");
