@@ -32,7 +32,7 @@ export class Log {
      */
     isOfRun(site: any): Promise<boolean>;
     /**
-     * Whether the operations from a version to another are what a document has under way.
+     * Whether the operations from a version to another are all that a document has under way: a part may be another's, in another run.
      * @param {Document} document
      * @param {number} from
      * @param {number} to

@@ -56,11 +56,11 @@ export class Seat {
         version: any;
         memory: any;
     }): Promise<void>;
-    /** The edits since a document's version; none where they aren't to be had. */
+    /** The edits since a document's version, by a session; none where they aren't to be had. */
     editsSince({ roomText, version }: {
         roomText: any;
         version: any;
-    }): Promise<any[]>;
+    }, s?: null): Promise<any[]>;
     /**
      * The request of what a document has to be submitted, of what was made before an order: the same again, while its answer wasn't seen.
      * What isn't sent isn't under way.

@@ -6,11 +6,11 @@
 export function mustFit(session: Shown, changes: Change[]): void;
 export class Undo {
     /**
-     * A change that the user made, and the text that it took out.
+     * A change that the user made, and the text that it took out. `isMore`: it belongs to the step of the one before, wherever that was.
      * @param {Change} change
      * @param {string} taken
      */
-    note(change: Change, taken: string, when?: number): void;
+    note(change: Change, taken: string, when?: number, isMore?: boolean): void;
     /**
      * Changes that others made, or the room.
      * @param {Change[]} changes
