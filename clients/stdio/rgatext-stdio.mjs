@@ -55,7 +55,7 @@ class Conversation {
     flush: [isTrue, () => this.#flush()],
     unsent: [isTrue, () => tell({ unsent: this.#session.unsent })],
     text: [isTrue, () => tell({ text: (this.#take(), this.#text.text) })],
-    other: [isTrue, () => tell({ other: this.#session.otherText })],
+    other: [isTrue, () => tell({ other: this.#session.other?.text ?? null })],
     choose: [(it) => it === "mine" || it === "theirs", (whose) => this.#choose(whose)],
     close: [isTrue, () => this.close()],
   };
@@ -155,7 +155,8 @@ class Conversation {
 
   /** Says whether the room has all that was done here, once that is known. */
   #answerFlushes() {
-    const { state, isAhead, hasOther } = this.#session;
+    const { state, isAhead, other } = this.#session;
+    const hasOther = other !== null;
     if (isAhead && !hasOther && state !== "refused") return;
     for (; this.#flushes > 0; this.#flushes -= 1) tell({ flushed: !isAhead && !hasOther });
   }
