@@ -1,7 +1,6 @@
 """What bin/try_editor_page tries. The arguments are the checkout and, if wanted, a folder for pictures."""
 
 import functools
-import http.server
 import json
 import os
 import pathlib
@@ -16,19 +15,12 @@ import time
 
 from client import Session, Socket
 from selenium.webdriver.common.keys import Keys
-from windows import AREA, ELSEWHERE, Bare, Cable, Handler, History, Mirror, Server, Walk, Window
+from windows import AREA, ELSEWHERE, Bare, Cable, History, Mirror, Server, Walk, Window, serve_pages
 
 top = sys.argv[1]
 PROGRAM = os.environ.get("RGATEXT", top + "/bin/rgatext")
 OPERATIONS = 131_072  # of a room
 NODE = int(subprocess.run(["node", "-p", "parseInt(process.versions.node)"], capture_output=True, text=True, check=True).stdout)
-
-
-def serve_pages():
-    """Serves the checkout at a port of this machine: the origin of its pages."""
-    pages = http.server.ThreadingHTTPServer(("127.0.0.1", 0), functools.partial(Handler, directory=top))
-    threading.Thread(target=pages.serve_forever, daemon=True).start()
-    return f"http://127.0.0.1:{pages.server_address[1]}"
 
 
 def until(is_so, what, seconds=20):
@@ -293,9 +285,7 @@ def tries_walk():
         (module / "index.html").write_text(written("clients/js/README.md", "html"), encoding="utf-8")
         (module / "script.mjs").write_text(written("clients/js/README.md", "js"), encoding="utf-8")
         (module / "chat.py").write_text(written("clients/python/README.md", "python"), encoding="utf-8")
-        pages = http.server.ThreadingHTTPServer(("127.0.0.1", 0), functools.partial(Bare, directory=folder))
-        threading.Thread(target=pages.serve_forever, daemon=True).start()
-        window = Walk(f"http://127.0.0.1:{pages.server_address[1]}", server.port)
+        window = Walk(serve_pages(folder, Bare), server.port)
         until(lambda: window.told == "walk: saved", "the page's example")
         window.type("from the page\n")
         until(lambda: window.state == "up to date", "it is sent")
@@ -314,13 +304,10 @@ def tries_walk():
         told = [it.communicate()[0] for it in chats]
         assert told == ["from the page\none more line\nhello\n"] * 2 and all(it.returncode == 0 for it in chats), told
         window.quit()
-        pages.shutdown()
 
 
 def tries_missing_lib():
-    bare = http.server.ThreadingHTTPServer(("127.0.0.1", 0), functools.partial(Bare, directory=top))
-    threading.Thread(target=bare.serve_forever, daemon=True).start()
-    window = Window(f"http://127.0.0.1:{bare.server_address[1]}", server.port)
+    window = Window(serve_pages(top, Bare), server.port)
     window.driver.get(f"{window.pages}/examples/codemirror/")
     until(lambda: "lib isn't there" in window.told, "a missing lib is told")
     window.quit()
@@ -423,7 +410,7 @@ def tries_origins():
     elsewhere = PAGES.replace("127.0.0.1", ELSEWHERE)
     kept = Server(PROGRAM, "notes", folder=tempfile.mkdtemp())
     open_to = Server(PROGRAM, "--origin", elsewhere, "notes", folder=tempfile.mkdtemp())
-    for page in (PAGES, PAGES.replace("127.0.0.1", "localhost"), serve_pages()):
+    for page in (PAGES, PAGES.replace("127.0.0.1", "localhost"), serve_pages(top)):
         window = Window(page, kept.port)
         until(lambda: window.state == "up to date", f"a page of {page}")
         window.quit()
@@ -575,7 +562,7 @@ def tries_codemirror_in_a_full_room():
 
 
 windows = []
-PAGES = serve_pages()
+PAGES = serve_pages(top)
 server = Server(PROGRAM, "notes", "pasted", "full", "mirror", "scarce", "past", "returns", "walk", "scrolled")
 cable = Cable(server.port)
 try:

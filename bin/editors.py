@@ -1,7 +1,5 @@
 """What bin/try_editors tries. The arguments are the program, where to save a picture or an empty text, and what there is of neovim, emacs
 and codemirror."""
-import functools
-import http.server
 import json
 import os
 import pathlib
@@ -423,12 +421,6 @@ def tries_another_text():
             until(lambda: room_text("another") == "", "none")
 
 
-def serve_pages():
-    pages = http.server.ThreadingHTTPServer(("127.0.0.1", 0), functools.partial(Handler, directory=str(TOP / "examples")))
-    threading.Thread(target=pages.serve_forever, daemon=True).start()
-    return f"http://127.0.0.1:{pages.server_address[1]}"
-
-
 def save_picture():
     """One of each editor, and the window, with a text that all of them typed."""
     shown = [of(Neovim)[0], of(Emacs)[0]]
@@ -470,9 +462,9 @@ try:
         if kind.__name__.lower() in KINDS:
             terminals += [kind(work, f"{kind.__name__}{n}", server.port) for n in (1, 2)]
     if "codemirror" in KINDS:
-        from windows import Handler, Mirror
+        from windows import Mirror, serve_pages
 
-        windows.append(Mirror(serve_pages(), server.port))
+        windows.append(Mirror(serve_pages(TOP), server.port))
         windows[0].name = "a window"
     editors = [*terminals, *windows]
     until(lambda: all(it.state.startswith("up to date") for it in editors), "all have joined", 60)

@@ -1,5 +1,6 @@
 """What bin/try_editor_page looks at: windows of both pages, a server, and a line that may be cut."""
 
+import functools
 import http.server
 import pathlib
 import socket
@@ -34,6 +35,13 @@ class Bare(http.server.SimpleHTTPRequestHandler):
 
     def log_message(self, *_):
         pass
+
+
+def serve_pages(folder, handler=Handler):
+    """Serves a folder at a port of this machine: the origin of its pages."""
+    pages = http.server.ThreadingHTTPServer(("127.0.0.1", 0), functools.partial(handler, directory=str(folder)))
+    threading.Thread(target=pages.serve_forever, daemon=True).start()
+    return f"http://127.0.0.1:{pages.server_address[1]}"
 
 
 class Server:
