@@ -7,7 +7,7 @@ import { pause } from "../clients/js/seat.js";
 import { Clock } from "./clock.mjs";
 import { Room } from "./room.mjs";
 import { moduleOf, Typist } from "./typist.mjs";
-import { keptRun, renewedRun, singlesOf } from "./way.mjs";
+import { anewRun, freeSite, keptRun, renewedRun, singlesOf } from "./way.mjs";
 
 const [, , , folder, seed] = process.argv;
 const { texts, turns, rate, every, pace, late, isOfWords, isTold } = JSON.parse(readFileSync(0, "utf8"));
@@ -48,18 +48,20 @@ class Server {
   async restart(how, milliseconds) {
     const old = this.room;
     const version = await this.version();
-    if (every === 0) this.kept = version;
+    if (every === 0 || how === "anew") this.kept = version;
     this.room = null;
     for (const line of this.lines) line.close();
     await pause(milliseconds);
     const kept = { back: this.copied ?? this.kept, empty: 0 }[how] ?? this.kept;
-    const site = 1 + Math.max(-1, ...(await singlesOf(old, version - kept)).map(({ s }) => s));
-    const isRenewed = how === "renew" || site > LAST_SITE;
-    this.room = isRenewed ? await renewedRun(old, version - kept) : await keptRun(old, version - kept, site);
+    const site = freeSite(await singlesOf(old, version - kept));
+    const turn = site > LAST_SITE ? "renew" : how;
+    if (turn === "anew") this.room = await anewRun(old);
+    else if (turn === "renew") this.room = await renewedRun(old, version - kept);
+    else this.room = await keptRun(old, version - kept, site);
     this.kept = await this.version();
-    if (isRenewed || how === "empty") this.copied = null;
+    if (["anew", "renew", "empty"].includes(turn)) this.copied = null;
     else if (this.copied !== null) this.copied = Math.min(this.copied, kept);
-    tell({ restart: isRenewed ? "renew" : how, version, kept, site });
+    tell({ restart: turn, version, kept, site });
   }
 
   /** A line to the room, as long as that is there. */

@@ -149,12 +149,20 @@ export async function keptRun(room, without = 0, site = 2) {
   return kept;
 }
 
-/** A room that was renewed: with the text of another one, as site 0 typed it, but for the last operations. */
-export async function renewedRun(room, without = 0) {
+/** The least site that operations lack: a run takes it that goes on with them. */
+export function freeSite(told) {
+  const sites = new Set(told.map(({ s }) => s));
+  let site = 0;
+  while (sites.has(site)) site += 1;
+  return site;
+}
+
+/** A room that was renewed: with the text of another one, as one site typed it, but for the last operations. */
+export async function renewedRun(room, without = 0, site = 0) {
   const kept = await keptRun(room, without, READER); // (a run of a site in the log would refuse what that did)
   const text = await textOf(kept);
   kept.close();
-  const typist = new Room(0);
+  const typist = new Room(site);
   const { s } = await typist.ask({ t: "join", u: 16 });
   for (let k = 0, v = 0, n = 1; k < text.length; n += 1) {
     const x = beginning(text.slice(k), MOST);
@@ -163,11 +171,14 @@ export async function renewedRun(room, without = 0) {
     k += x.length;
     v += characters(x);
   }
-  const renewed = new Room(text === "" ? 0 : 1); // a log takes the least site that it lacks
+  const renewed = new Room(freeSite(await singlesOf(typist)));
   await renewed.refill(await typist.operations());
   typist.close();
   return renewed;
 }
+
+/** A room that its server renewed: with all of the text, as the least site typed it that the log lacks. */
+export const anewRun = async (room) => renewedRun(room, 0, freeSite(await singlesOf(room)));
 
 export async function end(...ways) {
   for (const { editor } of ways) await editor.session.close();
