@@ -4,7 +4,17 @@ import assert from "node:assert/strict";
 import { carried } from "../clients/js/changes.js";
 import { Undo } from "../clients/js/undo.js";
 import { Room, until } from "./room.mjs";
-import { begin, deletedBy, end, endsAs, keptRun, renewedRun, roomOf, textOf, typedBy, Way } from "./way.mjs";
+import { anewRun, begin, deletedBy, end, endsAs, keptRun, renewedRun, roomOf, textOf, typedBy, Way } from "./way.mjs";
+
+/** Unrelated texts, by Melville and by Carroll: of the shorter one seven tenths of the letters stand in the longer one, in their order. */
+const WHALE =
+  "Call me Ishmael. Some years ago, never mind how long precisely, having little or no money in my purse, I thought I would sail about a" +
+  " little.";
+const RABBIT =
+  "Alice was beginning to get very tired of sitting by her sister on the bank, and of having nothing to do: once or twice she had peeped" +
+  " into the book her sister was reading, but it had no pictures or conversations in it, and what is the use of a book, thought Alice," +
+  " without pictures or conversations? So she was considering in her own mind, as well as she could, for the hot day made her feel very" +
+  " sleepy and stupid, whether the pleasure of making a daisy-chain would be worth the trouble of getting up and picking the daisies.";
 
 /** An editor has a text of its own in a room, and another one one behind it. */
 async function two(text, more) {
@@ -16,11 +26,16 @@ async function two(text, more) {
   return [one, other];
 }
 
-/** Another run begins for all, and the editors come to show a text that its room has. */
-async function goOn(room, ways, text) {
+/** Another run begins for all, and the editors come to show a text. */
+async function goOver(room, ways, text) {
   for (const way of ways) way.cut(room);
   for (const way of ways) await way.joins(room);
   for (const way of ways) await way.comesTo("up to date", text);
+}
+
+/** They go over to another run, whose room has that text, and end. */
+async function goOn(room, ways, text) {
+  await goOver(room, ways, text);
   assert.equal(await textOf(room), text);
   assert.deepEqual(ways.map(({ states }) => states.includes("another text")), ways.map(() => false), "nobody is asked");
   await end(...ways);
@@ -91,12 +106,12 @@ async function keepsWhatIsPending() {
 }
 
 /** A room is renewed: people type on, and nobody is asked. */
-async function isRenewed(first, second, without) {
+async function isRenewed(first, second, renew) {
   const ways = await two(first, second);
   ways[1].editor.change(1, 1, "");
   ways[1].editor.change(1, 0, (first + second)[1]);
   for (const way of ways) await way.comesTo("up to date", first + second);
-  const renewed = await renewedRun(ways[0].room, without);
+  const renewed = await renew(ways[0].room);
   await typedBy(renewed, 0, "<");
   ways[0].cutOff();
   await ways[0].comesTo("offline");
@@ -107,14 +122,31 @@ async function isRenewed(first, second, without) {
 /** A room is renewed twice, and what was typed between is lost by the second. */
 async function isRenewedTwice() {
   const ways = await two("one ", "two");
-  for (const without of [2, 1]) {
-    const renewed = await renewedRun(ways[0].room, without);
-    for (const way of ways) way.cut(renewed);
-    for (const way of ways) await way.joins(renewed);
-    for (const way of ways) await way.comesTo("up to date", "one two");
-  }
+  for (const without of [2, 1]) await goOver(await renewedRun(ways[0].room, without), ways, "one two");
   assert.equal(await textOf(ways[0].room), "one two");
   await end(...ways);
+}
+
+/** A room is renewed, and twice more while one is away who had typed in it: it begins as it did, with numbers that it had. */
+async function isRenewedTwiceWhileAway(at) {
+  const [one, other] = await two(WHALE, RABBIT);
+  const ways = [one, other];
+  let text = WHALE + RABBIT;
+  const puts = async (way, place, put) => {
+    text = text.slice(0, place) + put + text.slice(place);
+    way.editor.change(place, 0, put);
+    for (const it of ways) await it.comesTo(it.isUp ? "up to date" : "offline", it.isUp ? text : it.editor.shown);
+  };
+  await goOver(await anewRun(one.room), ways, text);
+  await puts(one, at, " (one)");
+  one.cutOff();
+  await one.comesTo("offline");
+  one.editor.change(0, 0, "> ");
+  for (const put of [" (two)", " (three)"]) {
+    await puts(other, text.length, put);
+    await goOver(await anewRun(other.room), [other], text);
+  }
+  await goOn(other.room, ways, `> ${text}`);
 }
 
 /** Most of a deletion is lost while its author is away, another types on, and the room is renewed: the rest is deleted again. */
@@ -130,16 +162,6 @@ async function losesADeletionWhileAway() {
   way.isUp = true;
   await endsAs(way, "> one three");
 }
-
-/** Unrelated texts, by Melville and by Carroll: of the shorter one seven tenths of the letters stand in the longer one, in their order. */
-const WHALE =
-  "Call me Ishmael. Some years ago, never mind how long precisely, having little or no money in my purse, I thought I would sail about a" +
-  " little.";
-const RABBIT =
-  "Alice was beginning to get very tired of sitting by her sister on the bank, and of having nothing to do: once or twice she had peeped" +
-  " into the book her sister was reading, but it had no pictures or conversations in it, and what is the use of a book, thought Alice," +
-  " without pictures or conversations? So she was considering in her own mind, as well as she could, for the hot day made her feel very" +
-  " sleepy and stupid, whether the pleasure of making a daisy-chain would be worth the trouble of getting up and picking the daisies.";
 
 /** In place of a room there is another document of the same language, which isn't what became of its text: the user is asked. */
 async function isAnotherDocument() {
@@ -275,10 +297,14 @@ await Promise.all([
   keepsWhatIsPending(),
 ]);
 await Promise.all([
-  isRenewed("hello ", "world", 0),
-  isRenewed("a", "b", 0),
-  isRenewed("hello ", "world", 3),
+  isRenewed("hello ", "world", renewedRun),
+  isRenewed("a", "b", renewedRun),
+  isRenewed("hello ", "world", (room) => renewedRun(room, 3)),
+  isRenewed("hello ", "world", anewRun),
+  isRenewed("a", "b", anewRun),
   isRenewedTwice(),
+  isRenewedTwiceWhileAway(WHALE.length),
+  isRenewedTwiceWhileAway(WHALE.length + RABBIT.length),
   losesADeletionWhileAway(),
   isFarBehind(),
   isAnotherDocument(),

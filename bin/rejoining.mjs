@@ -1,9 +1,8 @@
 // What bin/merging.mjs plays of clients/vectors/rejoining.json with a session of the module.
 import assert from "node:assert/strict";
-import { MOST } from "../clients/js/document.js";
-import { Room, until } from "./room.mjs";
+import { until } from "./room.mjs";
 import { whole } from "./vectors.mjs";
-import { deletedBy, end, roomOf, textOf, typedBy, Way } from "./way.mjs";
+import { anewRun, deletedBy, end, freeSite, keptRun, renewedRun, roomOf, singlesOf, textOf, typedBy, Way } from "./way.mjs";
 
 /** How many units so many characters of a text have from a place on. */
 const units = (text, at, count) => [...text].slice(at, at + count).join("").length;
@@ -17,33 +16,12 @@ async function otherDoes(room, { other: { t, k, x, c }, times = 1, apart = 0 }) 
   }
 }
 
-/** The run of a server at a site, which begins with operations, or which a site 0 has written with a text. */
-async function another(room, site, run) {
-  let written = null;
-  if (run === "renewed") {
-    written = new Room(0);
-    await typedBy(written, 0, await textOf(room));
-  }
-  const kept = new Room(site);
-  let rest = run.kept ?? Infinity;
-  for (const told of await (written ?? room).operations()) {
-    if (rest > 0) await kept.refill([beginning(told, rest)]);
-    rest -= MOST;
-  }
-  room.close();
-  written?.close();
-  return kept;
-}
-
-/** So many operations, where one may be a run of many. */
-function beginning(told, count) {
-  const kept = [];
-  for (const it of told) {
-    const rest = count - kept.reduce((sum, { x }) => sum + [...(x ?? "d")].length, 0);
-    const chars = [...(it.x ?? "d")].slice(0, rest);
-    if (rest > 0) kept.push(it.x === undefined ? it : { ...it, k: chars.length === 1 ? "i" : "r", x: chars.join("") });
-  }
-  return kept;
+/** Another run of the server in place of one. */
+async function another(room, run) {
+  if (run === "anew") return anewRun(room);
+  if (run === "renewed") return renewedRun(room);
+  const told = await singlesOf(room);
+  return keptRun(room, told.length - run.kept, freeSite(told.slice(0, run.kept)));
 }
 
 class Player {
@@ -55,11 +33,10 @@ class Player {
     this.room = await roomOf(this.text, 0);
     this.way = new Way(this.room);
     await this.way.comesTo("up to date", this.text);
-    let site = 0;
     for (const step of this.steps) {
       if (step.local) await this.change(step);
       if (step.other) await otherDoes(this.room, step);
-      if (step.run) this.room = await another(this.room, (site += 1), step.run);
+      if (step.run) this.room = await another(this.room, step.run);
       if (step.back) await this.comeBack(whole(step.text));
     }
     await end(this.way);

@@ -1,6 +1,6 @@
 """Plays the cases of clients/vectors/rejoining.json with clients/python/client.py and the program, for bin/try_client."""
-from client import JoinAnew, Lost, Pipe, Session
-from past import MOST
+from client import FULL, JoinAnew, Lost, Pipe, Session
+from past import MOST, operations
 
 
 def whole(text):
@@ -8,11 +8,16 @@ def whole(text):
     return text if isinstance(text, str) else "".join(times * part for times, part in text)
 
 
+def free_site(log):
+    """The least site that a log lacks: a run takes it that goes on with it."""
+    return min({*range(32)} - {it.stamp[1] for it in log})
+
+
 class Player:
     """Plays a case of clients/vectors/rejoining.json with a session and the program."""
 
     def __init__(self, case, program):
-        self.case, self.program, self.site, self.lines = case, program, 0, 0
+        self.case, self.program, self.lines = case, program, 0
         self.room = self.run_at(0)
         text = whole(case["text"])
         for at in range(0, len(text), MOST):
@@ -49,15 +54,17 @@ class Player:
 
     def is_another(self, run):
         """Another run of the server."""
-        before, self.site = self.room, self.site + 1
-        if run == "renewed":
-            written, text = self.run_at(0), before({"t": "read"})["x"]
+        before, kept = self.room, MOST
+        if run in ("renewed", "anew"):
+            text = before({"t": "read"})["x"]
+            written = self.run_at(free_site(operations(before, 0, FULL)) if run == "anew" else 0)
             before.close()
             before = written
             before({"t": "join"})
             before({"t": "ins", "s": 1, "n": 1, "v": 0, "k": 0, "x": text})
-        self.room = self.run_at(self.site)
-        kept = MOST if run == "renewed" else run["kept"]
+        else:
+            kept = run["kept"]
+        self.room = self.run_at(free_site(operations(before, 0, kept)))
         for after in range(0, kept, MOST):
             self.room({"t": "put", "ops": before({"t": "ops", "after": after, "max": min(MOST, kept - after)})["ops"]})
         before.close()

@@ -90,8 +90,8 @@ export class Log {
   }
 
   /**
-   * Up to which version the log is the one that a document knows, and whether it surely lost what was behind that; null where not even
-   * its beginning is known.
+   * Up to which version the log is the one that a document knows, and whether it surely lost what was behind that: at once, or where it is
+   * the log of no new document, or was known whole. Null where not even its beginning is known.
    * @param {Document} document
    */
   async upTo({ version, memory }) {
@@ -117,7 +117,7 @@ export class Log {
       if (await this.#isEmpty()) return isWhole ? { kept, isSure: true } : null;
       return { kept, isSure: false, isWhole };
     }
-    let isSame = memory.last(kept).some(({ site }) => site > 0); // no new document has operations of these
+    let isSame = memory.last(kept).some(({ site }) => site > 0); // an empty room's first run has site 0
 
     const firsts = new Map(); // where each site begins among what is as it was known
     let next = null;
@@ -132,7 +132,7 @@ export class Log {
     for (const [site, first] of firsts) {
       if (await this.isOfRun(site)) return { kept: first, isSure: first > 0 || memory.sites.has(site) };
     }
-    if (kept > 0) return { kept, isSure: isSame || next === null || next.sequence === 1 };
+    if (kept > 0) return { kept, isSure: next === null || next.sequence === 1, isSame };
     const sites = [...memory.sites].filter((site) => next === null || site === next.site);
     if (await this.#isOfOneOf(sites)) return { kept, isSure: true };
     const isAgain = sites.length > 0 && next?.sequence === 1; // its number came again, or a new document has it
@@ -237,8 +237,8 @@ export class Log {
   }
 
   /**
-   * The text that one site typed from its beginning to its end, where the log begins so, and whether it is that of a new document: site 0
-   * typed it, as a room is renewed, before this run of the server. Null where the log begins otherwise.
+   * The text that one site typed from its beginning to its end, where the log begins so, and whether it may be that of a new document, as
+   * a room is renewed: no other operation is of that site, nor the run of the server. Null where the log begins otherwise.
    */
   async firstText() {
     const signs = [];
@@ -257,7 +257,7 @@ export class Log {
       if (last >= 0) break;
     }
     if (signs.length === 0) return null;
-    const isNew = site === 0 && (next === null || next.sequence === 1) && !(await this.isOfRun(0));
+    const isNew = (next === null || next.sequence === 1) && !(await this.isOfRun(site));
     return { text: signs.join(""), version: signs.length, last: signs.slice(-SIGNS).map((sign) => ({ sign, site })), isNew };
   }
 }

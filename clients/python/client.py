@@ -11,7 +11,7 @@ import subprocess
 import sys
 import time
 
-from past import MOST, PENDING, Deletion, Insertion, Past, is_of_site_0, operations, play, shown, written
+from past import MOST, PENDING, Deletion, Insertion, Past, is_of_run, operations, play, shown, written
 
 FULL = 131_072  # operations of a room
 LONGEST = 5  # seconds between two tries, at most
@@ -242,7 +242,7 @@ class Session:
         kept = self.past.version_of(text)
         if kept is not None:
             return kept, len(text)
-        return self.past.version if not log or is_of_site_0(self._ask, len(log)) else None, None
+        return self.past.version if not log or is_of_run(self._ask, log[0].stamp[1], len(log)) else None, None
 
     def _go_on(self, joined, log, kept, begin):
         goes_on, self.before = begin == self.version == self.past.in_common(log), list(self.text)

@@ -36,10 +36,11 @@ def operations(ask, first, end):
 
 
 def written(log):
-    """The text as a renewed room's log begins with it: what site 0 put in, each character behind the one before."""
+    """The text as a renewed room's log begins with it: what one site put in, each character behind the one before."""
     text = []
     for it in log:
-        if it.stamp != (len(text) + 1, 0) or it.char is None or it.place != ((len(text), 0) if text else None):
+        site = log[0].stamp[1]
+        if it.stamp != (len(text) + 1, site) or it.char is None or it.place != ((len(text), site) if text else None):
             break
         text.append(it.char)
     return text
@@ -82,11 +83,11 @@ def edits_of(log, version):
             yield ["n"]
 
 
-def is_of_site_0(ask, version):
-    """Whether the server's run is one of site 0: a room that isn't, refuses this deletion since what it deletes isn't there."""
+def is_of_run(ask, site, version):
+    """Whether a site is that of the server's run: a room of another one refuses this deletion since what it deletes isn't there."""
     clock = dict(ask({"t": "ops", "after": version - 1, "max": 1})["ops"][0]["c"])
-    clock[0] = clock.get(0, 0) + 1
-    deletion = {"c": sorted(map(list, clock.items())), "k": "d", "s": 0, "t": [sum(clock.values()), 0]}
+    clock[site] = clock.get(site, 0) + 1
+    deletion = {"c": sorted(map(list, clock.items())), "k": "d", "s": site, "t": [sum(clock.values()), site]}
     return ask({"t": "put", "ops": [deletion]})["os"][0] in (["no", 16], ["no", 17])
 
 
