@@ -90,8 +90,8 @@ export class Log {
   }
 
   /**
-   * Up to which version the log is the one that a document knows, and whether it surely lost what was behind that: at once, or where it is
-   * the log of no new document, or was known whole. Null where not even its beginning is known.
+   * Up to which version the log is the one that a document knows, and whether it surely lost what was behind that; null where not even
+   * its beginning is known.
    * @param {Document} document
    */
   async upTo({ version, memory }) {
@@ -117,8 +117,7 @@ export class Log {
       if (await this.#isEmpty()) return isWhole ? { kept, isSure: true } : null;
       return { kept, isSure: false, isWhole };
     }
-    let isSame = memory.last(kept).some(({ site }) => site > 0); // an empty room's first run has site 0
-
+    const same = new Set(memory.last(kept).map(({ site }) => site));
     const firsts = new Map(); // where each site begins among what is as it was known
     let next = null;
     for (let found = []; kept < version; kept += 1) {
@@ -126,13 +125,13 @@ export class Log {
       next = found.shift() ?? null;
       const was = known[kept - start];
       if (next === null || (was !== undefined && !isLike(was, next))) break;
-      isSame ||= was?.site > 0;
+      if (was !== undefined) same.add(was.site);
       if (!firsts.has(next.site)) firsts.set(next.site, kept);
     }
     for (const [site, first] of firsts) {
       if (await this.isOfRun(site)) return { kept: first, isSure: first > 0 || memory.sites.has(site) };
     }
-    if (kept > 0) return { kept, isSure: next === null || next.sequence === 1, isSame };
+    if (kept > 0) return { kept, isSure: next === null || next.sequence === 1 || (await this.#hasAnother(same)) };
     const sites = [...memory.sites].filter((site) => next === null || site === next.site);
     if (await this.#isOfOneOf(sites)) return { kept, isSure: true };
     const isAgain = sites.length > 0 && next?.sequence === 1; // its number came again, or a new document has it
@@ -147,6 +146,12 @@ export class Log {
     const next = kept < 0 ? undefined : found[kept];
     const isSure = found.length > 0 && kept !== 0 && (next === undefined || next.sequence === 1);
     return isSure ? { kept: base, isSure } : null;
+  }
+
+  /** Whether one of some sites isn't that of the log's beginning: a new document has what it begins with of one site alone. */
+  async #hasAnother(sites) {
+    const first = await this.siteOf(0);
+    return [...sites].some((site) => site !== null && site !== first);
   }
 
   async #isEmpty() {

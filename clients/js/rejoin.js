@@ -50,7 +50,6 @@ async function wayWithin(document, room, log, edits) {
   const goBack = () => document.goBack(memory.lengthAt(lost.kept));
   if (lost?.isSure) return goBack;
   const first = await log.firstText();
-  if (first?.isNew ? lost?.kept >= first.version : lost?.isSame) return goBack;
   const before = first === null ? null : textBefore(document, first.text);
   if (first?.text === document.roomText || (first?.isNew && isLike(before.text, first.text))) return () => renew(document, first, before);
   if (first?.isNew) return null;
