@@ -131,7 +131,7 @@ export class Log {
     for (const [site, first] of firsts) {
       if (await this.isOfRun(site)) return { kept: first, isSure: first > 0 || memory.sites.has(site) };
     }
-    if (kept > 0) return { kept, isSure: next === null || next.sequence === 1 || (await this.#hasAnother(same)) };
+    if (kept > 0) return { kept, isSure: next === null || next.sequence === 1 || (await this.#hasAnother(same, known[0 - start])) };
     const sites = [...memory.sites].filter((site) => next === null || site === next.site);
     if (await this.#isOfOneOf(sites)) return { kept, isSure: true };
     const isAgain = sites.length > 0 && next?.sequence === 1; // its number came again, or a new document has it
@@ -148,9 +148,9 @@ export class Log {
     return isSure ? { kept: base, isSure } : null;
   }
 
-  /** Whether one of some sites isn't that of the log's beginning: a new document has what it begins with of one site alone. */
-  async #hasAnother(sites) {
-    const first = await this.siteOf(0);
+  /** Whether one of some sites isn't that of the first operation, which may be known: a new document begins with a text of one site. */
+  async #hasAnother(sites, begin) {
+    const first = begin?.site ?? (await this.siteOf(0));
     return [...sites].some((site) => site !== null && site !== first);
   }
 
