@@ -242,8 +242,9 @@ export class Log {
   }
 
   /**
-   * The text that one site typed from its beginning to its end, where the log begins so, and whether it may be that of a new document, as
-   * a room is renewed: no other operation is of that site, nor the run of the server. Null where the log begins otherwise.
+   * The text that one site typed from its beginning to its end, where the log begins so, and whether it is that of a new document, as a
+   * room is renewed: behind it is another site's first operation or none, and the run of the server is of another site too. Null where the
+   * log begins otherwise.
    */
   async firstText() {
     const signs = [];

@@ -48,8 +48,9 @@ export class Log {
         count: number;
     } | null>;
     /**
-     * The text that one site typed from its beginning to its end, where the log begins so, and whether it is that of a new document: site 0
-     * typed it, as a room is renewed, before this run of the server. Null where the log begins otherwise.
+     * The text that one site typed from its beginning to its end, where the log begins so, and whether it is that of a new document, as a
+     * room is renewed: behind it is another site's first operation or none, and the run of the server is of another site too. Null where the
+     * log begins otherwise.
      */
     firstText(): Promise<{
         text: string;
