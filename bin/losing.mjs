@@ -149,6 +149,17 @@ async function isRenewedTwiceWhileAway(at) {
   await goOn(other.room, ways, `> ${text}`);
 }
 
+/** A room without text is renewed, which leaves it no log: what was deleted stays away. */
+async function isRenewedEmpty() {
+  const ways = await two("hello ", "world");
+  ways[1].editor.change(0, 11, "");
+  for (const way of ways) await way.comesTo("up to date", "");
+  await goOver(await anewRun(ways[0].room), ways, "");
+  ways[0].editor.change(0, 0, "again");
+  for (const way of ways) await way.comesTo("up to date", "again");
+  await goOn(await anewRun(ways[0].room), ways, "again");
+}
+
 /** Most of a deletion is lost while its author is away, another types on, and the room is renewed: the rest is deleted again. */
 async function losesADeletionWhileAway() {
   const way = await begin("one two three");
@@ -302,6 +313,7 @@ await Promise.all([
   isRenewed("hello ", "world", (room) => renewedRun(room, 3)),
   isRenewed("hello ", "world", anewRun),
   isRenewed("a", "b", anewRun),
+  isRenewedEmpty(),
   isRenewedTwice(),
   isRenewedTwiceWhileAway(WHALE.length),
   isRenewedTwiceWhileAway(WHALE.length + RABBIT.length),
