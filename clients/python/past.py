@@ -218,7 +218,7 @@ class Past:
         there = log[self.first : self.first + len(self.log)]
         count = next((at for at, (one, other) in enumerate(zip(there, self.log)) if one != other), len(there))
         sites = {it.stamp[1] for it in self.log[:count]}
-        is_renewed = any(it.stamp[1] in sites for it in there[count : count + 1])  # a run that goes on has a site of its own
+        is_renewed = any(sites == {it.stamp[1]} == {log[0].stamp[1]} for it in there[count : count + 1])  # its text goes on otherwise
         return None if is_renewed or (count == 0 and self.log) else self.first + count
 
     def came_at(self, log, at, request, before=None):
