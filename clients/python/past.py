@@ -37,9 +37,8 @@ def operations(ask, first, end):
 
 def written(log):
     """The text as a renewed room's log begins with it: what one site put in, each character behind the one before."""
-    text = []
+    text, site = [], log[0].stamp[1] if log else None
     for it in log:
-        site = log[0].stamp[1]
         if it.stamp != (len(text) + 1, site) or it.char is None or it.place != ((len(text), site) if text else None):
             break
         text.append(it.char)
