@@ -68,12 +68,12 @@ function logOf(seed) {
   return typists[0].room;
 }
 
-/** What the program prints of a version. */
+/** What the program prints of a version, without the LF behind it. */
 function printed(ops, version) {
   const input = JSON.stringify({ format: 2, ops });
   const { status, stdout } = spawnSync(process.argv[2], ["text", "--version", `${version}`], { input, encoding: "utf8" });
-  assert.equal(status, 0);
-  return stdout;
+  assert.deepEqual([status, stdout.at(-1)], [0, "\n"]);
+  return stdout.slice(0, -1);
 }
 
 let versions = 0;
