@@ -160,20 +160,6 @@ async function isRenewedEmpty() {
   await goOn(await anewRun(ways[0].room), ways, "again");
 }
 
-/** Most of a deletion is lost while its author is away, another types on, and the room is renewed: the rest is deleted again. */
-async function losesADeletionWhileAway() {
-  const way = await begin("one two three");
-  way.editor.change(3, 4, "");
-  await way.comesTo("up to date", "one three");
-  way.cutOff();
-  await way.comesTo("offline");
-  const kept = await keptRun(way.room, 3);
-  await typedBy(kept, 0, "> ");
-  way.room = await renewedRun(kept);
-  way.isUp = true;
-  await endsAs(way, "> one three");
-}
-
 /** In place of a room there is another document of the same language, which isn't what became of its text: the user is asked. */
 async function isAnotherDocument() {
   const way = await begin(WHALE);
@@ -317,7 +303,6 @@ await Promise.all([
   isRenewedTwice(),
   isRenewedTwiceWhileAway(WHALE.length),
   isRenewedTwiceWhileAway(WHALE.length + RABBIT.length),
-  losesADeletionWhileAway(),
   isFarBehind(),
   isAnotherDocument(),
   cameAndIsMostlyDeleted(),

@@ -109,41 +109,17 @@ export class Memory {
     }
   }
 
-  /**
-   * What was done here, the last first: how many entries lead to each, which of them put in what the room's text still has and which deleted
-   * something, each by its number from 1 on, and a call that gives the text without so many, with or without what they deleted, and how many
-   * units differ then.
-   */
-  own(text) {
-    const first = { unit: "", from: Infinity, to: Infinity, next: null }; // a unit is there without `from` of them, and not without `to`
-    const chained = (units, from, before) => {
-      const chain = units.split("").map((unit) => ({ unit, from, to: Infinity, next: before.next }));
-      chain.forEach((it, n) => ((chain[n - 1] ?? before).next = it));
-      return chain;
-    };
-    const now = chained(text, 0, first);
-    const [lengths, puts, deletions] = [[], [], []];
+  /** The entries that put in something here that the room's text of so many units still has, the last first: how many lead to each, and where. */
+  *own(units) {
+    const now = [...Array(units).keys()];
     for (let length = this.#entries.length - 1; length >= 0; length -= 1) {
       const { isOwn, ways } = this.#entries[length];
-      const number = isOwn ? lengths.push(length) : Infinity;
+      const places = [];
       for (const { at, taken, put } of [...ways].reverse()) {
-        const old = chained(taken.map((it) => it.text).join(""), number, now[at - 1] ?? first);
-        const gone = now.splice(at, put.length, ...old);
-        if (!isOwn) continue;
-        for (const it of gone) it.to = number;
-        if (gone.some(({ from }) => from === 0)) puts.push(number);
-        if (old.length > 0) deletions.push(number);
+        const old = taken.reduce((sum, it) => sum + it.text.length, 0);
+        places.push(...now.splice(at, put.length, ...Array(old).fill(-1)).filter((place) => place >= 0));
       }
+      if (isOwn && places.length > 0) yield { length, places };
     }
-    const without = (count, hasDeleted) => {
-      const told = { text: "", changed: 0 };
-      for (let it = first.next; it !== null; it = it.next) {
-        const isThere = it.from <= count && count < it.to && (hasDeleted || it.from === 0);
-        if (isThere) told.text += it.unit;
-        told.changed += Number(isThere !== (it.from === 0));
-      }
-      return told;
-    };
-    return { lengths, puts, deletions, without };
   }
 }

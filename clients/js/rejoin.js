@@ -95,34 +95,31 @@ function hasCome({ roomText, textToCome, underWay }, text) {
 
 /**
  * The text that a new document was made of, and how many entries lead there: the last one that is the same. Else it was made by changes that
- * weren't seen, of a later one; but as far as all is missing that was put in here last, and all is there that was deleted here before that,
- * these were lost. Others put theirs in again. Where it has what is under way, nothing was lost.
+ * weren't seen, of a later one; but as far as all is missing that was put in here last, that was lost. Others put theirs in again. Where it
+ * has what is under way, nothing was lost.
  */
 function textBefore(document, wanted) {
   const { memory, roomText } = document;
   for (const it of memory.texts(roomText)) if (it.text === wanted) return it;
   if (hasCome(document, wanted)) return { length: memory.length, text: roomText, hasCome: true };
-  const { lengths, puts, deletions, without } = memory.own(roomText);
-  const isNearer = (one, other) => distance(one.text, wanted) + one.changed - other.changed <= distance(other.text, wanted);
-  const lostOf = (numbers, start, hasDeleted) => {
-    const before = without(start, hasDeleted);
-    return numbers[howMany(numbers, (number) => isNearer(without(number, hasDeleted), before)) - 1] ?? start;
+  const away = distance(roomText, wanted);
+  const own = [...memory.own(roomText.length)];
+  const upTo = (entry) => {
+    const places = new Set(own.slice(0, entry).flatMap((it) => it.places));
+    return roomText.split("").filter((_, place) => !places.has(place)).join("");
   };
-  const lost = lostOf(puts, 0, false);
-  const all = lostOf(deletions.filter((number) => number > lost), lost, true);
-  return { length: lengths[all - 1] ?? memory.length, text: without(all, true).text };
-}
-
-/** How many of a list from its first on are so; none behind the first that isn't. */
-function howMany(list, isSo) {
-  let [low, high] = [0, 1]; // the last of the first `low` is so, and that of the first `high` isn't
-  for (; high <= list.length && isSo(list[high - 1]); high *= 2) low = high;
-  for (high = Math.min(high, list.length + 1); high - low > 1; ) {
+  const isMissing = (entry) => {
+    const text = upTo(entry);
+    return distance(text, wanted) + roomText.length - text.length <= away;
+  };
+  let [low, high] = [0, 1]; // all is missing of the last `low` entries, and not of the last `high`
+  for (; high <= own.length && isMissing(high); high *= 2) low = high;
+  for (high = Math.min(high, own.length + 1); high - low > 1; ) {
     const middle = (low + high) >> 1;
-    if (isSo(list[middle - 1])) low = middle;
+    if (isMissing(middle)) low = middle;
     else high = middle;
   }
-  return low;
+  return { length: own[low - 1]?.length ?? memory.length, text: upTo(low) };
 }
 
 /** Whether a text may have become of one before: it has at least a quarter of that, in pieces, or that is too short to tell. */
