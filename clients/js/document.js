@@ -60,6 +60,8 @@ export class Document {
     this.memory = new Memory(version, last);
     /** The site of the server's run, once an accepted submission has told it. @type {number | null} */
     this.site = null;
+    /** How many operations of each site the log had where the room was joined, as its last one told. @type {Map<number, number>} */
+    this.counts = new Map();
   }
 
   /** The text that is shown. */
@@ -140,7 +142,8 @@ export class Document {
    */
   replace(at, removed, text) {
     const shown = this.text;
-    if (at < 0 || removed < 0 || at + removed > shown.length) throw new RangeError("beyond the text");
+    const isWithin = Number.isInteger(at) && Number.isInteger(removed) && at >= 0 && removed >= 0 && at + removed <= shown.length;
+    if (!isWithin) throw new RangeError("beyond the text");
     if (isInside(shown, at) || isInside(shown, at + removed)) throw new RangeError("inside of a pair");
     const put = text.toWellFormed();
     this.#remove(at, removed);

@@ -46,6 +46,8 @@ const isLike = (known, single) => known.sign === single.sign && (known.site === 
 export class Log {
   #ask;
   #end = 0; // a version that the log has
+  /** How many operations of each site the last one knew that was told by `last`. @type {Map<number, number>} */
+  counts = new Map();
 
   /** @param {(request: object) => Promise<import("./connection.js").Reply>} ask */
   constructor(ask) {
@@ -67,7 +69,9 @@ export class Log {
   async last(version) {
     this.#end = version;
     const max = Math.min(version, SIGNS);
-    return (await this.#singles(version - max, max)).map(({ sign, site }) => ({ sign, site }));
+    const last = await this.#singles(version - max, max);
+    this.counts = new Map(last.at(-1)?.clock ?? []);
+    return last.map(({ sign, site }) => ({ sign, site }));
   }
 
   /** The site of an operation. */

@@ -31,11 +31,13 @@ const LONG = 16;
  */
 export async function wayTo(document, room, log, edits) {
   const way = await wayWithin(document, room, log, edits);
-  if (way !== null) return () => [...way(), ...document.follow(room)];
-  if (room.roomText !== document.textToCome) return null;
+  if (way === null && room.roomText !== document.textToCome) return null;
   return () => {
-    document.came(document.version, Infinity);
-    return document.follow(room);
+    const changes = way === null ? [] : way();
+    if (way === null) document.came(document.version, Infinity);
+    changes.push(...document.follow(room));
+    document.counts = room.counts;
+    return changes;
   };
 }
 
@@ -50,11 +52,18 @@ async function wayWithin(document, room, log, edits) {
   const goBack = () => document.goBack(memory.lengthAt(lost.kept));
   if (lost?.isSure) return goBack;
   const first = await log.firstText();
+  if (first?.isNew && wasThere(document, first)) first.isNew = false;
   const before = first === null ? null : textBefore(document, first.text);
   if (first?.text === document.roomText || (first?.isNew && isLike(before.text, first.text))) return () => renew(document, first, before);
   if (first?.isNew) return null;
   if (goesOn) return () => settle(document, found, edits);
   return lost?.isWhole || (lost !== null && isLike(document.roomText, room.roomText)) ? goBack : null;
+}
+
+/** Whether the log began with this text when the room was joined. (A log of site 0 may have as many operations, and be another.) */
+function wasThere({ counts }, { version, last }) {
+  const [{ site }] = last;
+  return site > 0 && counts.get(site) === version;
 }
 
 /** Takes what is under way as what the log has of it, and plays the edits. */

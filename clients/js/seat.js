@@ -88,6 +88,7 @@ export class Seat {
     this.#leaving = null;
     this.#unknown.push({ s, v, x });
     const room = new Document(x, v, await this.log.last(v));
+    room.counts = this.log.counts;
     for (; this.#unknown.length > 1; this.#unknown.shift()) await this.#leaveUnknown(this.#unknown[0], room);
     this.#unknown = [];
     return room;

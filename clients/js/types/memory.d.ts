@@ -39,20 +39,11 @@ export class Memory {
         text: any;
         length: number;
     }, void, unknown>;
-    /**
-     * What was done here, the last first: how many entries lead to each, which of them put in what the room's text still has and which deleted
-     * something, each by its number from 1 on, and a call that gives the text without so many, with or without what they deleted, and how many
-     * units differ then.
-     */
-    own(text: any): {
-        lengths: never[];
-        puts: never[];
-        deletions: never[];
-        without: (count: any, hasDeleted: any) => {
-            text: string;
-            changed: number;
-        };
-    };
+    /** The entries that put in something here that the room's text of so many units still has, the last first: how many lead to each, and where. */
+    own(units: any): Generator<{
+        length: number;
+        places: number[];
+    }, void, unknown>;
     #private;
 }
 /**
