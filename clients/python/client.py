@@ -214,10 +214,13 @@ class Session:
         """Joins, also another run of the server, and says whether its log goes on from what was pulled here: then what is waiting is
         submitted there. Else `missing` has what that run lacks of one's own, which `put_missing` submits, and `before` is the text of
         before. Where it raises call it again."""
+        log = []
         for _ in self._pauses():
             try:
                 if self.session is not None and self.lines == getattr(self.ask, "lines", 0):
                     self._ask({"t": "leave", "s": self.session})  # on one line the run is the same
+                if self.session is not None:
+                    self._read_on(log)  # (a line that is lost behind `join` leaves a session in the room)
                 joined = self._ask({"t": "join"})
                 if joined["r"] == "no":
                     raise Refused(joined["n"])
@@ -225,12 +228,19 @@ class Session:
                     log = operations(self._ask, max(0, joined["v"] - MOST), joined["v"])
                     self.past = Past(joined["v"], joined["x"], log)
                     return self._begin(joined)
-                log = operations(self._ask, 0, joined["v"])
+                log += operations(self._ask, len(log), joined["v"])
                 kept, begin = self._kept(log)
             except Lost:
                 continue
             return self._go_on(joined, log, kept, begin)
         raise Lost
+
+    def _read_on(self, log):
+        """Reads the room's log to its end, behind what was read of it before."""
+        if log and operations(self._ask, len(log) - 1, len(log)) != log[-1:]:
+            log.clear()  # another run has another one
+        while more := operations(self._ask, len(log), len(log) + MOST):
+            log += more
 
     def _kept(self, log):
         """Up to which version of those that are remembered another log has what was done, and its own version with that text, where it has
