@@ -149,6 +149,22 @@ async function isRenewedTwiceWhileAway(at) {
   await goOn(other.room, ways, `> ${text}`);
 }
 
+/** One who joined a room long after its server had renewed it loses what it typed, and more of the log than it knows. */
+async function losesItsEndBehindARenewal() {
+  const room = await anewRun(await roomOf(`${WHALE} The end.`, 0));
+  await deletedBy(room, WHALE.length, 9);
+  await typedBy(room, WHALE.length, " More was typed since.");
+  const pasted = "0123456789".repeat(8);
+  await typedBy(room, 0, pasted.slice(0, 64));
+  await typedBy(room, 64, pasted.slice(64));
+  const text = `${WHALE} More was typed since.`;
+  const way = new Way(room);
+  await way.comesTo("up to date", pasted + text);
+  way.editor.change(80 + text.length, 0, " And the end.");
+  await way.comesTo("up to date", `${pasted}${text} And the end.`);
+  await goOn(await keptRun(room, 93, 3), [way], `${text} And the end.`);
+}
+
 /** A room without text is renewed, which leaves it no log: what was deleted stays away. */
 async function isRenewedEmpty() {
   const ways = await two("hello ", "world");
@@ -301,6 +317,7 @@ await Promise.all([
   isRenewed("a", "b", anewRun),
   isRenewedEmpty(),
   isRenewedTwice(),
+  losesItsEndBehindARenewal(),
   isRenewedTwiceWhileAway(WHALE.length),
   isRenewedTwiceWhileAway(WHALE.length + RABBIT.length),
   isFarBehind(),
