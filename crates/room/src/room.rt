@@ -37,7 +37,7 @@ impl Model for Room {
 
 impl Room {
     ghost use Rattle.room.specs.Machine.{State, empty_room, room_over, may_record, answer};
-    ghost use Rattle.room.specs.History.{mark, account_over, called, ran, IsConsistent, Runs, PlacesInsertion, StepsRoom};
+    ghost use Rattle.room.specs.History.{mark, account_over, called, ran, IsConsistent, Runs, StepsRoom};
     ghost use Rattle.room.specs.Convergence.{EditorsConverge, EditorsKeepUp};
     ghost use Rattle.room.specs.Intention.{KeepsIntentions, OnlyGrows};
 
@@ -114,7 +114,6 @@ impl Room {
         ensures err { OnErr result (self.new ≡ self.old) }
         ensures memory { OnErr result (may_record self.old.state ≡ true) }
         ensures full { IfOk result (λ reply. (reply ≡ No HistoryFull) ↔ (length self.old.history ≡ 1048576)) }
-        ensures placed { PlacesInsertion self.old.state call }
         ensures consistent { IsConsistent self.new }
 
         // What editors make of the replies of their sessions is what the room reads, and what they asked for stays.

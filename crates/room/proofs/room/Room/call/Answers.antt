@@ -1,9 +1,5 @@
-use Rattle.room.proofs.Accepted.{consistent_places}
 use Rattle.room.proofs.Intentions.{keeps_intentions}
 use Rattle.room.proofs.room.Room.call.Goals as goal
-
-pub returns-clause-placed : goal.returns-clause-placed
-returns-clause-placed c = consistent_places c.args.self.now c.args.call c.record.ensures.before
 
 pub returns-clause-keeps_intentions : goal.returns-clause-keeps_intentions
 returns-clause-keeps_intentions c = keeps_intentions c.record.new.self c.record.ensures.consistent
