@@ -36,7 +36,7 @@ class Case {
     this.document = new Document(x, v, await this.log.last(v));
     for (const step of this.steps) {
       if (step.restart) await this.restart(step.restart);
-      if (step.local) this.document.replace(step.local.at, step.local.removed, step.local.text);
+      if (step.local) this.document.replace([step.local]);
       if (step.other) await this.submitAsOther(step.other);
       if (step.send) await this.submit(step);
       if (step.again) this.answerAgain(step.again);
@@ -114,7 +114,7 @@ function someChange(roll, text) {
   const at = outside(roll(text.length + 1));
   const end = roll(3) > 0 ? at : Math.max(at, outside(Math.min(text.length, at + roll(12))));
   const words = ["a", "é", "😀", "日本", "\n", "hello", "x".repeat(70)];
-  return [at, end - at, roll(4) === 0 ? "" : words[roll(words.length)]];
+  return { at, removed: end - at, text: roll(4) === 0 ? "" : words[roll(words.length)] };
 }
 
 /** A document of a session, and what its editor shows by the changes. */
@@ -134,7 +134,7 @@ class Peer {
   }
 
   change() {
-    this.show([this.document.replace(...someChange(this.roll, this.shown))]);
+    this.show(this.document.replace([someChange(this.roll, this.shown)]));
   }
 
   send() {

@@ -5,6 +5,7 @@
  * The text is a list of pieces. A piece is the room's, or it was put in here and is new or under way; and it may be gone, which is a
  * deletion that is new or under way. What is shown are the pieces that aren't gone. The room's text are the pieces that are its own.
  */
+import { along } from "./along.js";
 import { add } from "./changes.js";
 import { differences } from "./differences.js";
 import { Memory } from "./memory.js";
@@ -31,6 +32,9 @@ export const MOST = 64;
 /** @typedef {import("./memory.js").Known} Known */
 
 const NONE = [];
+
+/** How many units of what is shown a piece is. */
+const shownUnits = (piece) => (piece.isShown ? piece.text.length : 0);
 
 /** What is remembered of a piece of the room's that is deleted: also whether it was deleted here. */
 const remembered = ({ text, isShown, since }) => ({ text, isMine: !isShown, since });
@@ -112,15 +116,16 @@ export class Document {
     return count;
   }
 
-  /** How many more changes are pending where the shown text is changed so; fewer than none where what is new is taken out. */
-  cost(at, removed, text) {
-    let count = characters(text.toWellFormed());
-    let before = 0;
-    for (const piece of this.#pieces.list) {
-      if (!piece.isShown) continue;
-      const part = piece.text.slice(Math.max(0, at - before), Math.max(0, at + removed - before));
-      count += piece.owner === "new" ? -characters(part) : characters(part);
-      before += piece.text.length;
+  /**
+   * How many more changes are pending where the shown text is changed so, from the last place to the first; fewer than none where what is
+   * new is taken out.
+   * @param {Change[]} changes
+   */
+  cost(changes) {
+    let count = 0;
+    for (const [change, piece] of along(changes, this.#pieces.list, shownUnits)) {
+      if (piece === null) count += characters(change.text.toWellFormed());
+      else if (change !== null && piece.isShown) count += piece.owner === "new" ? -characters(piece.text) : characters(piece.text);
     }
     return count;
   }
@@ -136,55 +141,49 @@ export class Document {
   }
 
   /**
-   * What the user does: removes so many units at a place of the shown text, and puts a text in there. Neither end is inside of a pair.
-   * A unit of a pair that stands alone in the text, which no room takes, becomes U+FFFD. Gives the change that was made.
-   * @returns {Change}
+   * What the user does: each change removes so many units at a place of the shown text, and puts a text in there. They are changes of one
+   * text, from the last place to the first. No end is inside of a pair. A unit of a pair that stands alone in a text, which no room takes,
+   * becomes U+FFFD. Gives the changes that were made.
+   * @param {Change[]} changes
+   * @returns {Change[]}
    */
-  replace(at, removed, text) {
+  replace(changes) {
+    this.#mustBePlaces(changes);
+    const made = changes.map(({ at, removed, text }) => ({ at, removed, text: text.toWellFormed() }));
+    const pieces = [];
+    const real = made.filter(({ removed, text }) => removed > 0 || text !== "");
+    let order = 0;
+    for (const [change, piece] of along(real, this.#pieces.list, shownUnits)) {
+      if (piece === null) {
+        if (change.removed > 0) order = this.#orders += 1;
+        if (change.text !== "") this.#put(change.text, pieces);
+      } else if (change === null || !piece.isShown) {
+        pieces.push(piece);
+      } else if (piece.owner !== "new") {
+        pieces.push(Object.assign(piece, { gone: "new", order }));
+      }
+    }
+    this.#pieces.list = pieces;
+    return made;
+  }
+
+  #mustBePlaces(changes) {
     const shown = this.text;
-    const isWithin = Number.isInteger(at) && Number.isInteger(removed) && at >= 0 && removed >= 0 && at + removed <= shown.length;
-    if (!isWithin) throw new RangeError("beyond the text");
-    if (isInside(shown, at) || isInside(shown, at + removed)) throw new RangeError("inside of a pair");
-    const put = text.toWellFormed();
-    this.#remove(at, removed);
-    if (put !== "") this.#insert(at, put);
-    return { at, removed, text: put };
+    let last = shown.length;
+    for (const { at, removed } of changes) {
+      const isWithin = Number.isInteger(at) && Number.isInteger(removed) && at >= 0 && removed >= 0 && at + removed <= shown.length;
+      if (!isWithin) throw new RangeError("beyond the text");
+      if (at + removed > last) throw new RangeError("not from the last place to the first");
+      if (isInside(shown, at) || isInside(shown, at + removed)) throw new RangeError("inside of a pair");
+      last = at;
+    }
   }
 
-  /** Puts a text in behind what is shown before the place. What is new there already takes it in. */
-  #insert(at, text) {
-    const index = this.#pieces.behind(at);
-    const left = this.#pieces.list[index - 1];
-    if (left !== undefined && left.owner === "new" && left.isShown) {
-      left.text += text;
-      return;
-    }
-    this.#pieces.list.splice(index, 0, new Piece(text, "new", null, (this.#orders += 1)));
-  }
-
-  /** Removes so many units of what is shown. What is new is taken out; all else is gone, and that is sent when its turn comes. */
-  #remove(at, removed) {
-    if (removed === 0) return;
-    const { list } = this.#pieces;
-    const order = (this.#orders += 1);
-    let index = this.#pieces.behind(at);
-    let rest = removed;
-    while (rest > 0) {
-      const piece = list[index];
-      if (!piece.isShown) {
-        index += 1;
-        continue;
-      }
-      this.#pieces.cut(index, rest);
-      rest -= piece.text.length;
-      if (piece.owner === "new") {
-        list.splice(index, 1);
-      } else {
-        piece.gone = "new";
-        piece.order = order;
-        index += 1;
-      }
-    }
+  /** Puts a text in behind pieces. What is new there already takes it in. */
+  #put(text, pieces) {
+    const left = pieces.at(-1);
+    if (left?.owner === "new" && left.isShown) left.text += text;
+    else pieces.push(new Piece(text, "new", null, (this.#orders += 1)));
   }
 
   /** The order of what is made next: all that is pending now has that of before. */

@@ -33,9 +33,14 @@ export class Piece {
     return this.owner === "lost";
   }
 
+  /** What is between two places, as a piece of its own. */
+  part(start, end) {
+    return new Piece(this.text.slice(start, end), this.owner, this.gone, this.order, this.since);
+  }
+
   /** Takes what stands behind the place off, and gives it as a piece of its own. */
   cut(place) {
-    const rest = new Piece(this.text.slice(place), this.owner, this.gone, this.order, this.since);
+    const rest = this.part(place, this.text.length);
     this.text = this.text.slice(0, place);
     return rest;
   }

@@ -26,22 +26,6 @@ export class Pieces {
     return this.list.map((piece) => (isWanted(piece) ? piece.text : "")).join("");
   }
 
-  /** The number of the piece right behind what is shown before the place; a piece that the place is inside of is cut there. */
-  behind(at) {
-    if (at === 0) return 0;
-    let before = 0;
-    for (let index = 0; index < this.list.length; index += 1) {
-      const piece = this.list[index];
-      if (!piece.isShown) continue;
-      if (at <= before + piece.text.length) {
-        if (at < before + piece.text.length) this.cut(index, at - before);
-        return index + 1;
-      }
-      before += piece.text.length;
-    }
-    return this.list.length;
-  }
-
   /** The number of the piece of the room's that begins at the place of its text: one that the place is inside of is cut there. */
   atRooms(k) {
     let before = 0;

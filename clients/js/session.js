@@ -157,7 +157,7 @@ export class Session extends /** @type {{new (): Tells & EventTarget}} */ (Event
    * @returns {number}
    */
   cost(at, removed, text) {
-    return this.document.cost(at, removed, text);
+    return this.document.cost([{ at, removed, text }]);
   }
 
   /**
@@ -170,13 +170,23 @@ export class Session extends /** @type {{new (): Tells & EventTarget}} */ (Event
    * @returns {Change}
    */
   replace(at, removed, text) {
+    return this.replaceAll([{ at, removed, text }])[0];
+  }
+
+  /**
+   * Makes several changes of the shown text, from the last place to the first: all of them, or none where `replace` would throw.
+   * @param {Change[]} changes
+   * @returns {Change[]}
+   */
+  replaceAll(changes) {
+    if (changes.length === 0) return [];
     if (this.#isClosing || this.#isShut || this.#isRefused) throw new Ended(this.why);
-    if (this.cost(at, removed, text) > this.left) throw new Full(this.left);
-    const change = this.document.replace(at, removed, text);
+    if (this.document.cost(changes) > this.left) throw new Full(this.left);
+    const made = this.document.replace(changes);
     if (this.state === "up to date") this.#tell(this.#standing);
     this.#pace.hasNews();
     this.#wake();
-    return change;
+    return made;
   }
 
   /** Another run of the server has another text: shows that, and lets go of what was shown. */
@@ -192,9 +202,8 @@ export class Session extends /** @type {{new (): Tells & EventTarget}} */ (Event
   putMine() {
     if (this.#other === null) return;
     if (this.#isRefused) throw new Ended(this.why);
-    const cost = this.other.difference.reduce((sum, { at, removed, text }) => sum + this.#other.cost(at, removed, text), 0);
     const left = this.operations - this.#other.version;
-    if (cost > left) throw new Full(left);
+    if (this.#other.cost(this.other.difference) > left) throw new Full(left);
     this.#compared = this.#other.version;
     this.#wake();
   }
@@ -491,7 +500,7 @@ export class Session extends /** @type {{new (): Tells & EventTarget}} */ (Event
     if (isAsSeen) {
       const { difference } = this.other;
       this.document = other;
-      for (const { at, removed, text } of difference) this.document.replace(at, removed, text);
+      this.document.replace(difference);
       this.#goOn();
     } else {
       this.#tell("another text", "the room has changed in the meantime: choose again");
