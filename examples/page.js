@@ -1,5 +1,5 @@
-// What the pages of editors have in common: a form with a server and a room, and a line that tells how the session stands.
-import { bindPage, bindStatus, mayBeLost } from "../clients/js/page.js";
+// What the pages have in common: a form with a server and a room, and a line that tells how the session stands.
+import { bindPage, bindStatus } from "../clients/js/page.js";
 import { open } from "../clients/js/rgatext.js";
 
 const element = (id) => document.getElementById(id);
@@ -11,36 +11,49 @@ export function tellTrouble(trouble) {
 }
 
 /**
- * Opens the room that the form tells, or the page's address, as ?server=ws://127.0.0.1:7878&room=notes. `bind` binds a session to the
- * page's editor, and gives the binding; it is handed the options of one.
+ * Asks where the room is by a form at the page's beginning, or by its address, as ?server=ws://127.0.0.1:7878&room=notes: `enter` is called
+ * with the server and the room.
  */
+export function askWhere(enter) {
+  const form = Object.assign(document.createElement("form"), { id: "where" });
+  const asked = new URLSearchParams(location.search);
+  const fields = Object.entries({ server: "ws://127.0.0.1:7878", room: "notes" }).map(([id, usual]) => {
+    const field = Object.assign(document.createElement("input"), { id, value: asked.get(id) ?? usual, spellcheck: false });
+    const label = document.createElement("label");
+    label.append(id === "server" ? "Server " : "Room ", field);
+    form.append(label);
+    return field;
+  });
+  const button = document.createElement("button");
+  button.append("Open");
+  form.append(button);
+  document.body.prepend(form);
+  const enters = () => enter(fields[0].value.trim(), fields[1].value);
+  form.addEventListener("submit", (event) => {
+    event.preventDefault();
+    enters();
+  });
+  if (asked.has("room")) enters();
+}
+
+/** Opens the room that is asked for. `bind` binds a session to the page's editor, and gives the binding; it gets the options of one. */
 export function openRooms(bind) {
-  const [server, room] = [element("server"), element("room")];
   let session = null;
   let bindings = [];
 
-  const enter = () => {
-    if (session !== null && mayBeLost(session) && !confirm("Some of the text isn't in the room. Leave it?")) return;
+  askWhere((server, room) => {
+    if (session?.mayBeLost && !confirm("Some of the text isn't in the room. Leave it?")) return;
     let next;
     try {
-      next = open(server.value.trim(), room.value);
+      next = open(server, room);
     } catch (fault) {
       if (!(fault instanceof TypeError)) throw fault;
-      return tellTrouble(`${server.value} can't be opened: ${fault.message}`);
+      return tellTrouble(`${server} can't be opened: ${fault.message}`);
     }
     for (const it of bindings) it.release();
     session?.close();
     session = next;
-    const status = bindStatus(session, element("status"), { name: room.value });
+    const status = bindStatus(session, element("status"), { name: room });
     bindings = [status, bindPage(session), bind(session, { onTrouble: (trouble) => status.trouble(trouble) })];
-  };
-
-  const asked = new URLSearchParams(location.search);
-  server.value = asked.get("server") ?? server.value;
-  room.value = asked.get("room") ?? room.value;
-  element("where").addEventListener("submit", (event) => {
-    event.preventDefault();
-    enter();
   });
-  if (asked.has("room")) enter();
 }

@@ -13,10 +13,12 @@ import { USUAL } from "./options.js";
 /** A line over a WebSocket. */
 export class Connection {
   /**
-   * Connects, and opens the room. `Socket` is a class like WebSocket.
+   * Connects, and opens the room. `Socket` is a class like WebSocket. Rejects with `Lost`, or `Refused` where there is no such room.
+   * @param {string} address
+   * @param {string} room
    * @returns {Promise<Line>}
    */
-  static async open(address, room, Socket, options = USUAL) {
+  static async open(address, room, Socket = globalThis.WebSocket, options = USUAL) {
     const connection = new Connection(new Socket(address), options);
     const reply = await connection.ask({ t: "open", room });
     if (reply.r !== "opened") {

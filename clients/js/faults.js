@@ -33,3 +33,10 @@ export class Ended extends Error {
     super(`nothing can be changed${why === "" ? "" : `: ${why}`}`);
   }
 }
+
+/** What was done here won't be in the room: its user took the room's text in place of what was shown. */
+export class GivenUp extends Error {
+  constructor() {
+    super("the room's text was taken, and what was shown is given up");
+  }
+}

@@ -37,6 +37,12 @@ export const USUAL = {
   operations: OPERATIONS,
 };
 
+/** So many milliseconds a timer takes at most: 24 days. */
+const LONGEST = 2 ** 31 - 1;
+
+/** A time as a timer takes it. */
+export const inTime = (milliseconds) => Math.min(milliseconds, LONGEST);
+
 /**
  * The options, with the usual values of those that aren't told. Throws a TypeError where there is no option of a name, or one is no number
  * above 0.
@@ -47,5 +53,6 @@ export function withUsual(options) {
     if (!Object.hasOwn(USUAL, name)) throw new TypeError(`there is no option ${name}`);
     if (!(typeof value === "number" && value > 0)) throw new TypeError(`the option ${name} is a number above 0`);
   }
-  return { ...USUAL, ...options };
+  const told = Object.entries({ ...USUAL, ...options }).map(([name, value]) => [name, inTime(value)]);
+  return /** @type {Required<Options>} */ (Object.fromEntries(told));
 }

@@ -21,9 +21,6 @@ const SCARCE = 0.75;
 /** Milliseconds for which something has to be so until it is read out. */
 const SAID = 1_000;
 
-/** Whether some of the text may be lost where the session is left. */
-export const mayBeLost = (session) => session.isAhead || session.other !== null;
-
 const number = (count) => count.toLocaleString("en");
 
 /** How full a room is, where that is told. */
@@ -172,7 +169,7 @@ class StatusBinding {
 export function bindPage(session) {
   const bound = new AbortController();
   const { signal } = bound;
-  addEventListener("beforeunload", (event) => mayBeLost(session) && event.preventDefault(), { signal });
+  addEventListener("beforeunload", (event) => session.mayBeLost && event.preventDefault(), { signal });
   addEventListener("pagehide", ({ persisted }) => (persisted ? session.pause() : session.close()), { signal });
   addEventListener("pageshow", ({ persisted }) => persisted && session.resume(), { signal });
   document.addEventListener("visibilitychange", () => (session.isHidden = document.hidden), { signal });

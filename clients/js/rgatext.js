@@ -11,7 +11,7 @@ import { carried, played } from "./changes.js";
 import { Connection } from "./connection.js";
 import { differences } from "./differences.js";
 import { Document } from "./document.js";
-import { Ended, Full, Lost, Refused } from "./faults.js";
+import { Ended, Full, GivenUp, Lost, Refused } from "./faults.js";
 import { withUsual } from "./options.js";
 import { Session } from "./session.js";
 import { difference } from "./text.js";
@@ -22,7 +22,7 @@ import { difference } from "./text.js";
  * @typedef {import("./session.js").State} State
  */
 
-export { carried, difference, differences, Document, Ended, Full, Lost, played, Refused, Session };
+export { carried, difference, differences, Document, Ended, Full, GivenUp, Lost, played, Refused, Session };
 
 /**
  * Opens a session with a room of a server, as open("ws://127.0.0.1:7878", "notes"). Throws a TypeError where that is no address, where

@@ -4,8 +4,8 @@
 import { add } from "./changes.js";
 import { differences } from "./differences.js";
 import { Document, MOST } from "./document.js";
-import { Ended, Full, Lost, Refused } from "./faults.js";
-import { withUsual } from "./options.js";
+import { Ended, Full, GivenUp, Lost, Refused } from "./faults.js";
+import { inTime, withUsual } from "./options.js";
 import { Pace } from "./pace.js";
 import { wayTo } from "./rejoin.js";
 import { OutOfStep, Seat } from "./seat.js";
@@ -42,9 +42,12 @@ export class Session extends /** @type {{new (): Tells & EventTarget}} */ (Event
   #isPaused = false;
   #isClosing = false; // what is done here is sent, and nothing is taken any more
   #isClosed = false;
+  #isCutOff = false; // no answer is waited for any more
   #isShut = false; // the room takes nothing more for now
   #isRefused = false; // for good: nothing is tried any more
   #isJoined = false; // the room's text was shown at some time
+  #isHeld = false; // an editor has something that it hasn't told
+  #given = 0; // how often the user took the room's text
   #hasOther = false; // as it was told
   #awaited = []; // what callers wait for: whether it has come, and how they are told
 
@@ -118,6 +121,20 @@ export class Session extends /** @type {{new (): Tells & EventTarget}} */ (Event
   /** Whether the session has something that the room isn't known to have. */
   get isAhead() {
     return this.document.pending > 0;
+  }
+
+  /** Whether some of the text may be lost where the session is left: the room isn't known to have it, or has another one. */
+  get mayBeLost() {
+    return this.isAhead || this.#isHeld || this.#other !== null;
+  }
+
+  /**
+   * Whether an editor holds something back that its user types, as what is composed.
+   * @param {boolean} isHeld
+   */
+  set isHeld(isHeld) {
+    this.#isHeld = isHeld;
+    if (this.state === "up to date" || this.state === "sending") this.#tell(this.#standing);
   }
 
   /**
@@ -194,6 +211,7 @@ export class Session extends /** @type {{new (): Tells & EventTarget}} */ (Event
     if (this.#other === null) return;
     const changes = differences(this.text, this.#other.roomText);
     this.document = this.#other;
+    this.#given += 1;
     this.#tellChanges(changes);
     this.#goOn();
   }
@@ -221,21 +239,25 @@ export class Session extends /** @type {{new (): Tells & EventTarget}} */ (Event
   }
 
   /**
-   * Settles once the room has all that was done here until now. Rejects with `Refused`, where the room refuses before, and with `Ended`,
-   * where the session is closed.
+   * Settles once the room has all that was done here until now. Rejects with `GivenUp`, where the user takes the room's text before; with
+   * `Refused`, where the room refuses; and with `Ended`, where the session is closed.
    * @returns {Promise<void>}
    */
   sent() {
     const { document } = this;
     const before = document.order;
+    const given = this.#given;
     const isSent = () => !this.isAhead || (document === this.document && !document.isPending(before));
-    return this.#until(() => this.#other === null && isSent());
+    return this.#until(() => {
+      if (given !== this.#given) throw new GivenUp();
+      return this.#other === null && isSent();
+    });
   }
 
   /**
    * Ends the session: sends what is new, for some seconds, and leaves the room; where nothing is new at once. Where the line isn't there
    * it tries to leave, once. With `flush` it first tries for so many milliseconds to have all in the room, also where the line isn't
-   * there yet. Gives whether the room has all.
+   * there yet. Once the time is over nothing is waited for. Gives whether the room has all.
    * @param {{flush?: number}} [options]
    * @returns {Promise<boolean>}
    */
@@ -243,21 +265,26 @@ export class Session extends /** @type {{new (): Tells & EventTarget}} */ (Event
     this.#isClosing = true;
     if (flush > 0) this.#isPaused = false;
     const isNew = this.#isServed && this.#other === null && this.document.hasNew();
-    if (isNew || (flush > 0 && this.isAhead)) {
-      const timer = setTimeout(() => this.#close(), flush || this.#options.closing);
-      this.#wake();
-      await this.ended;
-      clearTimeout(timer);
-    } else {
-      this.#close();
-      await this.ended;
-    }
-    return !this.isAhead && this.#other === null;
+    if (isNew || (flush > 0 && this.isAhead)) this.#wake();
+    else this.#close();
+    let timer;
+    const late = new Promise((resolve) => (timer = setTimeout(resolve, inTime(flush || this.#options.closing))));
+    await Promise.race([this.ended, late.then(() => this.#cutOff())]);
+    clearTimeout(timer);
+    return !this.mayBeLost;
   }
 
   #close() {
     this.#isClosed = true;
     this.#end();
+  }
+
+  /** Ends, and waits for no answer. */
+  #cutOff() {
+    this.#isCutOff = true;
+    this.#close();
+    this.#seat.line?.close();
+    this.#tell("closed");
   }
 
   /** Leaves the room at once. */
@@ -273,11 +300,12 @@ export class Session extends /** @type {{new (): Tells & EventTarget}} */ (Event
 
   /** What the state is while all goes well. */
   get #standing() {
-    return this.isAhead ? "sending" : "up to date";
+    return this.isAhead || this.#isHeld ? "sending" : "up to date";
   }
 
   /** The user has chosen, or needn't. */
   #goOn() {
+    this.#isJoined = true;
     this.#other = null;
     this.#compared = null;
     this.#tell(this.#isServed ? "sending" : this.state, this.#isServed ? "" : this.why);
@@ -305,9 +333,13 @@ export class Session extends /** @type {{new (): Tells & EventTarget}} */ (Event
   #look() {
     const isOver = this.state === "refused" || this.state === "closed";
     for (const it of this.#awaited.splice(0)) {
-      if (it.hasCome()) it.resolve();
-      else if (isOver) it.reject(this.number === null ? new Ended(this.why) : new Refused(this.number));
-      else this.#awaited.push(it);
+      try {
+        if (it.hasCome()) it.resolve();
+        else if (isOver) it.reject(this.number === null ? new Ended(this.why) : new Refused(this.number));
+        else this.#awaited.push(it);
+      } catch (fault) {
+        it.reject(fault);
+      }
     }
   }
 
@@ -341,7 +373,7 @@ export class Session extends /** @type {{new (): Tells & EventTarget}} */ (Event
       if (!this.#isClosed && !this.#isRefused) await this.#sleep(wait);
     }
     if (!this.#isClosed) return;
-    await this.#leaveLate();
+    if (!this.#isCutOff) await this.#leaveLate();
     this.#tell("closed");
   }
 
@@ -422,7 +454,6 @@ export class Session extends /** @type {{new (): Tells & EventTarget}} */ (Event
     }
     const changes = go();
     this.document.site = null;
-    this.#isJoined = true;
     this.#tellChanges(changes);
     this.#goOn();
   }

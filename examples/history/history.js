@@ -2,6 +2,7 @@
 import { Connection } from "../../clients/js/connection.js";
 import { Lost, Refused } from "../../clients/js/faults.js";
 import { follow, History, historyOfFile } from "../../clients/js/history.js";
+import { askWhere } from "../page.js";
 
 /** Milliseconds between two steps of a play, and how many steps it has at most. */
 const STEP = 50;
@@ -72,7 +73,7 @@ function play() {
 async function openRoom(server, room) {
   let line = null;
   try {
-    line = await Connection.open(server, room, WebSocket);
+    line = await Connection.open(server, room);
     const next = new History();
     await follow(next, line);
     take(next, room);
@@ -92,7 +93,7 @@ async function openFile(file) {
   try {
     take(historyOfFile(await file.text()), file.name);
   } catch (fault) {
-    if (!(fault instanceof SyntaxError || fault instanceof RangeError || fault instanceof TypeError)) throw fault;
+    if (!(fault instanceof SyntaxError || fault instanceof RangeError)) throw fault;
     tell(`${file.name} is no kept file and no snapshot: ${fault.message}`, true);
   }
 }
@@ -119,10 +120,4 @@ addEventListener("drop", (event) => {
   event.preventDefault();
   if (event.dataTransfer.files.length > 0) openFile(event.dataTransfer.files[0]);
 });
-element("where").addEventListener("submit", (event) => {
-  event.preventDefault();
-  openRoom(element("server").value.trim(), element("room").value);
-});
-const asked = new URLSearchParams(location.search);
-for (const it of ["server", "room"]) element(it).value = asked.get(it) ?? element(it).value;
-if (asked.has("room")) openRoom(element("server").value, element("room").value);
+askWhere(openRoom);
