@@ -99,7 +99,7 @@ async function keepsWhatIsPending() {
   for (const way of [one, other]) await way.comesTo("up to date", "Jello! world");
   assert.equal(caret, 7, "a caret in what others lost stands where that stood");
   const { session } = one.editor;
-  undo.turn(false, session, (at, removed, text) => one.editor.change(at, removed, text));
+  undo.turn(false, session, (changes) => changes.forEach(({ at, removed, text }) => one.editor.change(at, removed, text)));
   await other.comesTo("up to date", "Jello world");
   assert.equal(session.text, "Jello world");
   await end(one, other);

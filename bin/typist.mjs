@@ -56,23 +56,34 @@ export class Typist {
     return fault instanceof this.module.Full || fault instanceof this.module.Ended;
   }
 
-  /** A change of the shown text, told with its neighbours; whether the session took it. */
-  change(at, removed, text, isNoted = true) {
-    const { shown } = this;
+  /** Makes changes of the shown text; whether the session took them. */
+  isTaken(make) {
     try {
-      this.session.replace(at, removed, text);
+      make();
     } catch (fault) {
       if (this.isRefusal(fault)) return false;
       throw fault;
     }
+    return true;
+  }
+
+  change(at, removed, text) {
+    const { shown } = this;
+    if (!this.isTaken(() => this.session.replace(at, removed, text))) return false;
+    this.undo.note({ at, removed, text }, shown.slice(at, at + removed));
+    this.show(at, removed, text, false);
+    return true;
+  }
+
+  /** Shows a change that was made, told with its neighbours. */
+  show(at, removed, text, undone) {
+    const { shown } = this;
     const taken = shown.slice(at, at + removed);
-    if (isNoted) this.undo.note({ at, removed, text }, taken);
     this.shown = this.module.played(shown, [{ at, removed, text }]);
     this.caret = at + text.length;
     const left = [...shown.slice(Math.max(0, at - 2), at)].at(-1) ?? "";
     const right = [...shown.slice(at + removed, at + removed + 2)][0] ?? "";
-    this.tell({ put: text, taken, left, right, undone: !isNoted });
-    return true;
+    this.tell({ put: text, taken, left, right, undone });
   }
 
   outside(at) {
@@ -107,11 +118,11 @@ export class Typist {
   }
 
   turn(isRedo) {
-    try {
-      this.undo.turn(isRedo, this.session, (at, removed, text) => this.change(at, removed, text, false));
-    } catch (fault) {
-      if (!(fault instanceof this.module.Full)) throw fault;
-    }
+    const make = (changes) => {
+      this.session.replaceAll(changes);
+      for (const { at, removed, text } of changes) this.show(at, removed, text, true);
+    };
+    this.isTaken(() => this.undo.turn(isRedo, this.session, make));
   }
 
   async type() {

@@ -11,28 +11,26 @@ class Typed {
     Object.assign(this, { text, left, undo: new Undo() });
   }
 
-  cost(at, removed, text) {
-    return removed + text.length;
+  /** Changes from the last place to the first: all of them, or none where there is no room. */
+  replaceAll(changes) {
+    const cost = changes.reduce((sum, { removed, text }) => sum + removed + text.length, 0);
+    if (cost > this.left) throw new Full(this.left);
+    this.left -= cost;
+    for (const { at, removed, text } of changes) this.text = this.text.slice(0, at) + text + this.text.slice(at + removed);
   }
-
-  replace = (at, removed, text) => {
-    if (this.cost(at, removed, text) > this.left) throw new Full(this.left);
-    this.left -= this.cost(at, removed, text);
-    this.text = this.text.slice(0, at) + text + this.text.slice(at + removed);
-  };
 
   own(at, removed, text, when = (this.#time += 5_000), isMore = false) {
     this.undo.note({ at, removed, text }, this.text.slice(at, at + removed), when, isMore);
-    this.replace(at, removed, text);
+    this.replaceAll([{ at, removed, text }]);
   }
 
   other(at, removed, text) {
     this.undo.follow([{ at, removed, text }]);
-    this.replace(at, removed, text);
+    this.replaceAll([{ at, removed, text }]);
   }
 
   turn(isRedo, wanted) {
-    this.undo.turn(isRedo, this, this.replace);
+    this.undo.turn(isRedo, this, (changes) => this.replaceAll(changes));
     if (wanted !== undefined) assert.equal(this.text, wanted);
   }
 }

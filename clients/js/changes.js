@@ -50,3 +50,20 @@ export function add(changes, change) {
     changes.push(change);
   }
 }
+
+/**
+ * Changes in lists of those that go from the last place to the first, as changes of one text: each list may be played in one pass. A move
+ * is alone.
+ * @param {Change[]} changes
+ */
+export function runs(changes) {
+  /** @type {Change[][]} */
+  const found = [];
+  for (const change of changes) {
+    const last = found.at(-1)?.at(-1);
+    const goesOn = last !== undefined && last.to === undefined && change.to === undefined && change.at + change.removed <= last.at;
+    if (goesOn) found.at(-1).push(change);
+    else found.push([change]);
+  }
+  return found;
+}

@@ -1,7 +1,6 @@
 /** CodeMirror 5 over a session: what is typed goes to the room, and what others type comes into the editor. */
+import { Binding } from "./binding.js";
 import { carried } from "./changes.js";
-import { Ended, Full } from "./faults.js";
-import { Undo } from "./undo.js";
 
 /** Milliseconds for which what others put in has the class `others`. */
 const SHOWN = 2_000;
@@ -9,21 +8,19 @@ const SHOWN = 2_000;
 /**
  * Keeps an editor in step with a session. Its own history drops what others touch on the same line, so the user's steps are kept beside it,
  * and others' changes are none of them.
+ * What the editor had before is `replaced` of the binding.
  * @param {import("./session.js").Session} session
  * @param {any} editor of CodeMirror 5
- * @param {import("./textarea.js").BindingOptions} [options]
+ * @param {import("./binding.js").BindingOptions} [options]
+ * @returns {Binding}
  */
 export function bindCodeMirror(session, editor, options) {
   return new CodeMirrorBinding(session, editor, options);
 }
 
-class CodeMirrorBinding {
-  #session;
+class CodeMirrorBinding extends Binding {
   #editor;
-  #onTrouble;
-  #undo = new Undo();
   #isPlaying = false; // changes that the session knows
-  #bound = new AbortController();
   #typedBefore = (_, change) => this.#isPlaying || this.#typed(change);
   #keys = {
     "Ctrl-Z": () => this.undo(),
@@ -33,52 +30,24 @@ class CodeMirrorBinding {
     "Ctrl-Y": () => this.redo(),
   };
 
-  constructor(session, editor, { onTrouble = () => {} } = {}) {
-    this.#session = session;
+  constructor(session, editor, options) {
+    super(session, editor.getValue(), options);
     this.#editor = editor;
-    this.#onTrouble = onTrouble;
-    const { signal } = this.#bound;
     editor.setOption("lineSeparator", "\n"); // a CR of the room is kept
     this.#play(() => editor.setValue(session.text));
     editor.on("beforeChange", this.#typedBefore);
     editor.addKeyMap(this.#keys);
-    session.addEventListener("changes", ({ detail }) => this.#follow(detail), { signal });
-    session.addEventListener("state", () => this.#setReadOnly(), { signal });
-    this.#setReadOnly();
+    this.begin({
+      setReadOnly: (isReadOnly) => editor.setOption("readOnly", isReadOnly),
+      follow: (changes) => this.#follow(changes),
+      turn: (isRedo) => this.#turn(isRedo),
+    });
   }
 
-  /** Undoes the user's last step. */
-  undo() {
-    this.#turn(false);
-  }
-
-  /** Does again what was undone last. */
-  redo() {
-    this.#turn(true);
-  }
-
-  /** Lets go of the editor and the session. */
   release() {
-    this.#bound.abort();
+    super.release();
     this.#editor.off("beforeChange", this.#typedBefore);
     this.#editor.removeKeyMap(this.#keys);
-  }
-
-  #setReadOnly() {
-    this.#editor.setOption("readOnly", this.#session.state === "refused" || this.#session.state === "closed");
-  }
-
-  /** Makes a change, or says why it can't be made. Gives whether it was made. */
-  #change(make) {
-    try {
-      make();
-    } catch (fault) {
-      if (!(fault instanceof Full || fault instanceof Ended)) throw fault;
-      this.#onTrouble(fault instanceof Full ? `${fault.message}: that didn't fit` : fault.message);
-      return false;
-    }
-    this.#onTrouble("");
-    return true;
   }
 
   /** Plays changes that the session knows. */
@@ -100,9 +69,9 @@ class CodeMirrorBinding {
     const at = this.#editor.indexFromPos(change.from);
     const taken = this.#editor.getRange(change.from, change.to);
     const text = change.text.join("\n");
-    const isMade = this.#change(() => {
-      const made = this.#session.replace(at, taken.length, text);
-      this.#undo.note(made, taken);
+    const isMade = this.change(() => {
+      const made = this.session.replace(at, taken.length, text);
+      this.steps.note(made, taken);
       if (made.text !== text) change.update(change.from, change.to, made.text.split("\n")); // half a pair is none of the room's
     });
     if (!isMade) change.cancel();
@@ -111,7 +80,7 @@ class CodeMirrorBinding {
   /** Shows what others changed. The line of the caret stays where it is seen. */
   #follow(changes) {
     const editor = this.#editor;
-    this.#undo.follow(changes);
+    this.steps.follow(changes);
     const follow = (it) => carried(editor.indexFromPos(it), changes);
     const selected = editor.listSelections().map(({ anchor, head }) => [follow(anchor), follow(head)]);
     const { top } = editor.getScrollInfo();
@@ -138,11 +107,13 @@ class CodeMirrorBinding {
 
   #turn(isRedo) {
     if (this.#editor.getOption("readOnly")) return;
-    const replace = (at, removed, text) => {
-      this.#session.replace(at, removed, text);
-      this.#put(at, removed, text);
-      this.#editor.setCursor(this.#editor.posFromIndex(at + text.length));
+    const make = (changes) => {
+      this.session.replaceAll(changes);
+      for (const { at, removed, text } of changes) {
+        this.#put(at, removed, text);
+        this.#editor.setCursor(this.#editor.posFromIndex(at + text.length));
+      }
     };
-    this.#change(() => this.#play(() => this.#undo.turn(isRedo, this.#session, replace)));
+    this.change(() => this.#play(() => this.steps.turn(isRedo, this.session, make)));
   }
 }

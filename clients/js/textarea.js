@@ -1,16 +1,7 @@
 /** A text area over a session: what is typed goes to the room, and what others type comes into the area. */
+import { Binding } from "./binding.js";
 import { carried } from "./changes.js";
-import { Ended, Full } from "./faults.js";
 import { difference } from "./text.js";
-import { mustFit, Undo } from "./undo.js";
-
-/**
- * @typedef {import("./changes.js").Change} Change
- * @typedef {import("./session.js").Session} Session
- *
- * `onTrouble` gets a sentence where a change can't be made or is held back, and an empty text once that is over.
- * @typedef {{onTrouble?: (trouble: string) => void}} BindingOptions
- */
 
 /** Milliseconds until it is told that what an input method composes is held back. */
 const HELD = 3_000;
@@ -45,66 +36,51 @@ function changesOf({ at, removed, text }, came) {
 }
 
 /**
- * Keeps a text area in step with a session, with an undoing of the user's own changes alone.
- * @param {Session} session
+ * Keeps a text area in step with a session, with an undoing of the user's own changes alone. What the area had before is `replaced` of the
+ * binding.
+ * @param {import("./session.js").Session} session
  * @param {HTMLTextAreaElement} area
- * @param {BindingOptions} [options]
+ * @param {import("./binding.js").BindingOptions} [options]
+ * @returns {Binding}
  */
 export function bindTextarea(session, area, options) {
   return new TextareaBinding(session, area, options);
 }
 
-class TextareaBinding {
-  #session;
+class TextareaBinding extends Binding {
   #area;
-  #onTrouble;
-  #undo = new Undo();
   #shown = ""; // the text of the area, as it was set or taken over last
   #isComposing = false;
   #waiting = []; // changes that came while something was composed
   #held; // the timer until that is told
   #measure = document.createElement("div");
-  #bound = new AbortController();
 
-  constructor(session, area, { onTrouble = () => {} } = {}) {
-    this.#session = session;
+  constructor(session, area, options) {
+    super(session, area.value, options);
     this.#area = area;
-    this.#onTrouble = onTrouble;
-    const { signal } = this.#bound;
-    session.addEventListener("changes", ({ detail }) => this.#follow(detail), { signal });
-    session.addEventListener("state", () => this.#setReadOnly(), { signal });
+    const { signal } = this;
     area.addEventListener("input", () => this.#typed(), { signal });
     area.addEventListener("compositionstart", () => this.#composes(), { signal });
     area.addEventListener("compositionend", () => this.#composed(), { signal });
     area.addEventListener("beforeinput", (event) => this.#asked(event), { signal });
     area.addEventListener("keydown", (event) => this.#pressed(event), { signal });
     this.#show(0, 0, "none");
-    this.#setReadOnly();
+    this.begin({
+      setReadOnly: (isReadOnly) => (area.readOnly = isReadOnly),
+      follow: (changes) => this.#follow(changes),
+      turn: (isRedo) => this.#turn(isRedo),
+    });
   }
 
-  /** Undoes the user's last step. */
-  undo() {
-    this.#turn(false);
-  }
-
-  /** Does again what was undone last. */
-  redo() {
-    this.#turn(true);
-  }
-
-  /** Lets go of the area and the session. */
   release() {
-    this.#bound.abort();
-    clearTimeout(this.#held);
-  }
-
-  #setReadOnly() {
-    this.#area.readOnly = this.#session.state === "refused" || this.#session.state === "closed";
+    super.release();
+    this.#isComposing = false;
+    this.#letGo();
   }
 
   /** Shows the text, with a selection. */
   #show(start, end, direction) {
-    this.#shown = signs(this.#session.text);
+    this.#shown = signs(this.session.text);
     this.#area.value = this.#shown;
     this.#area.setSelectionRange(start, end, direction);
   }
@@ -114,7 +90,7 @@ class TextareaBinding {
     this.#waiting.push(...changes);
     if (this.#isComposing) return;
     const told = this.#waiting.splice(0);
-    this.#undo.follow(told);
+    this.steps.follow(told);
     const { selectionStart, selectionEnd, selectionDirection, scrollTop } = this.#area;
     const before = this.#heightToCaret();
     this.#show(carried(selectionStart, told), carried(selectionEnd, told), selectionDirection);
@@ -138,13 +114,20 @@ class TextareaBinding {
 
   #composes() {
     this.#isComposing = true;
-    this.#held = setTimeout(() => this.#onTrouble("what is being composed is sent when it is done"), HELD);
+    this.session.isHeld = true;
+    this.#held = setTimeout(() => this.onTrouble("what is being composed is sent when it is done"), HELD);
   }
 
   #composed() {
     this.#isComposing = false;
-    clearTimeout(this.#held);
     this.#typed();
+    this.#letGo();
+  }
+
+  /** Nothing is held back any more. */
+  #letGo() {
+    this.session.isHeld = false;
+    clearTimeout(this.#held);
   }
 
   /** Tells the session what the user changed since the area was shown: what stands behind the caret stayed. */
@@ -153,47 +136,38 @@ class TextareaBinding {
     const { value, selectionEnd } = this.#area;
     const { at, removed, text } = difference(this.#shown, value.toWellFormed(), value.length - selectionEnd);
     const came = this.#waiting.splice(0);
-    this.#undo.follow(came);
+    this.steps.follow(came);
     const place = carried(at, came) + text.length;
     this.#change(() => {
       this.#make(changesOf({ at, removed, text }, came));
       if (came.length > 0) this.#show(place, place, "none");
-      else this.#shown = signs(this.#session.text);
+      else this.#shown = signs(this.session.text);
     });
   }
 
   /** Makes changes from the last place to the first: all of them or none. */
   #make(changes) {
-    mustFit(this.#session, changes);
-    for (const { at, removed, text } of changes) {
-      const taken = this.#session.text.slice(at, at + removed);
-      this.#undo.note(this.#session.replace(at, removed, text), taken);
-    }
+    const { text } = this.session;
+    this.session.replaceAll(changes);
+    this.steps.noteAll(changes.map((it) => ({ ...it, taken: text.slice(it.at, it.at + it.removed) })));
   }
 
-  /** Makes a change, or says why it can't be made and shows the text without it. */
+  /** Makes a change, or shows the text without it. */
   #change(make) {
-    try {
-      make();
-    } catch (fault) {
-      if (!(fault instanceof Full || fault instanceof Ended)) throw fault;
-      const place = Math.min(this.#area.selectionStart, this.#session.text.length);
-      this.#show(place, place, "none");
-      this.#onTrouble(fault instanceof Full ? `${fault.message}: that didn't fit` : fault.message);
-      return;
-    }
-    this.#onTrouble("");
+    if (this.change(make)) return;
+    const place = Math.min(this.#area.selectionStart, this.session.text.length);
+    this.#show(place, place, "none");
   }
 
   #turn(isRedo) {
     if (this.#isComposing || this.#area.readOnly) return;
     let place = this.#area.selectionStart;
-    const replace = (at, removed, text) => {
-      this.#session.replace(at, removed, text);
-      place = at + text.length;
+    const make = (changes) => {
+      this.session.replaceAll(changes);
+      place = changes.at(-1).at + changes.at(-1).text.length;
     };
     this.#change(() => {
-      this.#undo.turn(isRedo, this.#session, replace);
+      this.steps.turn(isRedo, this.session, make);
       this.#show(place, place, "none");
     });
   }

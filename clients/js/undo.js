@@ -4,14 +4,10 @@
  *
  * The text is a list of pieces. What was taken out and may come back stands hidden among them, so it comes back where it stood.
  */
-import { carried } from "./changes.js";
-import { Full } from "./faults.js";
+import { along } from "./along.js";
+import { carried, runs } from "./changes.js";
 
-/**
- * What is asked of a session.
- * @typedef {import("./changes.js").Change} Change
- * @typedef {Pick<import("./rgatext.js").Session, "text" | "left" | "cost">} Shown
- */
+/** @typedef {import("./changes.js").Change} Change */
 
 /** Milliseconds within which typing or deleting goes on as one step. */
 const PAUSE = 1_000;
@@ -45,11 +41,9 @@ class Piece {
     return this.text !== null;
   }
 
-  /** Takes what stands behind the place off a piece that is shown, and gives it as a piece of its own. */
-  cut(place) {
-    const rest = new Piece(this.length - place, this.putBy, this.takenBy);
-    this.length = place;
-    return rest;
+  /** What is between two places of a piece that is shown, as a piece of its own. */
+  part(start, end) {
+    return new Piece(end - start, this.putBy, this.takenBy);
   }
 
   /** Whether both are of one kind, so that they may be one piece. */
@@ -64,15 +58,18 @@ class Piece {
   }
 }
 
-/**
- * Throws `Full` where changes of one text, of which none touches another, are more than the room takes: none of them is to be made then.
- * @param {Shown} session
- * @param {Change[]} changes
- */
-export function mustFit(session, changes) {
-  const cost = changes.reduce((sum, { at, removed, text }) => sum + session.cost(at, removed, text), 0);
-  if (cost > session.left) throw new Full(session.left);
+/** Pieces, of which neighbours of one kind are one. */
+function joined(pieces) {
+  const list = [];
+  for (const piece of pieces) {
+    if (list.at(-1)?.isLike(piece)) list.at(-1).join(piece);
+    else list.push(piece);
+  }
+  return list;
 }
+
+/** How many units of the text a piece is. */
+const shownUnits = (piece) => (piece.isHidden ? 0 : piece.length);
 
 export class Undo {
   #pieces = [new Piece(Infinity)]; // the text of before, however long it is
@@ -88,20 +85,32 @@ export class Undo {
    * @param {string} taken
    */
   note(change, taken, when = Date.now(), isMore = false) {
-    const { at, removed, text } = change;
-    if (removed === 0 && text === "") return;
+    this.noteAll([{ ...change, taken }], when, isMore);
+  }
+
+  /**
+   * Changes that the user made as one step, from the last place to the first, each with the text that it took out.
+   * @param {(Change & {taken: string})[]} changes
+   */
+  noteAll(changes, when = Date.now(), isMore = false) {
+    const made = changes.filter(({ removed, text }) => removed > 0 || text !== "");
+    if (made.length === 0) return;
     this.#forgetUndone();
-    const goesOn = this.#mayGoOn && (isMore || this.#done.at(-1).isGoneOnBy(change, when));
-    if (!goesOn) this.#done.push(new Step(text !== ""));
+    const goesOn = this.#mayGoOn && (isMore || this.#done.at(-1).isGoneOnBy(made[0], when));
+    if (!goesOn) this.#done.push(new Step(made[0].text !== ""));
     const step = this.#done.at(-1);
-    let rest = taken;
-    for (const piece of this.#within(at, removed).filter((it) => !it.isHidden)) {
-      piece.takenBy = step;
-      piece.text = rest.slice(0, piece.length);
+    let rest = "";
+    const puts = ({ text, taken }) => {
+      rest = taken;
+      return text === "" ? [] : [new Piece(text.length, step)];
+    };
+    this.#rewrite(made, puts, (piece) => {
+      if (piece.isHidden) return [piece];
+      const text = rest.slice(0, piece.length);
       rest = rest.slice(piece.length);
-    }
-    this.#pieces = this.#pieces.filter((it) => !(it.putBy === step && it.takenBy === step)); // the step put it in itself
-    if (text !== "") this.#insert(at, [new Piece(text.length, step)]);
+      return piece.putBy === step ? [] : [new Piece(piece.length, piece.putBy, step, text)]; // what the step put in itself is gone
+    });
+    const { at, text } = made.at(-1);
     step.end = at + text.length;
     step.when = when;
     this.#mayGoOn = true;
@@ -112,37 +121,38 @@ export class Undo {
    * @param {Change[]} changes
    */
   follow(changes) {
-    for (const { at, removed, text, to } of changes) {
-      const out = new Set(this.#within(at, removed).filter((it) => to !== undefined || !it.isHidden));
-      this.#pieces = this.#pieces.filter((piece) => !out.has(piece));
-      if (to !== undefined) this.#insert(to, [...out]);
-      else if (text !== "") this.#insert(at, [new Piece(text.length)]);
+    for (const run of runs(changes)) {
+      const moved = [];
+      const { to } = run[0];
+      const puts = ({ text }) => (text === "" || to !== undefined ? [] : [new Piece(text.length)]);
+      this.#rewrite(run, puts, (piece) => {
+        if (to !== undefined) moved.push(piece);
+        return piece.isHidden && to === undefined ? [piece] : [];
+      });
+      if (to !== undefined) this.#rewrite([{ at: to, removed: 0, text: "" }], () => moved, (piece) => [piece]);
     }
     if (this.#mayGoOn) this.#done.at(-1).end = carried(this.#done.at(-1).end, changes);
   }
 
   /**
-   * Undoes the user's last step, or does again what was undone last, by `replace`, a call as that of the session. Throws `Full` where the
-   * room doesn't take all of it; then nothing is done.
+   * Undoes the user's last step, or does again what was undone last: `make` is handed its changes, from the last place to the first, as
+   * `replaceAll` of the session takes them. Where it throws nothing is done.
    * @param {boolean} isRedo
-   * @param {Shown} session
-   * @param {(at: number, removed: number, text: string) => unknown} replace
+   * @param {{text: string}} session
+   * @param {(changes: Change[]) => unknown} make
    */
-  turn(isRedo, session, replace) {
+  turn(isRedo, session, make) {
     const [from, to] = isRedo ? [this.#undone, this.#done] : [this.#done, this.#undone];
     const step = from.at(-1);
     if (step === undefined) return;
     const turned = this.#turned(step, isRedo);
-    mustFit(session, turned.map(({ change }) => change));
     const before = session.text;
-    for (const { piece, change: { at, removed, text } } of turned) {
-      replace(at, removed, text);
-      piece.text = piece.isHidden ? null : before.slice(at, at + removed);
-    }
-    this.#join();
+    if (turned.length > 0) make(turned.map(({ change }) => change));
+    for (const { piece, change } of turned) piece.text = piece.isHidden ? null : before.slice(change.at, change.at + change.removed);
+    this.#pieces = joined(this.#pieces);
     to.push(from.pop());
     this.#mayGoOn = false;
-    if (turned.length === 0) this.turn(isRedo, session, replace); // others have left nothing of it
+    if (turned.length === 0) this.turn(isRedo, session, make); // others have left nothing of it
   }
 
   /** The pieces that a step turns, each with its change, from the last one to the first: so each place is one of the text of now. */
@@ -152,10 +162,10 @@ export class Undo {
     for (const piece of this.#pieces) {
       const owner = piece.isHidden === isRedo ? piece.putBy : piece.takenBy;
       const change = piece.isHidden ? { at, removed: 0, text: piece.text } : { at, removed: piece.length, text: "" };
-      if (owner === step) turned.unshift({ piece, change });
-      if (!piece.isHidden) at += piece.length;
+      if (owner === step) turned.push({ piece, change });
+      at += shownUnits(piece);
     }
-    return turned;
+    return turned.reverse();
   }
 
   /** What was undone isn't done again any more. */
@@ -165,39 +175,23 @@ export class Undo {
     for (const piece of this.#pieces) if (gone.has(piece.takenBy)) piece.takenBy = null;
   }
 
-  /** The pieces that are so many units of the text from a place on, and what is hidden among them. */
-  #within(at, removed) {
-    const start = this.#behind(at);
-    return this.#pieces.slice(start, this.#behind(removed, start));
-  }
-
-  /** Puts pieces in at a place, behind what is hidden there. */
-  #insert(at, pieces) {
-    let index = this.#behind(at);
-    while (this.#pieces[index].isHidden) index += 1;
-    this.#pieces.splice(index, 0, ...pieces);
-    this.#join();
-  }
-
-  /** The number of the piece right behind so many units of the text from a piece on; a piece that this is inside of is cut there. */
-  #behind(units, start = 0) {
-    let index = start;
-    for (let rest = units; rest > 0; index += 1) {
-      const piece = this.#pieces[index];
-      if (piece.isHidden) continue;
-      if (piece.length > rest) this.#pieces.splice(index + 1, 0, piece.cut(rest));
-      rest -= piece.length;
+  /**
+   * Makes changes of the text: `puts` gives the pieces that one puts in, behind what is hidden at its place, and `takes` what becomes of one
+   * that is within what it removes.
+   */
+  #rewrite(changes, puts, takes) {
+    const pieces = [];
+    const waiting = [];
+    for (const [change, piece] of along(changes, this.#pieces, shownUnits)) {
+      if (piece === null) {
+        waiting.push(...puts(change));
+      } else if (change !== null) {
+        pieces.push(...takes(piece));
+      } else {
+        if (!piece.isHidden) pieces.push(...waiting.splice(0));
+        pieces.push(piece);
+      }
     }
-    return index;
-  }
-
-  /** Joins neighbours of one kind. */
-  #join() {
-    const joined = [];
-    for (const piece of this.#pieces) {
-      if (joined.at(-1)?.isLike(piece)) joined.at(-1).join(piece);
-      else joined.push(piece);
-    }
-    this.#pieces = joined;
+    this.#pieces = joined(pieces);
   }
 }
