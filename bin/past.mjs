@@ -95,7 +95,8 @@ for (let seed = 1; seed <= LOGS; seed += 1) {
   const opened = historyOfFile(JSON.stringify({ format: 2, ops: room.log }));
   for (const it of [kept, opened]) assert.equal(it.text(it.version), room.text);
 }
-for (const text of ["no log\n", '{"ops":1}\n', '{"from":1,"ops":[]}\n', "[]\n"]) assert.throws(() => historyOfFile(text), SyntaxError);
+const wrong = ["no log\n", '{"ops":1}\n', '{"from":1,"ops":[]}\n', "[]\n", "null", '{"ops":[null]}', '{"ops":[{"k":"i","s":0,"x":"a"}]}'];
+for (const text of wrong) assert.throws(() => historyOfFile(text), SyntaxError);
 for (const version of [-1, 1, 0.5, "x"]) assert.throws(() => new History().text(version), RangeError);
 assert.throws(() => new History().add([{ c: [[0, 1]], k: "d", s: 0, t: [1, 0] }]), RangeError);
 console.log(`bin/try_merging: ${versions} versions of ${LOGS} logs are those of the program, and each edit leads to the next`);

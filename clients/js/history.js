@@ -4,6 +4,7 @@
  */
 import { MOST } from "./document.js";
 import { Refused } from "./faults.js";
+import { isOperation } from "./operation.js";
 
 /**
  * @typedef {import("./changes.js").Change} Change
@@ -157,9 +158,10 @@ export function historyOfFile(text) {
   const lines = text.split("\n");
   if (lines.length > 1) lines.pop();
   for (const line of lines) {
-    const { ops, from = 0, sha256 } = JSON.parse(line);
+    const { ops, from = 0, sha256 } = Object(JSON.parse(line));
     if (sha256 !== undefined) continue;
-    if (!Array.isArray(ops) || from !== history.version) throw new SyntaxError("that is no kept file and no snapshot");
+    const isLog = Array.isArray(ops) && ops.every(isOperation) && from === history.version;
+    if (!isLog) throw new SyntaxError("that is no kept file and no snapshot");
     history.add(ops);
   }
   return history;

@@ -8,6 +8,7 @@
 import { MOST } from "./document.js";
 import { Lost } from "./faults.js";
 import { History } from "./history.js";
+import { isCount, isOperation, isText } from "./operation.js";
 import { OPERATIONS } from "./options.js";
 import { pause } from "./seat.js";
 
@@ -29,12 +30,6 @@ class No {
 const must = (isSo, n) => {
   if (!isSo) throw new No(n);
 };
-
-const isCount = (it) => Number.isInteger(it) && it >= 0 && it <= 0xffffffff;
-const isText = (it) => typeof it === "string" && it.isWellFormed();
-const isPair = (it) => Array.isArray(it) && it.length === 2 && it.every(isCount);
-const isPut = ({ k, p, x }) => (k === "i" || k === "r") && (p === null || isPair(p)) && isText(x);
-const isOperation = (it) => isCount(it?.s) && Array.isArray(it.c) && it.c.every(isPair) && (it.k === "d" ? isPair(it.t) : isPut(it));
 
 /** Of each kind of a request its keys, and what each has to be. */
 const KINDS = {

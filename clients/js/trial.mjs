@@ -4,7 +4,7 @@ import { execFile } from "node:child_process";
 import { access, readFile } from "node:fs/promises";
 import { promisify } from "node:util";
 import { MemoryRoom } from "./memory_room.js";
-import { Ended, Full, Lost, open, played, Refused, Session } from "./rgatext.js";
+import { Ended, Full, GivenUp, Lost, open, played, Refused, Session } from "./rgatext.js";
 
 const pause = (milliseconds) => new Promise((resolve) => setTimeout(resolve, milliseconds));
 
@@ -117,6 +117,26 @@ async function isFlushed() {
   assert.equal(room.sessions, 0);
 }
 
+/** Where the server is silent a session ends when its time is over: joined or not, with something to send or without. */
+async function endsInTime() {
+  const room = new MemoryRoom();
+  let isSilent = false;
+  const connect = async () => {
+    const line = await room.connect();
+    const { ask } = line;
+    return Object.assign(line, { ask: (request) => (isSilent ? new Promise(() => {}) : ask(request)) });
+  };
+  const sessions = [1, 2, 3].map(() => new Session(connect, { closing: 300 }));
+  await Promise.all(sessions.map((it) => it.ready));
+  isSilent = true;
+  const late = new Session(connect);
+  for (const it of [sessions[0], sessions[2], late]) it.insert(0, "unsent");
+  const limits = [300, undefined, undefined, 300];
+  const ends = [...sessions, late].map((it, n) => timed(async () => assert.equal(await it.close({ flush: limits[n] }), n === 1)));
+  for (const took of await Promise.all(ends)) assert.ok(took < 1_000, `${took} ms`);
+  assert.deepEqual([...sessions, late].map((it) => it.state), Array(4).fill("closed"));
+}
+
 /** A program ends once its session is closed. */
 async function ends() {
   const program = `
@@ -140,6 +160,18 @@ async function isAsThePageTells() {
   assert.equal(stdout, "Hello true\n");
 }
 
+/** What README.md names. */
+const NAMES = {
+  "rgatext.js": "open Session Full Ended GivenUp Refused Lost played carried",
+  "textarea.js": "bindTextarea",
+  "codemirror.js": "bindCodeMirror",
+  "page.js": "bindStatus bindPage",
+  "undo.js": "Undo",
+  "connection.js": "Connection",
+  "history.js": "History follow historyOfFile",
+  "memory_room.js": "MemoryRoom",
+};
+
 /** What the package exports is there by its name, with its declarations; importing it needs no page, and opens nothing. */
 async function isAPackage() {
   const { exports } = JSON.parse(await readFile(new URL("package.json", import.meta.url), "utf8"));
@@ -147,6 +179,12 @@ async function isAPackage() {
     await import(name.replace(".", "rgatext"));
     await access(new URL(types, import.meta.url));
   }
+  const page = await readFile(new URL("README.md", import.meta.url), "utf8");
+  for (const [file, names] of Object.entries(NAMES)) {
+    const module = await import(file === "rgatext.js" ? "rgatext" : `rgatext/${file}`);
+    for (const it of names.split(" ")) assert.ok(module[it] !== undefined && page.includes(it), `${it} of ${file}`);
+  }
+  for (const [, file] of page.matchAll(/`(\w+\.js)`/g)) assert.ok(Object.hasOwn(NAMES, file), `${file} is named, and not exported`);
 }
 
 /** Changes that others made are told, in turn, and own ones aren't. */
@@ -172,6 +210,12 @@ async function takesOptions() {
   const room = new MemoryRoom({ operations: 6 });
   assert.throws(() => new Session(() => room.connect(), { speed: 1 }), /no option speed/);
   assert.throws(() => open("ws://nowhere", "notes", { answer: "1", Socket: EventTarget }), /answer/);
+  const patient = new Session(() => room.connect({ delay: 50 }), { silence: 2 ** 31, answer: Infinity, typing: 1 });
+  const states = [];
+  patient.addEventListener("state", () => states.push(patient.state));
+  await until(() => patient.state === "up to date");
+  assert.ok(!states.includes("no answer"), "a time that no timer takes is the longest that one does");
+  await patient.close();
   const session = new Session(() => room.connect({ delay: 150 }), { operations: 6, silence: 100, idle: 5_000 });
   await until(() => session.state === "no answer");
   await session.ready;
@@ -203,7 +247,11 @@ async function hasAnother() {
   one.putMine();
   await sent;
   assert.equal(room.text, "hello!");
+  other.insert(5, "?");
+  const given = [other.sent(), other.sent()];
   other.takeTheirs();
+  for (const it of given) await assert.rejects(it, GivenUp);
+  await other.sent();
   await until(() => other.text === "hello!" && other.state === "up to date");
   await Promise.all([one.close(), other.close()]);
 }
@@ -225,6 +273,6 @@ async function losesNothing() {
   await Promise.all(sessions.map((it) => it.close()));
 }
 
-const trials = [isReady, isSent, isFlushed, ends, isAsThePageTells, isAPackage, tellsChanges, takesOptions, hasAnother, losesNothing];
-await Promise.all(trials.map((it) => it()));
+const trials = [isReady, isSent, isFlushed, endsInTime, ends, isAsThePageTells, isAPackage, tellsChanges, takesOptions, hasAnother];
+await Promise.all([...trials, losesNothing].map((it) => it()));
 console.log("the module: what is ready, sent, closed, told and asked is as the page says");

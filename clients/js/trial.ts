@@ -1,6 +1,7 @@
 // What bin/try_types has checked by the module's declarations: a program as README.md tells how to write one.
-import { Change, Ended, Full, open, Refused, Session } from "./rgatext.js";
+import { Change, Ended, Full, GivenUp, open, Refused, Session } from "./rgatext.js";
 import { bindCodeMirror } from "./codemirror.js";
+import { Connection } from "./connection.js";
 import { follow, History } from "./history.js";
 import { MemoryRoom } from "./memory_room.js";
 import { bindPage, bindStatus } from "./page.js";
@@ -20,12 +21,17 @@ try {
 } catch (fault) {
   if (fault instanceof Full) console.log(fault.left);
 }
-await session.sent();
+session.replaceAll([{ at: 3, removed: 1, text: "" }, { at: 0, removed: 0, text: "more" }]);
+await session.sent().catch((fault: GivenUp) => fault.message);
 const isSent: boolean = await session.close({ flush: 5_000 });
 
 const area = document.querySelector("textarea")!;
 const status = bindStatus(session, document.body, { name: "notes" });
-bindTextarea(session, area, { onTrouble: (trouble) => status.trouble(trouble) }).undo();
+const binding = bindTextarea(session, area, { onTrouble: (trouble) => status.trouble(trouble) });
+binding.undo();
+const replaced: string = binding.replaced;
+const mayBeLost: boolean = session.mayBeLost;
+session.isHeld = true;
 bindCodeMirror(session, null).release();
 bindPage(session).release();
 
@@ -33,7 +39,8 @@ const room = new MemoryRoom({ site: 1, operations: 100 });
 const meets = ({ t }: { t: string }) => (t === "ins" ? "answer" : "") as "answer" | "";
 const history = new History();
 await follow(history, await room.connect({ delay: 20, meets }));
-console.log(number, theirs, lost, isSent, history.text(history.version), history.change(1).at, room.restart(1).text);
+await follow(history, await Connection.open("ws://127.0.0.1:7878", "notes"));
+console.log(number, theirs, lost, isSent, replaced, mayBeLost, history.text(history.version), history.change(1).at, room.restart(1).text);
 
 // @ts-expect-error: a text is no place
 session.insert("0", "x");

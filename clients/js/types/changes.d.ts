@@ -21,6 +21,12 @@ export function carried(place: number, changes: Change[]): number;
 /** Adds a change, or lengthens the last one where it goes on there. */
 export function add(changes: any, change: any): void;
 /**
+ * Changes in lists of those that go from the last place to the first, as changes of one text: each list may be played in one pass. A move
+ * is alone.
+ * @param {Change[]} changes
+ */
+export function runs(changes: Change[]): Change[][];
+/**
  * Changes of a text. All places count UTF-16 units, as JavaScript does.
  *
  * A change removes so many units at a place, and puts a text in there. Where it is a move, that is the text that it removes, and it is

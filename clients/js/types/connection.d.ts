@@ -1,10 +1,19 @@
 /** A line over a WebSocket. */
 export class Connection {
     /**
-     * Connects, and opens the room. `Socket` is a class like WebSocket.
+     * Connects, and opens the room. `Socket` is a class like WebSocket. Rejects with `Lost`, or `Refused` where there is no such room.
+     * @param {string} address
+     * @param {string} room
      * @returns {Promise<Line>}
      */
-    static open(address: any, room: any, Socket: any, options?: Required<import("./options.js").Options>): Promise<Line>;
+    static open(address: string, room: string, Socket?: {
+        new (url: string | URL, protocols?: string | string[] | undefined): WebSocket;
+        prototype: WebSocket;
+        readonly CLOSED: number;
+        readonly CLOSING: number;
+        readonly CONNECTING: number;
+        readonly OPEN: number;
+    }, options?: Required<import("./options.js").Options>): Promise<Line>;
     constructor(socket: any, options: any);
     socket: any;
     options: any;

@@ -32,18 +32,24 @@ export class Document {
     get unsent(): Unsent[];
     /** How many changes of the room's text are new or under way: characters to put in, and such to delete. */
     get pending(): number;
-    /** How many more changes are pending where the shown text is changed so; fewer than none where what is new is taken out. */
-    cost(at: any, removed: any, text: any): number;
+    /**
+     * How many more changes are pending where the shown text is changed so, from the last place to the first; fewer than none where what is
+     * new is taken out.
+     * @param {Change[]} changes
+     */
+    cost(changes: Change[]): number;
     /** Whether a submission is under way, accepted or not, whose edits weren't played yet. */
     get isWaiting(): boolean;
     /** From and to which version what is under way leads, once it is accepted. */
     get accepted(): any[] | null;
     /**
-     * What the user does: removes so many units at a place of the shown text, and puts a text in there. Neither end is inside of a pair.
-     * A unit of a pair that stands alone in the text, which no room takes, becomes U+FFFD. Gives the change that was made.
-     * @returns {Change}
+     * What the user does: each change removes so many units at a place of the shown text, and puts a text in there. They are changes of one
+     * text, from the last place to the first. No end is inside of a pair. A unit of a pair that stands alone in a text, which no room takes,
+     * becomes U+FFFD. Gives the changes that were made.
+     * @param {Change[]} changes
+     * @returns {Change[]}
      */
-    replace(at: any, removed: any, text: any): Change;
+    replace(changes: Change[]): Change[];
     /** The order of what is made next: all that is pending now has that of before. */
     get order(): number;
     /**

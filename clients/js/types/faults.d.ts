@@ -15,3 +15,7 @@ export class Full extends RangeError {
 export class Ended extends Error {
     constructor(why: any);
 }
+/** What was done here won't be in the room: its user took the room's text in place of what was shown. */
+export class GivenUp extends Error {
+    constructor();
+}

@@ -3,60 +3,7 @@
  * above 0.
  * @param {Options} options
  */
-export function withUsual(options: Options): {
-    /**
-     * until an answer is missed and the line counts as lost
-     */
-    answer: number;
-    /**
-     * the same of an answer to `join`: it has the whole text, and where it isn't seen a session is left unused
-     */
-    joined: number;
-    /**
-     * until the state says that no answer comes
-     */
-    silence: number;
-    /**
-     * until a line is tried again, at first; each time twice as long
-     */
-    retry: number;
-    /**
-     * until a line is tried again, at most
-     */
-    longest: number;
-    /**
-     * until a room is asked again that took nothing more
-     */
-    shut: number;
-    /**
-     * until a session that is closed leaves the room, where something is new
-     */
-    closing: number;
-    /**
-     * between two rounds of a typist
-     */
-    typing: number;
-    /**
-     * between two pulls that bring nothing
-     */
-    idle: number;
-    /**
-     * without news until that becomes longer
-     */
-    quiet: number;
-    /**
-     * between two pulls that bring nothing, at most
-     */
-    slowest: number;
-    /**
-     * between two pulls where nobody looks
-     */
-    hidden: number;
-    /**
-     * how many changes the room takes in all
-     */
-    operations: number;
-};
+export function withUsual(options: Options): Required<Options>;
 /** What may be set of a session: times in milliseconds, and a limit. */
 /** The most operations of a room. */
 export const OPERATIONS: 131072;
@@ -78,6 +25,7 @@ export const OPERATIONS: 131072;
  */
 /** @type {Required<Options>} */
 export const USUAL: Required<Options>;
+export function inTime(milliseconds: any): number;
 export type Options = {
     /**
      * until an answer is missed and the line counts as lost

@@ -15,7 +15,6 @@ export function bindStatus(session: Session, place: HTMLElement, options?: {
 export function bindPage(session: Session): {
     release: () => void;
 };
-export function mayBeLost(session: any): any;
 export type Session = import("./session.js").Session;
 declare class StatusBinding {
     constructor(session: any, place: any, { name }?: {

@@ -16,6 +16,8 @@ export class Piece {
     /** Whether the room isn't known to have what became of it here. */
     get isPending(): boolean;
     get isLost(): boolean;
+    /** What is between two places, as a piece of its own. */
+    part(start: any, end: any): Piece;
     /** Takes what stands behind the place off, and gives it as a piece of its own. */
     cut(place: any): Piece;
     /** Whether both are of one kind, so that they may be one piece. */

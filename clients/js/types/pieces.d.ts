@@ -5,8 +5,6 @@ export class Pieces {
     list: Piece[];
     /** The text of some of them. */
     text(isWanted: any): string;
-    /** The number of the piece right behind what is shown before the place; a piece that the place is inside of is cut there. */
-    behind(at: any): number;
     /** The number of the piece of the room's that begins at the place of its text: one that the place is inside of is cut there. */
     atRooms(k: any): number;
     /** The room's pieces that are so many units of its text from a place on. They are cut at both ends. */

@@ -45,6 +45,13 @@ export class Session extends Session_base {
     get left(): number;
     /** Whether the session has something that the room isn't known to have. */
     get isAhead(): boolean;
+    /** Whether some of the text may be lost where the session is left: the room isn't known to have it, or has another one. */
+    get mayBeLost(): boolean;
+    /**
+     * Whether an editor holds something back that its user types, as what is composed.
+     * @param {boolean} isHeld
+     */
+    set isHeld(arg: boolean);
     /**
      * Whether nobody looks at the text: then news is asked for rarely.
      * @param {boolean} isHidden
@@ -82,6 +89,12 @@ export class Session extends Session_base {
      * @returns {Change}
      */
     replace(at: number, removed: number, text: string): Change;
+    /**
+     * Makes several changes of the shown text, from the last place to the first: all of them, or none where `replace` would throw.
+     * @param {Change[]} changes
+     * @returns {Change[]}
+     */
+    replaceAll(changes: Change[]): Change[];
     /** Another run of the server has another text: shows that, and lets go of what was shown. */
     takeTheirs(): void;
     /** Another run of the server has another text: makes it the one that is shown, unless the room changes before. */
@@ -91,15 +104,15 @@ export class Session extends Session_base {
     /** Goes on after a pause. */
     resume(): void;
     /**
-     * Settles once the room has all that was done here until now. Rejects with `Refused`, where the room refuses before, and with `Ended`,
-     * where the session is closed.
+     * Settles once the room has all that was done here until now. Rejects with `GivenUp`, where the user takes the room's text before; with
+     * `Refused`, where the room refuses; and with `Ended`, where the session is closed.
      * @returns {Promise<void>}
      */
     sent(): Promise<void>;
     /**
      * Ends the session: sends what is new, for some seconds, and leaves the room; where nothing is new at once. Where the line isn't there
      * it tries to leave, once. With `flush` it first tries for so many milliseconds to have all in the room, also where the line isn't
-     * there yet. Gives whether the room has all.
+     * there yet. Once the time is over nothing is waited for. Gives whether the room has all.
      * @param {{flush?: number}} [options]
      * @returns {Promise<boolean>}
      */
