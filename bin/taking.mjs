@@ -67,8 +67,9 @@ class Both {
       }
       this.session = [...shown];
     };
-    if (isRefused) assert.throws(() => this.text.replace(change, this.roll(3), make), Full);
-    else this.text.replace(change, this.roll(3), make);
+    const edits = [{ ...change, behind: this.roll(3) }];
+    if (isRefused) assert.throws(() => this.text.replace(edits, make), Full);
+    else this.text.replace(edits, make);
     const neighbour = this.editor[at - 1];
     this.editor.splice(at, removed, ...put);
     if (isRefused) return this.refused.push(...put);
@@ -120,7 +121,8 @@ for (const [count, plain] of Object.entries(PLAIN)) {
   for (const text of ["", "a", "é", "\u{4e00}", "\u{1f600}x", "\0\r\n"]) assert.equal(size(text, COUNTS[count]), plain(text));
 }
 const text = new EditorText();
-text.replace({ at: 0, removed: 0, text: "a\udcffb" }, 0, (changes) => assert.equal(changes[0].text, "a\ufffdb"));
+const first = (text, removed = 0, behind = 0) => [{ at: 0, removed, text, behind }];
+text.replace(first("a\udcffb"), (changes) => assert.equal(changes[0].text, "a\ufffdb"));
 assert.deepEqual(text.take(COUNTS.bytes), [[1, 1, "\ufffd"]], "a byte that is no UTF-8 becomes U+FFFD");
 for (const [from, to, caret, wanted] of [
   ["aaa", "aaaa", 1, [[0, 0, "a"]]],
@@ -129,8 +131,8 @@ for (const [from, to, caret, wanted] of [
   ["same", "same", 0, []],
 ]) {
   const one = new EditorText();
-  one.replace({ at: 0, removed: 0, text: from }, 0, () => {});
-  one.replace({ at: 0, removed: from.length, text: to }, to.length - caret, (changes) => {
+  one.replace(first(from), () => {});
+  one.replace(first(to, from.length, to.length - caret), (changes) => {
     const told = changes.map((it) => [it.at, it.removed, it.text]);
     assert.deepEqual(told, wanted, "what stays is no change, and the caret tells where letters are alike");
   });

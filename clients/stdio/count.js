@@ -15,14 +15,14 @@ export const COUNTS = {
 };
 
 /**
- * Goes so many places into a text, or to its end: the index of the UTF-16 unit there, and how many places are left. Less than none are left
- * where the place is inside of a character.
+ * Goes so many places on in a text from a UTF-16 unit, or to its end: the index of the unit there, and how many places are left. Less than
+ * none are left where the place is inside of a character.
  * @param {string} text
  * @param {number} places
  * @param {Count} count
  */
-export function gone(text, places, count) {
-  let [index, rest] = [0, places];
+export function gone(text, places, count, from = 0) {
+  let [index, rest] = [from, places];
   while (rest > 0 && index < text.length) {
     const sign = text.codePointAt(index);
     rest -= count(sign);

@@ -9,7 +9,7 @@
  * @typedef {import("./count.js").Count} Count
  */
 import { size } from "./count.js";
-import { difference, differences } from "./module.js";
+import { along, difference, differences, runs } from "./module.js";
 
 class Piece {
   constructor(text, owner) {
@@ -21,13 +21,24 @@ class Piece {
     return this.owner === "both" || this.owner === whose;
   }
 
-  /** Takes what stands behind the place off, and gives it as a piece of its own. */
-  cut(place) {
-    const rest = new Piece(this.text.slice(place), this.owner);
-    this.text = this.text.slice(0, place);
-    return rest;
+  /** What is between two places, as a piece of its own. */
+  part(start, end) {
+    return new Piece(this.text.slice(start, end), this.owner);
   }
 }
+
+/** Pieces, of which neighbours of one kind are one. */
+function joined(pieces) {
+  const list = [];
+  for (const piece of pieces) {
+    if (list.at(-1)?.owner === piece.owner) list.at(-1).text += piece.text;
+    else list.push(piece);
+  }
+  return list;
+}
+
+/** How many units of one of the texts a piece is. */
+const unitsOf = (whose) => (piece) => (piece.isOf(whose) ? piece.text.length : 0);
 
 /** The pieces that a text of the editor becomes: half a pair, which no room takes, is U+FFFD to the session. */
 function fresh(text) {
@@ -55,7 +66,7 @@ export class EditorText {
   }
 
   #textOf(whose, pieces = this.#pieces) {
-    return pieces.filter((it) => it.isOf(whose)).map((it) => it.text).join("");
+    return pieces.map((it) => (it.isOf(whose) ? it.text : "")).join("");
   }
 
   /** Whether there is something to take. */
@@ -68,61 +79,72 @@ export class EditorText {
    * @param {Change[]} changes
    */
   follow(changes) {
-    for (const { at, removed, text, to = at } of changes) {
-      this.#remove(this.#within("session", at, removed), "editor");
-      this.#insert(this.#behind("session", to), [new Piece(text, "session")]);
+    const puts = ({ text }) => [new Piece(text, "session")];
+    for (const run of runs(changes)) {
+      const { at, removed, text, to } = run[0];
+      if (to === undefined) {
+        this.#rewrite("session", run, puts, "editor");
+      } else {
+        this.#rewrite("session", [{ at, removed, text: "" }], puts, "editor");
+        this.#rewrite("session", [{ at: to, removed: 0, text }], puts, "editor");
+      }
     }
   }
 
   /**
-   * The editor has changed its text; so many units of what it put in stand behind its caret. `make` changes the session's as well: by a
-   * list of changes, from the last place to the first. Where it throws, none of them was made, and what the editor did is to be taken back.
-   * @param {Change} change
-   * @param {number} behind
+   * The editor has changed its text at some places, from the last one to the first; of what each put in so many units stand `behind` its
+   * caret. `make` changes the session's as well: by a list of changes, in the same order. Where it throws, none of them was made, and what
+   * the editor did is to be taken back.
+   * @param {(Change & {behind: number})[]} edits
    * @param {(changes: (Change & {taken: string})[]) => void} make
    */
-  replace({ at, removed, text }, behind, make) {
-    const taken = this.#textOf("editor", this.#within("editor", at, removed));
-    const changes = differing(taken, text, behind).map((it) => ({ ...it, at: at + it.at }));
+  replace(edits, make) {
+    const { text: whole } = this;
+    const changes = edits.flatMap(({ at, removed, text, behind }) =>
+      differing(whole.slice(at, at + removed), text, behind).map((it) => ({ ...it, at: at + it.at })),
+    );
     try {
-      make(changes.flatMap((it) => this.#inSession(it)));
+      make(this.#inSession(changes));
     } catch (fault) {
-      for (const it of changes) this.#change(it, "session", [new Piece(it.text, "editor")]);
+      this.#rewrite("editor", changes, ({ text }) => [new Piece(text, "editor")], "session");
       throw fault;
     }
-    for (const it of changes) this.#change(it, null, fresh(it.text));
+    this.#rewrite("editor", changes, ({ text }) => fresh(text), null);
   }
 
-  /** A change of the editor's text. What it takes out of both texts stays in the other one, if there is one. */
-  #change({ at, removed }, other, put) {
-    const index = this.#behind("editor", at);
-    this.#remove(this.#within("editor", at, removed), other);
-    this.#insert(index, put);
+  /** Makes changes of one of the texts: `puts` gives what one puts in. What they take out of both stays in the other one, if there is one. */
+  #rewrite(whose, changes, puts, other) {
+    const pieces = [];
+    for (const [change, piece] of along(changes, this.#pieces, unitsOf(whose))) {
+      if (piece === null) pieces.push(...puts(change).filter((it) => it.text !== ""));
+      else if (change === null || !piece.isOf(whose)) pieces.push(piece);
+      else if (piece.owner === "both" && other !== null) pieces.push(new Piece(piece.text, other));
+    }
+    this.#pieces = joined(pieces);
   }
 
-  /** A change of the editor's text as changes of the session's. */
-  #inSession({ at, removed, text }) {
-    return this.#changes(this.#behind("editor", at), this.#within("editor", at, removed), this.#textOf("session", fresh(text)));
-  }
-
-  /** The changes of the session's text that take pieces out and put a text in, from the last place to the first, with what is taken out. */
-  #changes(index, out, text) {
+  /** Changes of the editor's text as changes of the session's, in the same order, with what is taken out. */
+  #inSession(changes) {
     /** @type {(Change & {taken: string})[]} */
-    const changes = [];
+    const found = [];
     let place = 0;
-    for (let n = 0; n <= this.#pieces.length; n += 1) {
-      const piece = this.#pieces[n];
-      if (n === index && text !== "") changes.unshift({ at: place, removed: 0, text, taken: "" });
-      if (piece === undefined || !piece.isOf("session")) continue;
-      if (out.includes(piece)) {
-        const goesOn = changes.length > 0 && changes[0].at + changes[0].removed === place;
-        if (!goesOn) changes.unshift({ at: place, removed: 0, text: "", taken: "" });
-        changes[0].removed += piece.text.length;
-        changes[0].taken += piece.text;
+    for (const [change, piece] of along(changes, this.#pieces, unitsOf("editor"))) {
+      if (piece === null) {
+        const text = this.#textOf("session", fresh(change.text));
+        if (text !== "") found.push({ at: place, removed: 0, text, taken: "" });
+        continue;
+      }
+      if (!piece.isOf("session")) continue;
+      if (change !== null && piece.isOf("editor")) {
+        const last = found.at(-1);
+        const goesOn = last !== undefined && last.at + last.removed === place;
+        if (!goesOn) found.push({ at: place, removed: 0, text: "", taken: "" });
+        found.at(-1).removed += piece.text.length;
+        found.at(-1).taken += piece.text;
       }
       place += piece.text.length;
     }
-    return changes;
+    return found.reverse();
   }
 
   /**
@@ -144,43 +166,5 @@ export class EditorText {
     }
     this.#pieces = [new Piece(this.#textOf("session"), "both")];
     return changes;
-  }
-
-  /** Takes pieces out of one of the texts: what is of both stays in the other one, if there is one. */
-  #remove(pieces, other) {
-    for (const piece of pieces) {
-      if (piece.owner === "both" && other !== null) piece.owner = other;
-      else this.#pieces.splice(this.#pieces.indexOf(piece), 1);
-    }
-  }
-
-  /** Puts pieces in, and joins neighbours of one kind there. */
-  #insert(index, pieces) {
-    const put = pieces.filter((it) => it.text !== "");
-    this.#pieces.splice(index, 0, ...put);
-    for (let n = index + put.length; n >= Math.max(1, index); n -= 1) {
-      const [left, right] = [this.#pieces[n - 1], this.#pieces[n]];
-      if (right === undefined || left.owner !== right.owner) continue;
-      left.text += right.text;
-      this.#pieces.splice(n, 1);
-    }
-  }
-
-  /** The pieces of a text that are so many units of it from a place on. */
-  #within(whose, at, units) {
-    const start = this.#behind(whose, at);
-    return this.#pieces.slice(start, this.#behind(whose, units, start)).filter((it) => it.isOf(whose));
-  }
-
-  /** The number of the piece right behind so many units of a text from a piece on; a piece that this is inside of is cut there. */
-  #behind(whose, units, start = 0) {
-    let index = start;
-    for (let rest = units; rest > 0; index += 1) {
-      const piece = this.#pieces[index];
-      if (!piece.isOf(whose)) continue;
-      if (piece.text.length > rest) this.#pieces.splice(index + 1, 0, piece.cut(rest));
-      rest -= piece.text.length;
-    }
-    return index;
   }
 }

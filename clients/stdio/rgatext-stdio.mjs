@@ -3,10 +3,14 @@
 import { COUNTS, gone, size } from "./count.js";
 import { EditorText } from "./editor_text.js";
 import { linesOf } from "./lines.js";
-import { Ended, Full, mustFit, open, Undo } from "./module.js";
+import { Ended, Full, open, Undo } from "./module.js";
 
 const [address, room, counted = "units", ...more] = process.argv.slice(2);
 const count = Object.hasOwn(COUNTS, counted) ? COUNTS[counted] : undefined;
+
+/** Milliseconds for which is read at most what was written before a signal, and without a line until all of it is. */
+const READING = 1_000;
+const SILENCE = 50;
 
 /** A line that isn't as it should be. Nothing of it was done. */
 class Wrong extends Error {}
@@ -25,13 +29,43 @@ function tell(line) {
   process.stdout.write(`${JSON.stringify(line)}\n`);
 }
 
+/** Changes of one step of the editor, each behind the one before: so they are changes of one text, and are made at once. */
+class Batch {
+  #whole;
+  #index = 0; // the units of the text, and the editor's place, behind the last change
+  #place = 0;
+  changes = [];
+
+  constructor(whole, isMore) {
+    this.#whole = whole;
+    this.isMore = isMore;
+  }
+
+  /** Whether a change goes on behind the last one. */
+  isGoneOnBy(at) {
+    return at >= this.#place;
+  }
+
+  add(at, removed, text, caret) {
+    const start = gone(this.#whole, at - this.#place, count, this.#index);
+    const end = gone(this.#whole, removed, count, start.index);
+    if (start.rest > 0 || end.rest > 0) throw new Wrong("the change is beyond the text");
+    if (start.rest < 0 || end.rest < 0) throw new Wrong("the change begins or ends inside of a character");
+    const behind = caret === null || caret < at ? 0 : text.length - gone(text, caret - at, count).index;
+    this.changes.unshift({ at: start.index, removed: end.index - start.index, text, behind });
+    this.#index = end.index;
+    this.#place = at + size(text, count);
+  }
+}
+
 class Conversation {
   #text = new EditorText();
   #undo = new Undo();
   #session;
   #hasTold = false; // that there is news, since the editor took some
   #isAhead = false; // as it was told
-  #flushes = 0; // that aren't answered
+  /** @type {Batch | null} */
+  #batch = null; // what was read and isn't made yet
   #isClosing = false;
   #lines = 0; // that were read
 
@@ -52,7 +86,7 @@ class Conversation {
     take: [isTrue, () => tell({ changes: this.#take() })],
     undo: [isTrue, () => this.#turn(false)],
     redo: [isTrue, () => this.#turn(true)],
-    flush: [isTrue, () => this.#flush()],
+    flush: [isPlace, (number) => this.#flush(number)],
     unsent: [isTrue, () => tell({ unsent: this.#session.unsent })],
     text: [isTrue, () => tell({ text: (this.#take(), this.#text.text) })],
     other: [isTrue, () => tell({ other: this.#session.other?.text ?? null })],
@@ -85,28 +119,29 @@ class Conversation {
     if (!isRight(value)) throw new Wrong(`the value of ${key} isn't as it should be`);
     if (typeof more !== "boolean") throw new Wrong("more is true or false");
     if (caret !== null && !isPlace(caret)) throw new Wrong("a caret is a place");
+    if (key !== "replace") this.#makeBatch();
     does(value, more, caret);
   }
 
   /** The editor has changed its text, where its caret is at a place then. */
   #replace([at, removed, text], isMore, caret) {
-    const whole = this.#text.text;
-    const start = gone(whole, at, count);
-    const { index: units, rest } = gone(whole.slice(start.index), removed, count);
-    if (start.rest > 0 || rest > 0) throw new Wrong("the change is beyond the text");
-    if (start.rest < 0 || rest < 0) throw new Wrong("the change begins or ends inside of a character");
-    const behind = caret === null || caret < at ? 0 : text.length - gone(text, caret - at, count).index;
-    const change = { at: start.index, removed: units, text };
-    this.#change(() => this.#text.replace(change, behind, (changes) => this.#make(changes, isMore)));
-    this.#tellNews();
+    if (!isMore || !this.#batch?.isGoneOnBy(at)) this.#makeBatch();
+    if (this.#batch === null) setImmediate(() => this.#makeBatch()); // once all is read that is there
+    this.#batch ??= new Batch(this.#text.text, isMore);
+    this.#batch.add(at, removed, text, caret);
   }
 
-  /** Makes changes of the session's text, from the last place to the first: all of them or none. */
-  #make(changes, isMore) {
-    if (changes.length > 1) mustFit(this.#session, changes);
-    for (const [n, { at, removed, text, taken }] of changes.entries()) {
-      this.#undo.note(this.#session.replace(at, removed, text), taken, Date.now(), isMore || n > 0);
-    }
+  #makeBatch() {
+    if (this.#batch === null) return;
+    const { changes, isMore } = this.#batch;
+    this.#batch = null;
+    this.#change(() =>
+      this.#text.replace(changes, (made) => {
+        this.#session.replaceAll(made);
+        this.#undo.noteAll(made, Date.now(), isMore);
+      }),
+    );
+    this.#tellNews();
   }
 
   /** Makes a change, or says why it isn't made. */
@@ -117,7 +152,7 @@ class Conversation {
       if (!(fault instanceof Full || fault instanceof Ended)) throw fault;
       tell({ refused: fault.message });
     }
-    if (this.#session.isAhead !== this.#isAhead) this.#tellState();
+    if (this.#session.mayBeLost !== this.#isAhead) this.#tellState();
   }
 
   #take() {
@@ -134,12 +169,12 @@ class Conversation {
   /** Undoes the editor's own last step, or does it again. */
   #turn(isRedo) {
     let caret = null;
-    const replace = (at, removed, text) => {
-      this.#session.replace(at, removed, text);
-      this.#text.follow([{ at, removed, text }]);
-      caret = at + text.length;
+    const make = (changes) => {
+      this.#session.replaceAll(changes);
+      this.#text.follow(changes);
+      caret = changes.at(-1).at + changes.at(-1).text.length;
     };
-    this.#change(() => this.#undo.turn(isRedo, this.#session, replace));
+    this.#change(() => this.#undo.turn(isRedo, this.#session, make));
     const changes = this.#take();
     tell(caret === null ? { changes } : { changes, caret: size(this.#text.text.slice(0, caret), count) });
   }
@@ -148,34 +183,38 @@ class Conversation {
     this.#change(() => (whose === "mine" ? this.#session.putMine() : this.#session.takeTheirs()));
   }
 
-  #flush() {
-    this.#flushes += 1;
-    this.#answerFlushes();
-  }
-
-  /** Says whether the room has all that was done here, once that is known. */
-  #answerFlushes() {
-    const { state, isAhead, other } = this.#session;
-    const hasOther = other !== null;
-    if (isAhead && !hasOther && state !== "refused") return;
-    for (; this.#flushes > 0; this.#flushes -= 1) tell({ flushed: !isAhead && !hasOther });
+  /** Says whether the room has all that was done here until now, once that is known. */
+  #flush(number) {
+    const answer = (sent) => tell({ flushed: number, sent });
+    this.#session.sent().then(() => answer(true), () => answer(false));
   }
 
   #tellState() {
-    const { state, why, isAhead, left } = this.#session;
-    this.#isAhead = isAhead;
-    if (!this.#isClosing) tell({ state, why, ahead: isAhead, left });
-    this.#answerFlushes();
+    const { state, why, mayBeLost, left } = this.#session;
+    this.#isAhead = mayBeLost;
+    if (!this.#isClosing) tell({ state, why, ahead: mayBeLost, left });
+  }
+
+  /** Does what was written before, as far as it comes in time, and closes. */
+  async end() {
+    const till = Date.now() + READING;
+    for (let lines = -1; lines !== this.#lines && Date.now() < till; ) {
+      lines = this.#lines;
+      await new Promise((resolve) => setTimeout(resolve, SILENCE));
+      await new Promise(setImmediate); // what came meanwhile is read by then
+    }
+    await this.close();
   }
 
   /** Sends what is new, leaves the room, says what it doesn't have, and ends the program. */
   async close() {
     if (this.#isClosing) return;
+    this.#makeBatch();
     this.#isClosing = true;
-    await this.#session.close().catch((fault) => console.error(fault));
+    const sent = await this.#session.close().catch((fault) => console.error(fault));
     const { unsent } = this.#session;
-    tell({ closed: true, unsent });
-    process.exit(unsent.length > 0 ? 1 : 0);
+    tell({ closed: true, sent: sent === true, unsent });
+    process.exit(sent === true ? 0 : 1);
   }
 }
 
@@ -202,7 +241,7 @@ try {
   if (!(fault instanceof TypeError)) throw fault;
   stop(fault.message);
 }
-for (const signal of ["SIGTERM", "SIGINT", "SIGHUP"]) process.on(signal, () => conversation.close());
+for (const signal of ["SIGTERM", "SIGINT", "SIGHUP"]) process.on(signal, () => conversation.end());
 process.stdout.on("error", () => conversation.close()); // nobody reads any more
 for await (const line of linesOf(process.stdin)) conversation.does(line);
 await conversation.close();

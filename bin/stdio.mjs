@@ -1,0 +1,229 @@
+// What bin/try_editors plays of the program of clients/stdio, as an editor starts it, at rooms in memory: it needs no server.
+import assert from "node:assert/strict";
+import { spawn } from "node:child_process";
+import { createHash } from "node:crypto";
+import { createServer } from "node:http";
+import { createInterface } from "node:readline";
+import { fileURLToPath } from "node:url";
+import { MemoryRoom } from "../clients/js/memory_room.js";
+import { pause } from "../clients/js/seat.js";
+
+const PROGRAM = fileURLToPath(new URL("../clients/stdio/rgatext-stdio.mjs", import.meta.url));
+const [TEXT, END] = [1, 8]; // kinds of frames (RFC 6455)
+
+/** A server of WebSockets with one room, which may be another one later, and may be silent. */
+class Server {
+  room = new MemoryRoom();
+  isSilent = false;
+  #sockets = new Set();
+  #server = createServer();
+
+  async listen() {
+    this.#server.on("upgrade", (request, socket) => this.#shake(request, socket));
+    await new Promise((resolve) => this.#server.listen(0, "127.0.0.1", resolve));
+    return this;
+  }
+
+  get address() {
+    return `ws://127.0.0.1:${this.#server.address().port}`;
+  }
+
+  /** Has another room, and cuts all lines. */
+  turn(room) {
+    this.room = room;
+    for (const it of this.#sockets) it.destroy();
+  }
+
+  close() {
+    this.turn(this.room);
+    this.#server.close();
+  }
+
+  #shake({ headers }, socket) {
+    const key = createHash("sha1").update(`${headers["sec-websocket-key"]}258EAFA5-E914-47DA-95CA-C5AB0DC85B11`).digest("base64");
+    const lines = ["HTTP/1.1 101 Switching Protocols", "Upgrade: websocket", "Connection: Upgrade", `Sec-WebSocket-Accept: ${key}`];
+    socket.write(`${lines.join("\r\n")}\r\n\r\n`);
+    this.#sockets.add(socket);
+    let held = Buffer.alloc(0);
+    socket.on("error", () => {});
+    socket.on("close", () => this.#sockets.delete(socket));
+    socket.on("data", (block) => {
+      held = Buffer.concat([held, block]);
+      for (let frame = taken(held); frame !== null; frame = taken(held)) {
+        held = held.subarray(frame.length);
+        if (frame.kind === END) socket.end(Buffer.from([0x88, 0]));
+        if (frame.kind === TEXT && !this.isSilent) socket.write(framed(JSON.stringify(this.#answer(JSON.parse(frame.text)))));
+      }
+    });
+  }
+
+  #answer(request) {
+    return request.t === "open" ? { r: "opened" } : this.room.answer(request);
+  }
+}
+
+/** The frame that bytes begin with, or null. */
+function taken(bytes) {
+  if (bytes.length < 2) return null;
+  const short = bytes[1] & 0x7f;
+  const start = { 126: 4, 127: 10 }[short] ?? 2;
+  if (bytes.length < start + 4) return null;
+  const size = short === 126 ? bytes.readUInt16BE(2) : short === 127 ? Number(bytes.readBigUInt64BE(2)) : short;
+  const [mask, length] = [bytes.subarray(start, start + 4), start + 4 + size];
+  if (bytes.length < length) return null;
+  const text = Buffer.from(bytes.subarray(start + 4, length).map((byte, n) => byte ^ mask[n % 4])).toString();
+  return { kind: bytes[0] & 0xf, length, text };
+}
+
+function framed(text) {
+  const bytes = Buffer.from(text);
+  const head = Buffer.from([0x81, 127, 0, 0, 0, 0, 0, 0, 0, 0]);
+  head.writeBigUInt64BE(BigInt(bytes.length), 2);
+  return Buffer.concat([head, bytes]);
+}
+
+/** An editor that has started the program: its text, and what was told. */
+class Editor {
+  told = [];
+  text = "";
+  #looks = () => {};
+
+  constructor({ address }) {
+    this.child = spawn(process.execPath, ["--experimental-websocket", "--no-warnings", PROGRAM, address, "notes"], { stdio: ["pipe", "pipe", "inherit"] });
+    this.ended = new Promise((resolve) => this.child.on("close", resolve));
+    createInterface({ input: this.child.stdout }).on("line", (line) => {
+      this.told.push(JSON.parse(line));
+      this.#looks();
+    });
+  }
+
+  say(...requests) {
+    this.child.stdin.write(requests.map((it) => `${JSON.stringify(it)}\n`).join(""));
+  }
+
+  /** Waits for a line: the first one that is as wanted and wasn't waited for before. */
+  async hears(isWanted) {
+    for (let since = Date.now(); ; ) {
+      const found = this.told.findIndex(isWanted);
+      if (found >= 0) return this.told.splice(found, 1)[0];
+      if (Date.now() - since > 20_000) throw new Error(`it isn't told: ${isWanted}: ${JSON.stringify(this.told.slice(-5))}`);
+      await Promise.race([new Promise((resolve) => (this.#looks = resolve)), pause(1_000)]);
+    }
+  }
+
+  /** Waits for a state. */
+  comesTo(wanted) {
+    return this.hears(({ state }) => state === wanted);
+  }
+
+  /** What is told under a key for a request. */
+  async asks(request, key) {
+    this.say(request);
+    return (await this.hears((it) => key in it))[key];
+  }
+
+  /** Takes what others did, or what a request changes. */
+  async take(request = { take: true }) {
+    for (const [at, removed, text] of await this.asks(request, "changes")) {
+      this.text = this.text.slice(0, at) + text + this.text.slice(at + removed);
+    }
+  }
+
+  /** Ends the program, and gives what it says then and its status. */
+  async closes() {
+    this.say({ close: true });
+    return this.isClosed();
+  }
+
+  async isClosed() {
+    const { closed, ...rest } = await this.hears((it) => it.closed);
+    return { ...rest, status: await this.ended };
+  }
+}
+
+/** A room that has a text. */
+const roomOf = (text) => new MemoryRoom({ log: [{ c: [[0, 1]], k: "r", s: 0, p: null, x: text }], site: 1 });
+
+/** A word is replaced at 10,000 places, by one change or by many, and that is undone: each within two seconds of a processor. */
+async function replacesAtManyPlaces(server) {
+  const text = "the cat the\n".repeat(5_000);
+  const done = text.replaceAll("the", "some");
+  const places = Array.from({ length: 10_000 }, (_, n) => ({ replace: [13 * (n >> 1) + (n % 2) * 9 + (n >> 1), 3, "some"], more: n > 0 }));
+  for (const changes of [[{ replace: [0, text.length, done] }], places]) {
+    server.turn(roomOf(text));
+    const editor = new Editor(server);
+    await editor.hears(({ news }) => news);
+    await editor.take();
+    assert.equal(editor.text, text);
+    for (const does of ["replace", "undo"]) {
+      const began = performance.now();
+      if (does === "replace") editor.say(...changes);
+      await editor.take(does === "replace" ? undefined : { undo: true });
+      const took = performance.now() - began;
+      console.log(`bin/stdio.mjs: ${does} at 10,000 places, told by ${changes.length}: ${(took / 1_000).toFixed(1)} s`);
+      assert.ok(took < 4_000, `${took} ms`);
+      if (does === "replace") editor.text = done;
+      assert.equal(await editor.asks({ text: true }, "text"), editor.text);
+    }
+    assert.equal(editor.text, text);
+    editor.child.kill("SIGKILL");
+  }
+}
+
+/** What was written before a signal is done, and is in the room. */
+async function endsWithASignal(server) {
+  for (const signal of ["SIGTERM", "SIGINT", "SIGHUP"]) {
+    server.turn(new MemoryRoom());
+    const editor = new Editor(server);
+    await editor.comesTo("up to date");
+    const lines = Array.from({ length: 600 }, (_, n) => `${JSON.stringify({ replace: [n, 0, "abc"[n % 3]] })}${" ".repeat(8_000)}\n`);
+    editor.child.stdin.write(lines.join("")); // more than is read at once
+    editor.child.kill(signal);
+    assert.deepEqual(await editor.isClosed(), { sent: true, unsent: [], status: 0 }, signal);
+    assert.equal(server.room.text, "abc".repeat(200), signal);
+  }
+}
+
+/** Each `flush` is answered by its number, once the room has what was done before it, whatever is typed since. */
+async function flushesWhatWasBefore(server) {
+  server.turn(new MemoryRoom());
+  const editor = new Editor(server);
+  await editor.comesTo("up to date");
+  let typed = 0;
+  const types = () => editor.say({ replace: [typed++, 0, "x"] });
+  types();
+  editor.say({ flush: 7 });
+  const typing = setInterval(types, 20);
+  assert.deepEqual(await editor.hears((it) => "flushed" in it), { flushed: 7, sent: true });
+  clearInterval(typing);
+  assert.ok(typed < 100, `it took till ${typed} characters were typed`);
+  server.isSilent = true;
+  types();
+  editor.say({ flush: 8 });
+  await editor.comesTo("no answer");
+  server.isSilent = false;
+  server.turn(server.room);
+  assert.deepEqual(await editor.hears((it) => "flushed" in it), { flushed: 8, sent: true });
+  assert.equal((await editor.closes()).status, 0);
+}
+
+/** At another text nothing is said to be sent, neither by `flush`, where it is given up, nor at the end. */
+async function givesUpAtAnotherText(server) {
+  server.turn(new MemoryRoom());
+  const editors = [new Editor(server), new Editor(server)];
+  editors[0].say({ replace: [0, 0, "here"] }, { flush: 1 });
+  await editors[0].hears((it) => it.flushed === 1 && it.sent);
+  await editors[1].hears(({ news }) => news);
+  await editors[1].take();
+  server.turn(new MemoryRoom({ site: 7 }));
+  for (const it of editors) assert.equal((await it.comesTo("another text")).ahead, true);
+  editors[0].say({ flush: 2 }, { choose: "theirs" });
+  assert.deepEqual(await editors[0].hears((it) => "flushed" in it), { flushed: 2, sent: false });
+  assert.deepEqual(await editors[0].closes(), { sent: true, unsent: [], status: 0 });
+  assert.deepEqual(await editors[1].closes(), { sent: false, unsent: [], status: 1 });
+}
+
+const server = await new Server().listen();
+for (const attempt of [flushesWhatWasBefore, givesUpAtAnotherText, endsWithASignal, replacesAtManyPlaces]) await attempt(server);
+server.close();
+console.log("bin/stdio.mjs: many places, signals, flushes, and another text");
