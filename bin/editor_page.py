@@ -144,6 +144,12 @@ def tries_composition():
     windows[0].type("<>")
     same("brackets", "<>")
     windows[0].select(1, 1)
+    windows[0].compose("ど")
+    until(lambda: "not sent yet" in windows[0].told, "what is composed isn't sent yet", 1)
+    assert windows[0].asks_before_leaving, "what is composed is left without a question"
+    windows[0].commit("")
+    until(lambda: windows[0].told == "notes: saved" and not windows[0].asks_before_leaving, "nothing is composed any more")
+    same("what was composed is dropped", "<>")
     for composed, wanted in ((("に", "にほ", "にほん"), "日本"), (("´",), "é")):
         windows[0].compose(*composed)
         windows[1].select(0, 0)
@@ -304,6 +310,20 @@ def tries_walk():
         told = [it.communicate()[0] for it in chats]
         assert told == ["from the page\none more line\nhello\n"] * 2 and all(it.returncode == 0 for it in chats), told
         window.quit()
+
+
+def tries_text_of_before():
+    """What an editor had before it is bound is replaced, and told."""
+    files = ("textarea", "memory_room", "rgatext")
+    replaced = windows[0].driver.execute_async_script(
+        "const [files, done] = arguments; Promise.all(files.map((it) => import(`/clients/js/${it}.js`))).then((modules) => {"
+        "const { bindTextarea, MemoryRoom, Session } = Object.assign({}, ...modules), room = new MemoryRoom();"
+        "const session = new Session(() => room.connect()), area = document.createElement('textarea');"
+        "area.value = 'a draft'; const binding = bindTextarea(session, area);"
+        "session.close().then(() => done([binding.replaced, area.value])); })",
+        files,
+    )
+    assert replaced == ["a draft", ""], replaced
 
 
 def tries_missing_lib():
@@ -572,7 +592,7 @@ try:
     for attempt in (tries_cut_lines, *writing, tries_another_run, tries_refilled_run):
         attempt()
         print(attempt.__name__.removeprefix("tries_").replace("_", " "))
-    rooms = (tries_kept_run, tries_origins, tries_65_windows, tries_full_room, tries_bad_addresses, tries_missing_lib)
+    rooms = (tries_kept_run, tries_origins, tries_65_windows, tries_full_room, tries_bad_addresses, tries_missing_lib, tries_text_of_before)
     mirrors = (tries_carriage_returns, tries_codemirror, tries_codemirror_scroll, tries_codemirror_in_a_full_room)
     for attempt in (tries_walk, tries_widths, tries_history, *rooms, *mirrors, tries_pastes, tries_long_history):
         attempt()

@@ -290,7 +290,7 @@ def tries_commands():
         server.kill()
         until(lambda: it.state.startswith("offline"), f"{it.name} is told")
         it.put("unsent ")
-        it.do({Neovim: "RgatextUnsent", Emacs: "rgatext-unsent"}[type(it)])
+        it.show_unsent()
         until(lambda: "put in: unsent" in it.screen, "what is unsent")
         server.start()
         until(lambda: room_text("left") == "unsent a\nb\n" and it.state == "up to date", "it is sent", 60)
@@ -388,19 +388,70 @@ def tries_leaving():
             assert [line.ask(t="leave", s=s)["r"] for s in range(1, number + 1)] == ["no"] * (number - 1) + ["left"], "a session is left"
 
 
+def signals(it, *kinds):
+    """Sends signals to the program between an editor and its room."""
+    for child in pathlib.Path(f"/proc/{it.pid}/task/{it.pid}/children").read_text().split():
+        if b"rgatext-stdio" in pathlib.Path(f"/proc/{child}/cmdline").read_bytes():
+            for kind in kinds:
+                os.kill(int(child), kind)
+
+
 def tries_program_that_ends():
     """Where the program between is killed the text stays as it is, read-only."""
     for it in one_of_each("ended"):
         it.clear()
         it.put("kept ")
         until(lambda: room_text("ended") == "kept ", "a text")
-        for child in pathlib.Path(f"/proc/{it.pid}/task/{it.pid}/children").read_text().split():
-            if b"rgatext-stdio" in pathlib.Path(f"/proc/{child}/cmdline").read_bytes():
-                os.kill(int(child), signal.SIGKILL)
+        signals(it, signal.SIGKILL)
         until(lambda: it.state == "closed: its program has ended", f"{it.name} is told")
         it.put("no")
         time.sleep(0.5)
         assert it.text == "kept " == room_text("ended"), it.text
+        it.show_unsent()
+        until(lambda: "ended without a word" in it.screen, "nobody knows what is unsent")
+
+
+def tries_program_that_ends_with_unsent_text():
+    """What the program didn't send is shown once it has ended, and who leaves is asked, whatever the editor's own flag says."""
+    for it in one_of_each("ended"):
+        it.clear()
+        until(lambda: room_text("ended") == "" and it.state == "up to date", "no text")
+        server.kill()
+        until(lambda: it.state.startswith("offline"), f"{it.name} is told")
+        it.put("unsent ")
+        if isinstance(it, Emacs):
+            it.ask("(set-buffer-modified-p nil)")
+            it.ask_to_leave()
+            until(lambda: it.refuses in it.screen, f"{it.name} asks, though the buffer says that it isn't modified")
+            it.stay()
+        signals(it, signal.SIGTERM)
+        until(lambda: it.state == "closed: its program has ended", f"{it.name} is told")
+        it.show_unsent()
+        until(lambda: "put in: unsent" in it.screen, "what is unsent")
+        it.ask_to_leave()
+        until(lambda: it.refuses in it.screen, f"{it.name} asks")
+        it.stay()
+        server.start()
+
+
+def tries_program_that_is_slow():
+    """An editor waits for the program as long as it is there, and says so; its user may give it up, and loses nothing."""
+    for it in one_of_each("ended"):
+        it.clear()
+        it.put("slow ")
+        until(lambda: room_text("ended") == "slow " and it.state == "up to date", "a text")
+        signals(it, signal.SIGSTOP)
+        it.undo()
+        until(lambda: "waiting for its program" in it.screen, f"{it.name} says that it waits")
+        signals(it, signal.SIGCONT)
+        until(lambda: it.text == "" == room_text("ended") and it.state == "up to date", "it goes on")
+        signals(it, signal.SIGSTOP)
+        it.put("typed ")
+        it.undo()
+        it.keys(it.gives_up)
+        until(lambda: it.state == "closed: its program has ended", f"{it.name} has given it up")
+        assert it.text == "typed ", it.text
+        signals(it, signal.SIGCONT)
 
 
 def tries_another_text():
@@ -470,7 +521,7 @@ try:
     until(lambda: all(it.state.startswith("up to date") for it in editors), "all have joined", 60)
     cases = (tries_page, tries_typing, tries_undo, tries_lines, tries_wide, tries_bytes, tries_many_places, tries_random_typing)
     cases += (tries_waiting, tries_full_room, tries_leaving, tries_commands, tries_server_that_ends)
-    cases += (tries_program_that_ends, tries_another_text)
+    cases += (tries_program_that_ends, tries_program_that_ends_with_unsent_text, tries_program_that_is_slow, tries_another_text)
     for attempt in cases:
         began = time.monotonic()
         attempt()

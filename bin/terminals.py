@@ -97,6 +97,10 @@ class Neovim(Terminal):
         self.do("%s/the/some/g")
 
     refuses = "E37"
+    gives_up = ["C-c"]
+
+    def show_unsent(self):
+        self.do("RgatextUnsent")
 
     def ask_to_leave(self):
         self.do("quit")
@@ -165,6 +169,10 @@ class Emacs(Terminal):
         self.keys(["M-<", "M-%"], "the", ["Enter"], "some", ["Enter"], "!")
 
     refuses = "isn't in the room. Leave it?"
+    gives_up = ["C-g"]
+
+    def show_unsent(self):
+        self.do("rgatext-unsent")
 
     def ask_to_leave(self):
         self.keys(["C-x"], "k", ["Enter"])

@@ -25,7 +25,10 @@
   (state `(:state "joining" :why "" :ahead nil :left ,rgatext--scarce) :documentation "How the session stands, as the program told it.")
   (is-more nil :documentation "Whether something was changed since a command began.")
   (is-playing nil :documentation "Whether changes are made that the program knows.")
-  (is-taking nil :documentation "Whether others' changes are about to be taken."))
+  (is-taking nil :documentation "Whether others' changes are about to be taken.")
+  (is-over nil :documentation "Whether the program has ended, or was given up.")
+  (unsent 'unknown :documentation "What the room doesn't have, as the program told it at its end.")
+  (flushes 0 :documentation "How often it was asked whether the room has all."))
 
 (defvar-local rgatext--room nil "The room of a buffer.")
 (put 'rgatext--room 'permanent-local t)
@@ -34,7 +37,7 @@
 
 (defun rgatext--send (&rest request)
   "Send a REQUEST, a list of keys and values."
-  (when (process-live-p (rgatext--room-process rgatext--room))
+  (unless (rgatext--room-is-over rgatext--room)
     (process-send-string (rgatext--room-process rgatext--room) (concat (json-serialize request) "\n"))))
 
 (defun rgatext--parse (line)
@@ -57,6 +60,7 @@
 (defun rgatext--hear (told)
   "Do what a line asks that was TOLD."
   (cond ((plist-get told :state) (rgatext--show told))
+        ((plist-get told :closed) (setf (rgatext--room-unsent rgatext--room) (plist-get told :unsent)))
         ((plist-get told :refused) (message "rgatext: %s" (plist-get told :refused)))
         ((plist-get told :wrong)
          (message "rgatext: %s" (plist-get told :wrong))
@@ -68,22 +72,32 @@
          (run-with-timer 0 nil #'rgatext--take (current-buffer)))))
 
 (defun rgatext--give-up ()
-  "End the program: what it has isn't known any more."
-  (process-send-eof (rgatext--room-process rgatext--room)))
+  "End the program: what it has isn't known any more.
+It sends what was written to it, and says what the room doesn't have."
+  (process-send-eof (rgatext--room-process rgatext--room))
+  (rgatext--over))
 
 (defun rgatext--ask (seconds key &rest request)
   "Send a REQUEST, and wait some SECONDS for its answer, which has a KEY.
+Where SECONDS is nil wait as long as the program is there; C-g gives it up.
 Nothing is typed meanwhile."
-  (let ((room rgatext--room)
-        (end (+ (float-time) seconds))
-        (inhibit-quit t))
+  (let* ((room rgatext--room)
+         (began (float-time))
+         (number (plist-get request :flush))
+         (is-done (lambda ()
+                    (let ((answer (rgatext--room-answer room)))
+                      (and (plist-member answer key) (or (null number) (equal number (plist-get answer key)))))))
+         (inhibit-quit t))
     (setf (rgatext--room-answer room) nil)
     (apply #'rgatext--send request)
-    (while (and (not (plist-member (rgatext--room-answer room) key))
-                (process-live-p (rgatext--room-process room))
-                (< (float-time) end))
-      (accept-process-output (rgatext--room-process room) 0.1 nil 1))
-    (rgatext--room-answer room)))
+    (while (not (or (funcall is-done) (rgatext--room-is-over room) (and seconds (> (float-time) (+ began seconds)))))
+      (accept-process-output (rgatext--room-process room) 0.1 nil 1)
+      (cond (seconds)
+            (quit-flag
+             (setq quit-flag nil)
+             (rgatext--give-up))
+            ((> (float-time) (+ began 2)) (message "rgatext: waiting for its program; C-g gives it up"))))
+    (and (funcall is-done) (rgatext--room-answer room))))
 
 ;;;; Changes
 
@@ -111,10 +125,8 @@ Nothing is typed meanwhile."
 
 (defun rgatext--ask-changes (key)
   "Ask for changes by a KEY, make them, and give the answer."
-  (let ((answer (rgatext--ask 30 :changes key t)))
-    (if (plist-member answer :changes)
-        (rgatext--play (plist-get answer :changes))
-      (rgatext--give-up))
+  (let ((answer (rgatext--ask nil :changes key t)))
+    (rgatext--play (plist-get answer :changes))
     answer))
 
 (defun rgatext--play (changes)
@@ -122,6 +134,7 @@ Nothing is typed meanwhile."
 Point and markers stay where they are in the text."
   (let ((inhibit-read-only t)
         (inhibit-modification-hooks nil)
+        (is-modified (buffer-modified-p))
         (deactivate-mark nil))
     (setf (rgatext--room-is-playing rgatext--room) t)
     (unwind-protect
@@ -134,7 +147,7 @@ Point and markers stay where they are in the text."
                 (delete-region (point) (+ (point) removed))
                 (insert text)))))
       (setf (rgatext--room-is-playing rgatext--room) nil))
-    (rgatext--show (rgatext--room-state rgatext--room))))
+    (restore-buffer-modified-p is-modified)))
 
 (defun rgatext--take (buffer)
   "Take what others changed in a room's BUFFER."
@@ -166,7 +179,7 @@ Point and markers stay where they are in the text."
   "Show how the session stands, as TOLD.
 The mode line has it, and the buffer is modified and read-only by it."
   (setf (rgatext--room-state rgatext--room) told)
-  (restore-buffer-modified-p (or (plist-get told :ahead) (equal (plist-get told :state) "another text")))
+  (restore-buffer-modified-p (plist-get told :ahead))
   (setq buffer-read-only (and (member (plist-get told :state) '("refused" "closed")) t))
   (force-mode-line-update))
 
@@ -177,17 +190,25 @@ The mode line has it, and the buffer is modified and read-only by it."
             (cond ((not (equal (plist-get told :why) "")) (concat ": " (plist-get told :why)))
                   ((< (plist-get told :left) rgatext--scarce) (format "; the room takes %d more changes" (plist-get told :left)))))))
 
+(defun rgatext--over ()
+  "Nobody carries changes any more."
+  (unless (rgatext--room-is-over rgatext--room)
+    (setf (rgatext--room-is-over rgatext--room) t)
+    (let ((is-ahead (or (buffer-modified-p) (plist-get (rgatext--room-state rgatext--room) :ahead))))
+      (rgatext--show `(:state "closed" :why "its program has ended" :ahead ,is-ahead :left 0)))))
+
 (defun rgatext--ended (process _)
-  "The program of a PROCESS has ended, and nobody carries changes any more."
+  "The program of a PROCESS has ended."
   (when (and (buffer-live-p (process-buffer process)) (not (process-live-p process)))
     (with-current-buffer (process-buffer process)
-      (rgatext--show `(:state "closed" :why "its program has ended" :ahead ,(buffer-modified-p) :left 0)))))
+      (rgatext--over))))
 
 (defun rgatext--has-all (seconds)
   "Wait some SECONDS until the room has all that was done here. Whether it has."
-  (or (not (buffer-modified-p))
-      (and (process-live-p (rgatext--room-process rgatext--room))
-           (plist-get (rgatext--ask seconds :flushed :flush t) :flushed))))
+  (if (rgatext--room-is-over rgatext--room)
+      (not (plist-get (rgatext--room-state rgatext--room) :ahead))
+    (let ((number (cl-incf (rgatext--room-flushes rgatext--room))))
+      (plist-get (rgatext--ask seconds :flushed :flush number) :sent))))
 
 (defun rgatext-flush ()
   "Wait until the room has all that was done here, or say what is wrong."
@@ -207,13 +228,17 @@ The mode line has it, and the buffer is modified and read-only by it."
 (defun rgatext-unsent ()
   "Show what was done here and the room isn't known to have."
   (interactive)
-  (let ((unsent (plist-get (rgatext--ask 30 :unsent :unsent t) :unsent)))
-    (message "%s" (mapconcat (lambda (it) (format "%s: %s" (plist-get it :kind) (plist-get it :text))) unsent "\n"))))
+  (let ((unsent (if (rgatext--room-is-over rgatext--room)
+                    (rgatext--room-unsent rgatext--room)
+                  (plist-get (rgatext--ask nil :unsent :unsent t) :unsent))))
+    (message "%s" (cond ((eq unsent 'unknown) "What the room doesn't have isn't known: its program has ended without a word")
+                        ((null unsent) "The room has all")
+                        (t (mapconcat (lambda (it) (format "%s: %s" (plist-get it :kind) (plist-get it :text))) unsent "\n"))))))
 
 (defun rgatext-other ()
   "Show the text of the room, where it is another one."
   (interactive)
-  (message "%s" (or (plist-get (rgatext--ask 30 :other :other t) :other) "The room has no other text")))
+  (message "%s" (or (plist-get (rgatext--ask nil :other :other t) :other) "The room has no other text")))
 
 (defun rgatext-take-theirs ()
   "Take the text of the room in place of what is shown."

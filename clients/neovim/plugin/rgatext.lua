@@ -3,8 +3,9 @@ local api = vim.api
 local folder = vim.fn.fnamemodify(debug.getinfo(1, "S").source:sub(2), ":p:h:h:h")
 local program = { "--experimental-websocket", "--no-warnings", folder .. "/stdio/rgatext-stdio.mjs" }
 
--- Milliseconds: until the program is given up, until the room has all that is new, and until a busy editor is looked at again.
-local ANSWER, SENDING, BUSY = 30000, 5000, 50
+-- Milliseconds: until it is told that the program is waited for, until the room has all that is new, and until a busy editor is looked at
+-- again.
+local ANSWER, SENDING, BUSY = 2000, 5000, 50
 local SCARCE = 13107 -- so many changes before a room is full it is told
 
 -- The characters of UTF-8 that have more than one byte (RFC 3629).
@@ -74,7 +75,9 @@ end
 -- Takes a line of the program: an answer is kept for who waits for it, all else is heard as soon as nothing else is done.
 function Room:receive(line)
   local told = vim.json.decode(line)
-  if told.state or told.news or told.refused or told.wrong then
+  if told.closed then
+    self.unsent = told.unsent
+  elseif told.state or told.news or told.refused or told.wrong then
     vim.schedule(function()
       self:hear(told)
     end)
@@ -83,16 +86,28 @@ function Room:receive(line)
   end
 end
 
--- Sends a request and waits for its answer, which has a key. Nothing is typed meanwhile.
+-- Sends a request and waits for its answer, which has a key: for some milliseconds, else as long as the program is there, or until CTRL-C
+-- gives it up. Nothing is typed meanwhile.
 function Room:ask(request, key, milliseconds)
   self.answer = {}
   self:send(request)
   local function is_done()
-    return self.answer[key] ~= nil or self.is_over
+    local value = self.answer[key]
+    return self.is_over or (value ~= nil and (not request.flush or value == request.flush))
   end
   local till = vim.loop.now() + (milliseconds or ANSWER)
-  while not is_done() and vim.loop.now() < till do
-    vim.wait(till - vim.loop.now(), is_done, 1, true) -- (which CTRL-C ends)
+  while not is_done() do
+    local _, why = vim.wait(math.max(0, till - vim.loop.now()), is_done, 1, true)
+    local is_late = vim.loop.now() >= till
+    if milliseconds and is_late then
+      break
+    elseif not milliseconds and why == -2 then
+      self:give_up()
+    elseif is_late then
+      api.nvim_echo({ { "rgatext: waiting for its program; CTRL-C gives it up", "WarningMsg" } }, false, {})
+      vim.cmd("redraw")
+      till = till + ANSWER
+    end
   end
   return self.answer
 end
@@ -113,9 +128,13 @@ function Room:hear(told)
   end
 end
 
--- What the program has isn't known any more.
+-- What the program has isn't known any more. It sends what was written to it, and says what the room doesn't have.
 function Room:give_up()
+  self.is_over = true
   self.process:kill("sigterm")
+  vim.schedule(function()
+    self:ends()
+  end)
 end
 
 -- Shows how the session stands: in the status line, by 'modified' and by 'modifiable'.
@@ -123,7 +142,7 @@ function Room:show(told)
   self.told = told
   local scarce = told.why == "" and told.left < SCARCE and ("; the room takes %d more changes"):format(told.left) or ""
   vim.b[self.buffer].rgatext = told.state .. (told.why == "" and "" or ": " .. told.why) .. scarce
-  vim.bo[self.buffer].modified = told.ahead or told.state == "another text"
+  vim.bo[self.buffer].modified = told.ahead or self.is_due
   vim.bo[self.buffer].modifiable = told.state ~= "refused" and told.state ~= "closed"
   vim.cmd("redrawstatus!")
 end
@@ -131,7 +150,8 @@ end
 -- The program has ended, and nobody carries changes any more.
 function Room:ends()
   if api.nvim_buf_is_loaded(self.buffer) then
-    self:show({ state = "closed", why = "its program has ended", ahead = self.told.ahead, left = 0 })
+    local is_ahead = vim.bo[self.buffer].modified
+    self:show({ state = "closed", why = "its program has ended", ahead = is_ahead, left = 0 })
   end
 end
 
@@ -156,6 +176,8 @@ function Room:flush()
   local change = change_of(self.lines, lines)
   if change then
     self:send({ replace = change, caret = self:caret(0) })
+  else
+    vim.bo[self.buffer].modified = self.told.ahead
   end
   self.lines = lines
 end
@@ -202,13 +224,15 @@ end
 -- Plays changes that the program knows. Carets stay where they are in the text, and their lines where they are seen.
 function Room:play(told)
   if told.changes == nil then
-    return self:give_up()
+    return -- the program is over
   end
   local views = {}
   for _, window in ipairs(vim.fn.win_findbuf(self.buffer)) do
     views[window] = { view = api.nvim_win_call(window, vim.fn.winsaveview), caret = self:caret(window) }
   end
-  vim.bo[self.buffer].modifiable = true
+  local options = vim.bo[self.buffer]
+  local is_modified, is_modifiable = options.modified, options.modifiable
+  options.modifiable = true
   for _, it in ipairs(told.changes) do
     local at, removed, text = unpack(it)
     local row, column = self:position(at)
@@ -231,7 +255,7 @@ function Room:play(told)
     end)
   end
   self.lines = api.nvim_buf_get_lines(self.buffer, 0, -1, true)
-  self:show(self.told)
+  options.modified, options.modifiable = is_modified, is_modifiable
 end
 
 -- Undoes one's own last step, or does it again.
@@ -245,7 +269,8 @@ end
 -- Waits until the room has all that was done here, or says what is wrong.
 function Room:write()
   self:step()
-  if self:ask({ flush = true }, "flushed", SENDING).flushed then
+  self.flushes = self.flushes + 1
+  if not self.is_over and self:ask({ flush = self.flushes }, "flushed", SENDING).sent then
     vim.bo[self.buffer].modified = false
   else
     api.nvim_err_writeln("rgatext: the room doesn't have all of it: " .. vim.b[self.buffer].rgatext)
@@ -267,7 +292,7 @@ local function open(buffer)
   if not address then
     return api.nvim_err_writeln("rgatext: a room is ws://HOST:PORT/ROOM")
   end
-  local self = setmetatable({ buffer = buffer, lines = { "" }, answer = {}, is_due = false, is_over = false }, Room)
+  local self = setmetatable({ buffer = buffer, lines = { "" }, answer = {}, flushes = 0, is_due = false, is_over = false }, Room)
   local input, output, held = vim.loop.new_pipe(), vim.loop.new_pipe(), ""
   self.input = input
   local arguments = vim.list_extend(vim.list_extend({}, program), { address, name, "bytes" })
@@ -322,9 +347,17 @@ local function list(lines)
 end
 
 command("RgatextUnsent", function(room)
-  list(vim.tbl_map(function(it)
+  local unsent = room.unsent
+  if not room.is_over then
+    unsent = room:ask({ unsent = true }, "unsent").unsent
+  end
+  if not unsent then
+    return list({ "what the room doesn't have isn't known: its program has ended without a word" })
+  end
+  local lines = vim.tbl_map(function(it)
     return it.kind .. ": " .. it.text
-  end, room:ask({ unsent = true }, "unsent").unsent or {}))
+  end, unsent)
+  list(#lines > 0 and lines or { "the room has all" })
 end)
 command("RgatextOther", function(room)
   local text = room:ask({ other = true }, "other").other
