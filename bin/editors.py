@@ -397,16 +397,22 @@ def signals(it, *kinds):
 
 
 def tries_program_that_ends():
-    """Where the program between is killed the text stays as it is, read-only."""
+    """Where the program between is killed the text stays as it is, read-only, and who leaves what it hadn't read is asked."""
     for it in one_of_each("ended"):
         it.clear()
         it.put("kept ")
-        until(lambda: room_text("ended") == "kept ", "a text")
+        until(lambda: room_text("ended") == "kept " and it.state == "up to date", "a text")
+        signals(it, signal.SIGSTOP)
+        it.put("lost ")
+        until(lambda: it.text == "lost kept ", "more is typed")
         signals(it, signal.SIGKILL)
         until(lambda: it.state == "closed: its program has ended", f"{it.name} is told")
+        it.ask_to_leave()
+        until(lambda: it.refuses in it.screen, f"{it.name} asks")
+        it.stay()
         it.put("no")
         time.sleep(0.5)
-        assert it.text == "kept " == room_text("ended"), it.text
+        assert (it.text, room_text("ended")) == ("lost kept ", "kept "), it.text
         it.show_unsent()
         until(lambda: "ended without a word" in it.screen, "nobody knows what is unsent")
 

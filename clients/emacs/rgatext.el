@@ -87,6 +87,7 @@ Nothing is typed meanwhile."
          (is-done (lambda ()
                     (let ((answer (rgatext--room-answer room)))
                       (and (plist-member answer key) (or (null number) (equal number (plist-get answer key)))))))
+         (is-told nil)
          (inhibit-quit t))
     (setf (rgatext--room-answer room) nil)
     (apply #'rgatext--send request)
@@ -96,7 +97,10 @@ Nothing is typed meanwhile."
             (quit-flag
              (setq quit-flag nil)
              (rgatext--give-up))
-            ((> (float-time) (+ began 2)) (message "rgatext: waiting for its program; C-g gives it up"))))
+            ((> (float-time) (+ began 2))
+             (setq is-told t)
+             (message "rgatext: waiting for its program; C-g gives it up"))))
+    (when is-told (message nil))
     (and (funcall is-done) (rgatext--room-answer room))))
 
 ;;;; Changes

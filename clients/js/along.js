@@ -1,4 +1,4 @@
-/** A list of pieces of a text looked at along changes of it, in one pass. */
+/** Lists of pieces of a text, looked at in one pass. */
 
 /**
  * Goes through pieces along changes of their text, of which none overlaps the next, from the last place to the first as they are made.
@@ -33,4 +33,19 @@ export function* along(changes, pieces, units) {
     if (index >= pieces.length) return;
     if (length === 0) yield [within, pieces[index]];
   }
+}
+
+/**
+ * Pieces, of which neighbours of one kind are one.
+ * @template {{isLike(other: P): boolean, join(next: P): void}} P
+ * @param {P[]} pieces
+ */
+export function joined(pieces) {
+  /** @type {P[]} */
+  const list = [];
+  for (const piece of pieces) {
+    if (list.at(-1)?.isLike(piece)) list.at(-1).join(piece);
+    else list.push(piece);
+  }
+  return list;
 }

@@ -4,7 +4,7 @@
  *
  * The text is a list of pieces. What was taken out and may come back stands hidden among them, so it comes back where it stood.
  */
-import { along } from "./along.js";
+import { along, joined } from "./along.js";
 import { carried, runs } from "./changes.js";
 
 /** @typedef {import("./changes.js").Change} Change */
@@ -56,16 +56,6 @@ class Piece {
     this.length += next.length;
     if (this.isHidden) this.text += next.text;
   }
-}
-
-/** Pieces, of which neighbours of one kind are one. */
-function joined(pieces) {
-  const list = [];
-  for (const piece of pieces) {
-    if (list.at(-1)?.isLike(piece)) list.at(-1).join(piece);
-    else list.push(piece);
-  }
-  return list;
 }
 
 /** How many units of the text a piece is. */

@@ -9,7 +9,7 @@
  * @typedef {import("./count.js").Count} Count
  */
 import { size } from "./count.js";
-import { along, difference, differences, runs } from "./module.js";
+import { along, difference, differences, joined, runs } from "./module.js";
 
 class Piece {
   constructor(text, owner) {
@@ -25,16 +25,14 @@ class Piece {
   part(start, end) {
     return new Piece(this.text.slice(start, end), this.owner);
   }
-}
 
-/** Pieces, of which neighbours of one kind are one. */
-function joined(pieces) {
-  const list = [];
-  for (const piece of pieces) {
-    if (list.at(-1)?.owner === piece.owner) list.at(-1).text += piece.text;
-    else list.push(piece);
+  isLike(other) {
+    return this.owner === other.owner;
   }
-  return list;
+
+  join(next) {
+    this.text += next.text;
+  }
 }
 
 /** How many units of one of the texts a piece is. */

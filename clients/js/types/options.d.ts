@@ -15,7 +15,7 @@ export const OPERATIONS: 131072;
  * @property {number} [retry] until a line is tried again, at first; each time twice as long
  * @property {number} [longest] until a line is tried again, at most
  * @property {number} [shut] until a room is asked again that took nothing more
- * @property {number} [closing] until a session that is closed leaves the room, where something is new
+ * @property {number} [closing] until a session that is closed has ended, at most
  * @property {number} [typing] between two rounds of a typist
  * @property {number} [idle] between two pulls that bring nothing
  * @property {number} [quiet] without news until that becomes longer
@@ -52,7 +52,7 @@ export type Options = {
      */
     shut?: number | undefined;
     /**
-     * until a session that is closed leaves the room, where something is new
+     * until a session that is closed has ended, at most
      */
     closing?: number | undefined;
     /**

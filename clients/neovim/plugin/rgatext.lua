@@ -68,6 +68,9 @@ Room.__index = Room
 local rooms = {} -- of each buffer
 
 function Room:send(request)
+  if self.is_over then
+    return
+  end
   local line = vim.json.encode(request):gsub("[\128-\255]+", spelled)
   self.input:write(line .. "\n")
 end
@@ -95,7 +98,7 @@ function Room:ask(request, key, milliseconds)
     local value = self.answer[key]
     return self.is_over or (value ~= nil and (not request.flush or value == request.flush))
   end
-  local till = vim.loop.now() + (milliseconds or ANSWER)
+  local till, is_told = vim.loop.now() + (milliseconds or ANSWER), false
   while not is_done() do
     local _, why = vim.wait(math.max(0, till - vim.loop.now()), is_done, 1, true)
     local is_late = vim.loop.now() >= till
@@ -106,8 +109,11 @@ function Room:ask(request, key, milliseconds)
     elseif is_late then
       api.nvim_echo({ { "rgatext: waiting for its program; CTRL-C gives it up", "WarningMsg" } }, false, {})
       vim.cmd("redraw")
-      till = till + ANSWER
+      till, is_told = till + ANSWER, true
     end
+  end
+  if is_told then
+    api.nvim_echo({ { "" } }, false, {})
   end
   return self.answer
 end
@@ -270,7 +276,7 @@ end
 function Room:write()
   self:step()
   self.flushes = self.flushes + 1
-  if not self.is_over and self:ask({ flush = self.flushes }, "flushed", SENDING).sent then
+  if self:ask({ flush = self.flushes }, "flushed", SENDING).sent then
     vim.bo[self.buffer].modified = false
   else
     api.nvim_err_writeln("rgatext: the room doesn't have all of it: " .. vim.b[self.buffer].rgatext)
@@ -280,10 +286,8 @@ end
 -- Leaves the room. The program ends once what is new was sent, in two seconds.
 function Room:leave()
   rooms[self.buffer] = nil
-  if not self.is_over then
-    self:flush()
-    self:send({ close = true })
-  end
+  self:flush()
+  self:send({ close = true })
 end
 
 -- Opens the room that a buffer is named after.
@@ -347,10 +351,7 @@ local function list(lines)
 end
 
 command("RgatextUnsent", function(room)
-  local unsent = room.unsent
-  if not room.is_over then
-    unsent = room:ask({ unsent = true }, "unsent").unsent
-  end
+  local unsent = room.is_over and room.unsent or room:ask({ unsent = true }, "unsent").unsent
   if not unsent then
     return list({ "what the room doesn't have isn't known: its program has ended without a word" })
   end
