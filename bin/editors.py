@@ -388,12 +388,12 @@ def tries_leaving():
             assert [line.ask(t="leave", s=s)["r"] for s in range(1, number + 1)] == ["no"] * (number - 1) + ["left"], "a session is left"
 
 
-def signals(it, *kinds):
-    """Sends signals to the program between an editor and its room."""
-    for child in pathlib.Path(f"/proc/{it.pid}/task/{it.pid}/children").read_text().split():
-        if b"rgatext-stdio" in pathlib.Path(f"/proc/{child}/cmdline").read_bytes():
-            for kind in kinds:
-                os.kill(int(child), kind)
+def program_of(it):
+    """The number of the program between an editor and its room."""
+    found = [it.pid]
+    for pid in found:
+        found += pathlib.Path(f"/proc/{pid}/task/{pid}/children").read_text().split()
+    return int([pid for pid in found if b"rgatext-stdio" in pathlib.Path(f"/proc/{pid}/cmdline").read_bytes()][-1])
 
 
 def tries_program_that_ends():
@@ -402,10 +402,11 @@ def tries_program_that_ends():
         it.clear()
         it.put("kept ")
         until(lambda: room_text("ended") == "kept " and it.state == "up to date", "a text")
-        signals(it, signal.SIGSTOP)
+        program = program_of(it)
+        os.kill(program, signal.SIGSTOP)
         it.put("lost ")
         until(lambda: it.text == "lost kept ", "more is typed")
-        signals(it, signal.SIGKILL)
+        os.kill(program, signal.SIGKILL)
         until(lambda: it.state == "closed: its program has ended", f"{it.name} is told")
         it.ask_to_leave()
         until(lambda: it.refuses in it.screen, f"{it.name} asks")
@@ -430,7 +431,7 @@ def tries_program_that_ends_with_unsent_text():
             it.ask_to_leave()
             until(lambda: it.refuses in it.screen, f"{it.name} asks, though the buffer says that it isn't modified")
             it.stay()
-        signals(it, signal.SIGTERM)
+        os.kill(program_of(it), signal.SIGTERM)
         until(lambda: it.state == "closed: its program has ended", f"{it.name} is told")
         it.show_unsent()
         until(lambda: "put in: unsent" in it.screen, "what is unsent")
@@ -446,18 +447,19 @@ def tries_program_that_is_slow():
         it.clear()
         it.put("slow ")
         until(lambda: room_text("ended") == "slow " and it.state == "up to date", "a text")
-        signals(it, signal.SIGSTOP)
+        program = program_of(it)
+        os.kill(program, signal.SIGSTOP)
         it.undo()
         until(lambda: "waiting for its program" in it.screen, f"{it.name} says that it waits")
-        signals(it, signal.SIGCONT)
+        os.kill(program, signal.SIGCONT)
         until(lambda: it.text == "" == room_text("ended") and it.state == "up to date", "it goes on")
-        signals(it, signal.SIGSTOP)
+        os.kill(program, signal.SIGSTOP)
         it.put("typed ")
         it.undo()
         it.keys(it.gives_up)
         until(lambda: it.state == "closed: its program has ended", f"{it.name} has given it up")
         assert it.text == "typed ", it.text
-        signals(it, signal.SIGCONT)
+        os.kill(program, signal.SIGCONT)
 
 
 def tries_another_text():

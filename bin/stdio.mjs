@@ -77,8 +77,12 @@ function taken(bytes) {
 
 function framed(text) {
   const bytes = Buffer.from(text);
-  const head = Buffer.from([0x81, 127, 0, 0, 0, 0, 0, 0, 0, 0]);
-  head.writeBigUInt64BE(BigInt(bytes.length), 2);
+  const { length } = bytes;
+  const head = Buffer.alloc(length < 126 ? 2 : length < 65_536 ? 4 : 10);
+  head[0] = 0x81;
+  head[1] = { 2: length, 4: 126, 10: 127 }[head.length];
+  if (head.length === 4) head.writeUInt16BE(length, 2);
+  if (head.length === 10) head.writeBigUInt64BE(BigInt(length), 2);
   return Buffer.concat([head, bytes]);
 }
 
@@ -89,7 +93,8 @@ class Editor {
   #looks = () => {};
 
   constructor({ address }) {
-    this.child = spawn(process.execPath, ["--experimental-websocket", "--no-warnings", PROGRAM, address, "notes"], { stdio: ["pipe", "pipe", "inherit"] });
+    const words = ["--experimental-websocket", "--no-warnings", PROGRAM, address, "notes"];
+    this.child = spawn(process.execPath, words, { stdio: ["pipe", "pipe", "inherit"] });
     this.ended = new Promise((resolve) => this.child.on("close", resolve));
     createInterface({ input: this.child.stdout }).on("line", (line) => {
       this.told.push(JSON.parse(line));

@@ -121,7 +121,9 @@ class Emacs(Terminal):
     def __init__(self, work, name, port, room="notes"):
         self.socket, self.buffer = work / f"{name}.socket", f"ws://127.0.0.1:{port}/{room}"
         start = f'(setq server-name "{self.socket}" ring-bell-function #\'ignore) (server-start)'
-        began = f'(progn {start} (rgatext "ws://127.0.0.1:{port}" "{room}"))'
+        # (a child that is stopped Emacs doesn't talk to: that is a shell, and the program is its child)
+        shell = '(setq rgatext-node (append (list "sh" "-c" "node \\"$@\\"; exit" "sh") (cdr rgatext-node)))'
+        began = f'(progn {start} {shell} (rgatext "ws://127.0.0.1:{port}" "{room}"))'
         super().__init__(work, name, ["emacs", "-nw", "-Q", "-l", str(TOP / "clients" / "emacs" / "rgatext.el"), "--eval", began])
 
     def ask(self, expression):

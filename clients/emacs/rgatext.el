@@ -59,8 +59,9 @@
 
 (defun rgatext--hear (told)
   "Do what a line asks that was TOLD."
-  (cond ((plist-get told :state) (rgatext--show told))
-        ((plist-get told :closed) (setf (rgatext--room-unsent rgatext--room) (plist-get told :unsent)))
+  (cond ((plist-get told :closed) (setf (rgatext--room-unsent rgatext--room) (plist-get told :unsent)))
+        ((rgatext--room-is-over rgatext--room))
+        ((plist-get told :state) (rgatext--show told))
         ((plist-get told :refused) (message "rgatext: %s" (plist-get told :refused)))
         ((plist-get told :wrong)
          (message "rgatext: %s" (plist-get told :wrong))

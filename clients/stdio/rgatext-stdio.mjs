@@ -9,8 +9,8 @@ const [address, room, counted = "units", ...more] = process.argv.slice(2);
 const count = Object.hasOwn(COUNTS, counted) ? COUNTS[counted] : undefined;
 
 /** Milliseconds for which is read at most what was written before a signal, and without a line until all of it is. */
-const READING = 1_000;
-const SILENCE = 50;
+const READING = 2_000;
+const SILENCE = 200;
 
 /** A line that isn't as it should be. Nothing of it was done. */
 class Wrong extends Error {}

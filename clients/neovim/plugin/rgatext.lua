@@ -119,7 +119,7 @@ function Room:ask(request, key, milliseconds)
 end
 
 function Room:hear(told)
-  if not api.nvim_buf_is_loaded(self.buffer) then
+  if self.is_over or not api.nvim_buf_is_loaded(self.buffer) then
     return
   elseif told.news then
     self.has_news = true
@@ -146,11 +146,17 @@ end
 -- Shows how the session stands: in the status line, by 'modified' and by 'modifiable'.
 function Room:show(told)
   self.told = told
+  self.is_untold = self.is_untold and not told.ahead
   local scarce = told.why == "" and told.left < SCARCE and ("; the room takes %d more changes"):format(told.left) or ""
   vim.b[self.buffer].rgatext = told.state .. (told.why == "" and "" or ": " .. told.why) .. scarce
-  vim.bo[self.buffer].modified = told.ahead or self.is_due
+  self:show_modified()
   vim.bo[self.buffer].modifiable = told.state ~= "refused" and told.state ~= "closed"
   vim.cmd("redrawstatus!")
+end
+
+-- 'modified' is what was typed and the program hasn't said to be in the room.
+function Room:show_modified()
+  vim.bo[self.buffer].modified = self.told.ahead or self.is_due or self.is_untold
 end
 
 -- The program has ended, and nobody carries changes any more.
@@ -182,10 +188,10 @@ function Room:flush()
   local change = change_of(self.lines, lines)
   if change then
     self:send({ replace = change, caret = self:caret(0) })
-  else
-    vim.bo[self.buffer].modified = self.told.ahead
+    self.is_untold = not self.told.ahead
   end
   self.lines = lines
+  self:show_modified()
 end
 
 function Room:step()
@@ -237,7 +243,7 @@ function Room:play(told)
     views[window] = { view = api.nvim_win_call(window, vim.fn.winsaveview), caret = self:caret(window) }
   end
   local options = vim.bo[self.buffer]
-  local is_modified, is_modifiable = options.modified, options.modifiable
+  local is_modifiable = options.modifiable
   options.modifiable = true
   for _, it in ipairs(told.changes) do
     local at, removed, text = unpack(it)
@@ -261,7 +267,9 @@ function Room:play(told)
     end)
   end
   self.lines = api.nvim_buf_get_lines(self.buffer, 0, -1, true)
-  options.modified, options.modifiable = is_modified, is_modifiable
+  options.modifiable = is_modifiable
+  self.is_untold = false -- (it read all that it was sent)
+  self:show_modified()
 end
 
 -- Undoes one's own last step, or does it again.
@@ -277,7 +285,8 @@ function Room:write()
   self:step()
   self.flushes = self.flushes + 1
   if self:ask({ flush = self.flushes }, "flushed", SENDING).sent then
-    vim.bo[self.buffer].modified = false
+    self.is_untold = false
+    self:show_modified()
   else
     api.nvim_err_writeln("rgatext: the room doesn't have all of it: " .. vim.b[self.buffer].rgatext)
   end
@@ -297,6 +306,7 @@ local function open(buffer)
     return api.nvim_err_writeln("rgatext: a room is ws://HOST:PORT/ROOM")
   end
   local self = setmetatable({ buffer = buffer, lines = { "" }, answer = {}, flushes = 0, is_due = false, is_over = false }, Room)
+  self.is_untold = false -- whether something was sent to the program of which it has told nothing
   local input, output, held = vim.loop.new_pipe(), vim.loop.new_pipe(), ""
   self.input = input
   local arguments = vim.list_extend(vim.list_extend({}, program), { address, name, "bytes" })
