@@ -157,8 +157,8 @@ export function freeSite(told) {
   return site;
 }
 
-/** A room that was renewed: with the text of another one, as one site typed it, but for the last operations. */
-export async function renewedRun(room, without = 0, site = 0) {
+/** A room that was renewed: with the text of another one, as one site typed it, but for the last operations. `old`: what its server had. */
+export async function renewedRun(room, without = 0, site = 0, old = []) {
   const kept = await keptRun(room, without, READER); // (a run of a site in the log would refuse what that did)
   const text = await textOf(kept);
   kept.close();
@@ -171,14 +171,17 @@ export async function renewedRun(room, without = 0, site = 0) {
     k += x.length;
     v += characters(x);
   }
-  const renewed = new Room(freeSite(await singlesOf(typist)));
+  const renewed = new Room(freeSite([...old, ...(await singlesOf(typist))]));
   await renewed.refill(await typist.operations());
   typist.close();
   return renewed;
 }
 
-/** A room that its server renewed: with all of the text, as the least site typed it that the log lacks. */
-export const anewRun = async (room) => renewedRun(room, 0, freeSite(await singlesOf(room)));
+/** A room that its server renewed: with all of the text, as the least site typed it that the log lacks, in a run of one that both lack. */
+export async function anewRun(room) {
+  const old = await singlesOf(room);
+  return renewedRun(room, 0, freeSite(old), old);
+}
 
 export async function end(...ways) {
   for (const { editor } of ways) await editor.session.close();
