@@ -53,6 +53,18 @@ async function losesItsFirstRun() {
   await goOn(new Room(1), ways, "hello world");
 }
 
+/** What was brought from another server knows nothing of what was typed here: of the end that the log loses alone is it put in again. */
+async function losesItsEndBehindABridge() {
+  const way = await begin("hello ");
+  const elsewhere = await roomOf("world", 5);
+  await way.room.refill(await elsewhere.operations());
+  elsewhere.close();
+  await way.comesTo("up to date", "worldhello ");
+  way.editor.change(11, 0, "!");
+  await way.comesTo("up to date", "worldhello !");
+  await goOn(await keptRun(way.room, 1), [way], "worldhello !");
+}
+
 /** While both come back a third types, in the new run, before what was lost. */
 async function losesItsEndWhileAThirdTypes() {
   const ways = await two("hello ", "world");
@@ -301,6 +313,7 @@ async function keepsWhatIsTypedAnew() {
 await Promise.all([
   losesItsEnd(3),
   losesItsEnd(8),
+  losesItsEndBehindABridge(),
   losesItsEndWhileAThirdTypes(),
   losesItsFirstRun(),
   losesDeletions(),

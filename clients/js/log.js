@@ -25,9 +25,11 @@ const FEW = 1_024;
 const AHEAD = 16;
 const TRIES = 4;
 
+const sumOf = (clock) => clock.reduce((sum, [, count]) => sum + count, 0);
+
 /** @returns {Single[]} */
 function singles({ c, k, s, p, x, t }) {
-  const sum = c.reduce((total, [, count]) => total + count, 0);
+  const sum = sumOf(c);
   const sequence = c.find(([site]) => site === s)[1];
   if (k === "d") return [{ sign: "", site: s, sequence, clock: c, stamp: `${[sum, s]}`, of: `${t}` }];
   return [...x].map((sign, n) => ({
@@ -174,18 +176,28 @@ export class Log {
    */
   async isOfRun(site) {
     for (let tries = 0; tries < TRIES; tries += 1) {
-      const last = await this.#singles(Math.max(0, this.#end - 1));
-      this.#end += Math.max(0, last.length - 1);
-      const clock = new Map(last.at(-1)?.clock ?? []);
-      clock.set(site, (clock.get(site) ?? 0) + 1);
-      const c = [...clock].sort(([one], [other]) => one - other);
-      const sum = c.reduce((total, [, count]) => total + count, 0);
-      const reply = await this.#ask({ t: "put", ops: [{ c, k: "d", s: site, t: [sum, site] }] });
+      const sequence = 1 + (await this.#countOf(site));
+      const reply = await this.#ask({ t: "put", ops: [{ c: [[site, sequence]], k: "d", s: site, t: [sequence, site] }] });
       if (reply.r === "no") throw new Refused(reply.n);
       const [[, why]] = reply.os;
       if (why !== 17) return why === 16;
     }
     return true; // the site's operations come faster than they are asked for
+  }
+
+  /** How many operations of a site the log has: as the last of them tells, or the last one that knew all before it. */
+  async #countOf(site) {
+    let start = Math.max(0, this.#end - 1);
+    let found = await this.#singles(start);
+    this.#end = Math.max(this.#end, start + found.length);
+    while (start > 0 || found.length > 0) {
+      const last = found.findLast((it, n) => it.site === site || sumOf(it.clock) === start + n + 1);
+      if (last !== undefined) return new Map(last.clock).get(site) ?? 0;
+      const count = Math.min(start, MOST);
+      start -= count;
+      found = await this.#singles(start, count);
+    }
+    return 0;
   }
 
   /**

@@ -252,7 +252,7 @@ class Session:
         kept = self.past.version_of(text)
         if kept is not None:
             return kept, len(text)
-        return self.past.version if not log or is_of_run(self._ask, log[0].stamp[1], len(log)) else None, None
+        return self.past.version if not log or is_of_run(self._ask, log[0].stamp[1], log) else None, None
 
     def _go_on(self, joined, log, kept, begin):
         goes_on, self.before = begin == self.version == self.past.in_common(log), list(self.text)

@@ -82,11 +82,10 @@ def edits_of(log, version):
             yield ["n"]
 
 
-def is_of_run(ask, site, version):
+def is_of_run(ask, site, log):
     """Whether a site is that of the server's run: a room of another one refuses this deletion since what it deletes isn't there."""
-    clock = dict(ask({"t": "ops", "after": version - 1, "max": 1})["ops"][0]["c"])
-    clock[site] = clock.get(site, 0) + 1
-    deletion = {"c": sorted(map(list, clock.items())), "k": "d", "s": site, "t": [sum(clock.values()), site]}
+    sequence = 1 + sum(it.stamp[1] == site for it in log)
+    deletion = {"c": [[site, sequence]], "k": "d", "s": site, "t": [sequence, site]}
     return ask({"t": "put", "ops": [deletion]})["os"][0] in (["no", 16], ["no", 17])
 
 
