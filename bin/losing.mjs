@@ -161,20 +161,27 @@ async function isRenewedTwiceWhileAway(at) {
   await goOn(other.room, ways, `> ${text}`);
 }
 
-/** One who joined a room long after its server had renewed it loses what it typed, and more of the log than it knows. */
-async function losesItsEndBehindARenewal() {
+/**
+ * One who joined a room long after its server had renewed it loses what it typed, and more of the log than it knows. `brought`: what came
+ * there from another server.
+ */
+async function losesItsEndBehindARenewal(brought) {
   const room = await anewRun(await roomOf(`${WHALE} The end.`, 0));
   await deletedBy(room, WHALE.length, 9);
   await typedBy(room, WHALE.length, " More was typed since.");
   const pasted = "0123456789".repeat(8);
   await typedBy(room, 0, pasted.slice(0, 64));
   await typedBy(room, 64, pasted.slice(64));
+  const elsewhere = await roomOf(brought, 5);
+  await room.refill(await elsewhere.operations());
+  elsewhere.close();
   const text = `${WHALE} More was typed since.`;
+  const more = pasted + brought;
   const way = new Way(room);
-  await way.comesTo("up to date", pasted + text);
-  way.editor.change(80 + text.length, 0, " And the end.");
-  await way.comesTo("up to date", `${pasted}${text} And the end.`);
-  await goOn(await keptRun(room, 93, 3), [way], `${text} And the end.`);
+  await way.comesTo("up to date", more + text);
+  way.editor.change(more.length + text.length, 0, " And the end.");
+  await way.comesTo("up to date", `${more}${text} And the end.`);
+  await goOn(await keptRun(room, 93 + brought.length, 3), [way], `${text} And the end.`);
 }
 
 /** A room without text is renewed, which leaves it no log: what was deleted stays away. */
@@ -330,7 +337,8 @@ await Promise.all([
   isRenewed("a", "b", anewRun),
   isRenewedEmpty(),
   isRenewedTwice(),
-  losesItsEndBehindARenewal(),
+  losesItsEndBehindARenewal(""),
+  losesItsEndBehindARenewal("Elsewhere "),
   isRenewedTwiceWhileAway(WHALE.length),
   isRenewedTwiceWhileAway(WHALE.length + RABBIT.length),
   isFarBehind(),

@@ -64,7 +64,7 @@ export class Document {
     this.memory = new Memory(version, last);
     /** The site of the server's run, once an accepted submission has told it. @type {number | null} */
     this.site = null;
-    /** How many operations of each site the log had where the room was joined, as its last one told. @type {Map<number, number>} */
+    /** How many operations of each site the log had where the room was joined, as its last ones told. @type {Map<number, number>} */
     this.counts = new Map();
   }
 

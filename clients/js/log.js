@@ -48,7 +48,7 @@ const isLike = (known, single) => known.sign === single.sign && (known.site === 
 export class Log {
   #ask;
   #end = 0; // a version that the log has
-  /** How many operations of each site the last one knew that was told by `last`. @type {Map<number, number>} */
+  /** How many operations of each site those knew that were told by `last`. @type {Map<number, number>} */
   counts = new Map();
 
   /** @param {(request: object) => Promise<import("./connection.js").Reply>} ask */
@@ -72,7 +72,8 @@ export class Log {
     this.#end = version;
     const max = Math.min(version, SIGNS);
     const last = await this.#singles(version - max, max);
-    this.counts = new Map(last.at(-1)?.clock ?? []);
+    this.counts = new Map();
+    for (const [site, count] of last.flatMap(({ clock }) => clock)) this.counts.set(site, Math.max(count, this.counts.get(site) ?? 0));
     return last.map(({ sign, site }) => ({ sign, site }));
   }
 
