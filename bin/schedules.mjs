@@ -6,7 +6,7 @@ import { USUAL } from "../clients/js/options.js";
 import { Lost, open, Refused, Session } from "../clients/js/rgatext.js";
 import { pause } from "../clients/js/seat.js";
 import { Line, Room, until } from "./room.mjs";
-import { begin, deletedBy, end, endsAs, keptRun, textOf, typedBy, Way } from "./way.mjs";
+import { begin, deletedBy, end, endsAs, keptRun, roomOf, textOf, typedBy, Way } from "./way.mjs";
 
 /** A line that is cut while the user is to choose, and then the right run of three. */
 async function isCutWhileChoosing() {
@@ -312,6 +312,33 @@ async function leavesWhatItJoined() {
   await endsAs(way, "hello");
 }
 
+/** In another run the number of a session that was never used is that of another client, which has other versions: that isn't left. */
+async function leavesOthersAlone() {
+  const way = await begin("hello", false);
+  const kept = await keptRun(way.room);
+  await typedBy(kept, 5, "!");
+  const { s } = await kept.ask({ t: "join", u: 16 });
+  way.cut(kept);
+  await way.comesTo("up to date", "hello!");
+  assert.equal((await kept.ask({ t: "leave", s })).r, "left");
+  await end(way);
+}
+
+/** The line was lost right behind `joined`, and in another run the number is another client's, or one's own again: that isn't left. */
+async function joinsUnderOneNumber(others) {
+  const way = new Way(await roomOf("hello", 1));
+  await way.loseOnce("answer", "ops");
+  const kept = new Room(2);
+  for (let n = 0; n < others; n += 1) await kept.ask({ t: "join", u: 16 });
+  await kept.refill(await way.room.operations());
+  way.isUp = true;
+  way.cut(kept);
+  await way.comesTo("up to date", "hello");
+  const { s } = await kept.ask({ t: "join", u: 16 });
+  for (let n = 1; n < s; n += 1) assert.equal((await kept.ask({ t: "leave", s: n })).r, "left", `session ${n} of ${s} is there`);
+  await end(way);
+}
+
 /** In another run a beginning of what was under way is the submission of who has the same number there: all of it comes. */
 async function isBegunByAnother() {
   const way = await begin("");
@@ -387,6 +414,9 @@ await Promise.all([
   isAcceptedAndDeleted(),
   losesMuchOfItsOwn(),
   leavesWhatItJoined(),
+  leavesOthersAlone(),
+  joinsUnderOneNumber(1),
+  joinsUnderOneNumber(2),
   isBegunByAnother(),
   losesJoin("join"),
   losesJoin("leave"),

@@ -81,25 +81,29 @@ export class Seat {
 
   /** Joins, and gives the room's document. */
   async join() {
+    this.#number = null;
     const { s, v, x } = await this.must({ t: "join", u: 16 });
+    this.#unknown.push({ s, v, x });
+    const room = new Document(x, v, await this.log.last(v));
+    room.counts = this.log.counts;
+    for (; this.#unknown.length > 1; this.#unknown.shift()) await this.#leaveUnknown(this.#unknown[0], room, s);
+    this.#unknown = [];
     this.#number = s;
     this.#last = { n: 0, from: 0, to: 0 };
     this.#underWay = null;
     this.#leaving = null;
-    this.#unknown.push({ s, v, x });
-    const room = new Document(x, v, await this.log.last(v));
-    room.counts = this.log.counts;
-    for (; this.#unknown.length > 1; this.#unknown.shift()) await this.#leaveUnknown(this.#unknown[0], room);
-    this.#unknown = [];
     return room;
   }
 
   /** Leaves what was joined on a line that was lost before its log was known, where it is unused and its text leads to the room's. */
-  async #leaveUnknown({ s, v, x }, { version, roomText }) {
+  async #leaveUnknown({ s, v, x }, { version, roomText }, number) {
+    if (s >= number) return; // another run: the numbers of one go up
     const { n } = await this.#again(1, s);
     if (n !== 8 && n !== 10) return;
     const document = new Document(x, v);
-    document.play((await this.editsSince(document, s)).slice(0, version - v));
+    const edits = await this.editsSince(document, s);
+    if (edits === null) return;
+    document.play(edits.slice(0, version - v));
     if (document.version === version && document.roomText === roomText) await this.ask({ t: "leave", s });
   }
 
@@ -157,13 +161,14 @@ export class Seat {
   }
 
   /**
-   * Whether what was found is one's own, or may be left as such: it is unused and its log the one that is known, so that who else may have
-   * it loses nothing.
+   * Whether what was found is one's own, or may be left as such: it is unused, and its log and versions are those that are known, so that
+   * who else may have it loses nothing.
    * @param {"same" | "unused" | "another"} found
    * @param {Document} document
    */
   async isOwn(found, document) {
-    return found === "same" || (found === "unused" && (await this.log.goesOn(document)));
+    if (found !== "unused" || !(await this.log.goesOn(document))) return found === "same";
+    return (await this.ask({ t: "pull", s: this.#number, have: document.version, max: 1 })).r === "edits";
   }
 
   /** Asks for edits from a version on. */
@@ -185,11 +190,12 @@ export class Seat {
     if (site !== null) memory.sites.add(site);
   }
 
-  /** The edits since a document's version, by a session; none where they aren't to be had. */
+  /** The edits since a document's version, by a session; null where they aren't to be had. */
   async editsSince({ roomText, version }, s = this.#number) {
     const edits = [];
     for (let isMore = true; isMore; ) {
-      const { es = [] } = await this.ask({ t: "pull", s, have: version + edits.length, max: MOST });
+      const { es } = await this.ask({ t: "pull", s, have: version + edits.length, max: MOST });
+      if (es === undefined) return null;
       edits.push(...es);
       isMore = es.length === MOST;
     }
@@ -197,7 +203,7 @@ export class Seat {
       new Document(roomText, version).play(edits);
       return edits;
     } catch (fault) {
-      if (fault instanceof RangeError) return [];
+      if (fault instanceof RangeError) return null;
       throw fault;
     }
   }

@@ -441,11 +441,11 @@ export class Session extends /** @type {{new (): Tells & EventTarget}} */ (Event
    * until the user chooses. `isOwn`: the number is that of a session to leave.
    */
   async #joinAnew(isOwn) {
-    const edits = isOwn && this.#current === this.document ? await this.#seat.editsSince(this.document) : [];
+    const edits = isOwn && this.#current === this.document ? await this.#seat.editsSince(this.document) : null;
     if (isOwn) await this.#seat.giveUp();
     const room = await this.#seat.join();
     this.#joined = room; // where the line is lost before the way is found, the session that is left is known by this
-    const go = await wayTo(this.document, room, this.#seat.log, edits);
+    const go = await wayTo(this.document, room, this.#seat.log, edits ?? []);
     this.#joined = null;
     if (go === null) {
       this.#other = room;
