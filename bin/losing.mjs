@@ -26,18 +26,18 @@ async function two(text, more) {
   return [one, other];
 }
 
-/** Another run begins for all, and the editors come to show a text. */
+/** Another run begins for all, and the editors come to show a text; nobody is asked. */
 async function goOver(room, ways, text) {
   for (const way of ways) way.cut(room);
   for (const way of ways) await way.joins(room);
   for (const way of ways) await way.comesTo("up to date", text);
+  assert.deepEqual(ways.map(({ states }) => states.includes("another text")), ways.map(() => false), "nobody is asked");
 }
 
 /** They go over to another run, whose room has that text, and end. */
 async function goOn(room, ways, text) {
   await goOver(room, ways, text);
   assert.equal(await textOf(room), text);
-  assert.deepEqual(ways.map(({ states }) => states.includes("another text")), ways.map(() => false), "nobody is asked");
   await end(...ways);
 }
 
@@ -195,6 +195,20 @@ async function isRenewedEmpty() {
   await goOn(await anewRun(ways[0].room), ways, "again");
 }
 
+/** While one is away another types what one deleted, and the room is renewed: it stays, since nothing tells it from what was lost. */
+async function typesWhatWasDeleted() {
+  const way = await begin("one two three");
+  way.editor.change(3, 4, "");
+  await way.comesTo("up to date", "one three");
+  way.cutOff();
+  await way.comesTo("offline");
+  await typedBy(way.room, 3, " two");
+  await typedBy(way.room, 0, "> ");
+  way.room = await renewedRun(way.room);
+  way.isUp = true;
+  await endsAs(way, "> one two three");
+}
+
 /** In place of a room there is another document of the same language, which isn't what became of its text: the user is asked. */
 async function isAnotherDocument() {
   const way = await begin(WHALE);
@@ -341,6 +355,7 @@ await Promise.all([
   losesItsEndBehindARenewal("Elsewhere "),
   isRenewedTwiceWhileAway(WHALE.length),
   isRenewedTwiceWhileAway(WHALE.length + RABBIT.length),
+  typesWhatWasDeleted(),
   isFarBehind(),
   isAnotherDocument(),
   cameAndIsMostlyDeleted(),
