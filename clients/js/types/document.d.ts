@@ -10,7 +10,7 @@ export class Document {
     memory: Memory;
     /** The site of the server's run, once an accepted submission has told it. @type {number | null} */
     site: any;
-    /** How many operations of each site the log had where the room was joined, as its last one told. @type {Map<number, number>} */
+    /** How many operations of each site the log had where the room was joined, as its last ones told. @type {Map<number, number>} */
     counts: Map<any, any>;
     /** The text that is shown. */
     get text(): string;

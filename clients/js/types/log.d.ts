@@ -1,7 +1,7 @@
 export class Log {
     /** @param {(request: object) => Promise<import("./connection.js").Reply>} ask */
     constructor(ask: (request: object) => Promise<import("./connection.js").Reply>);
-    /** How many operations of each site the last one knew that was told by `last`. @type {Map<number, number>} */
+    /** How many operations of each site those knew that were told by `last`. @type {Map<number, number>} */
     counts: Map<any, any>;
     /**
      * The last operations up to a version.

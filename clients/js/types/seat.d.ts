@@ -41,12 +41,12 @@ export class Seat {
      */
     findOut(document: Document): Promise<"same" | "unused" | "another">;
     /**
-     * Whether what was found is one's own, or may be left as such: it is unused and its log the one that is known, so that who else may have
-     * it loses nothing.
+     * Whether what was found is one's own, or may be left as such: it is unused, and its log and versions are those that are known, so that
+     * who else may have it loses nothing.
      * @param {"same" | "unused" | "another"} found
      * @param {Document} document
      */
-    isOwn(found: "same" | "unused" | "another", document: Document): Promise<any>;
+    isOwn(found: "same" | "unused" | "another", document: Document): Promise<boolean>;
     /** Asks for edits from a version on. */
     pull(have: any): Promise<import("./connection.js").Reply>;
     /** The edits of a reply to a pull; none where memory was refused, which is waited for. */
@@ -56,11 +56,11 @@ export class Seat {
         version: any;
         memory: any;
     }): Promise<void>;
-    /** The edits since a document's version, by a session; none where they aren't to be had. */
+    /** The edits since a document's version, by a session; null where they aren't to be had. */
     editsSince({ roomText, version }: {
         roomText: any;
         version: any;
-    }, s?: null): Promise<any[]>;
+    }, s?: null): Promise<any[] | null>;
     /**
      * The request of what a document has to be submitted, of what was made before an order: the same again, while its answer wasn't seen.
      * What isn't sent isn't under way.
