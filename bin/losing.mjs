@@ -184,6 +184,40 @@ async function losesItsEndBehindARenewal(brought) {
   await goOn(await keptRun(room, 93 + brought.length, 3), [way], `${text} And the end.`);
 }
 
+/** One who has just joined loses what it typed, and so many operations of another that it had joined with, of which it deleted one. */
+async function losesItsEndBehindAJoin(without) {
+  const other = new Way(await keptRun(await roomOf(WHALE, 1)));
+  await other.comesTo("up to date", WHALE);
+  const pasted = "0123456789".repeat(8);
+  other.editor.change(0, 0, pasted);
+  await other.comesTo("up to date", pasted + WHALE);
+  const way = new Way(other.room);
+  await way.comesTo("up to date", pasted + WHALE);
+  way.editor.change(80 + WHALE.length, 0, RABBIT);
+  way.editor.change(60, 1, "");
+  const text = pasted.slice(0, 60) + pasted.slice(61) + WHALE + RABBIT;
+  for (const it of [other, way]) await it.comesTo("up to date", text);
+  await goOn(await keptRun(other.room, RABBIT.length + 1 + without, 3), [other, way], text);
+}
+
+/** A room is renewed by hand, twice, with texts of one length, and another joins between: what it typed is there once. */
+async function isRenewedToOneLength() {
+  const other = new Way(await renewedRun(await roomOf(WHALE, 1)));
+  await other.comesTo("up to date", WHALE);
+  const pasted = "0123456789".repeat(8);
+  other.editor.change(0, 0, pasted);
+  await other.comesTo("up to date", pasted + WHALE);
+  const way = new Way(other.room);
+  await way.comesTo("up to date", pasted + WHALE);
+  way.editor.change(80 + WHALE.length, 0, "!");
+  for (const it of [other, way]) await it.comesTo("up to date", `${pasted}${WHALE}!`);
+  way.cutOff();
+  await way.comesTo("offline");
+  other.editor.change(0, 81, "");
+  await other.comesTo("up to date", `${WHALE.slice(1)}!`);
+  await goOn(await renewedRun(other.room), [other, way], `${WHALE.slice(1)}!`);
+}
+
 /** A room without text is renewed, which leaves it no log: what was deleted stays away. */
 async function isRenewedEmpty() {
   const ways = await two("hello ", "world");
@@ -351,6 +385,9 @@ await Promise.all([
   isRenewed("a", "b", anewRun),
   isRenewedEmpty(),
   isRenewedTwice(),
+  losesItsEndBehindAJoin(30),
+  losesItsEndBehindAJoin(70),
+  isRenewedToOneLength(),
   losesItsEndBehindARenewal(""),
   losesItsEndBehindARenewal("Elsewhere "),
   isRenewedTwiceWhileAway(WHALE.length),

@@ -348,12 +348,18 @@ export class Document {
     return more;
   }
 
-  /** The room has another text by now, of a version whose way from this one isn't known: what both have in common stays. */
-  follow({ roomText, version, memory }) {
+  /**
+   * The room has another text by now, of a version whose way from this one isn't known: what both have in common stays. `isLost`: what it
+   * lacks it lost.
+   */
+  follow({ roomText, version, memory }, isLost = false) {
     const changes = [];
     const ways = [];
     for (const { at, removed, text } of differences(this.roomText, roomText)) {
-      ways.push({ at, taken: this.#pieces.take(at, removed, changes).map(remembered), put: text });
+      const pieces = this.#pieces.rooms(at, removed);
+      ways.push({ at, taken: pieces.map(remembered), put: text });
+      if (isLost) for (const piece of pieces) this.#pieces.lose(piece, changes);
+      else this.#pieces.take(at, removed, changes);
       if (text !== "") this.#pieces.put(at, text, changes);
     }
     const known = memory.last(version);
@@ -392,9 +398,7 @@ export class Document {
       } else if (isOwn || piece.gone === "others") {
         list.splice(index, 1); // it was deleted since
       } else {
-        if (piece.isShown) add(changes, { at: this.#pieces.shownPlace(index), removed: piece.text.length, text: "" });
-        piece.owner = "lost";
-        piece.gone ??= "others";
+        this.#pieces.lose(piece, changes);
       }
     }
     const old = taken.map(({ text, isMine, since }) => new Piece(text, "room", isMine ? "new" : "others", 0, since));

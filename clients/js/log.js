@@ -102,12 +102,13 @@ export class Log {
    * @param {Document} document
    */
   async upTo({ version, memory }) {
+    const { joined } = memory;
     const { start, known } = memory.known;
-    const isKnown = (at) => at <= memory.base || known[at - start - 1] !== undefined;
+    const isKnown = (at) => at <= joined || known[at - start - 1] !== undefined;
     let kept = version;
     for (let back = SIGNS; ; back *= 2) {
       const before = kept;
-      kept = Math.max(memory.base, version - back);
+      kept = Math.max(joined, version - back);
       if (!isKnown(kept)) {
         let end = kept; // of a text that was joined nothing is known but its end, which is looked at once
         while (!isKnown(end)) end += 1;
@@ -117,12 +118,7 @@ export class Log {
       }
       const last = memory.last(kept);
       if (kept === 0 || (last.length > 0 && (await this.#isAt(kept - last.length, last)))) break;
-      if (kept === memory.base) return this.#wasBefore(memory);
-    }
-    if (kept === 0 && !isKnown(1)) {
-      const isWhole = known.findIndex((it) => it !== undefined) <= FEW && (await this.#isOfOneOf(memory.sites));
-      if (await this.#isEmpty()) return isWhole ? { kept, isSure: true } : null;
-      return { kept, isSure: false, isWhole };
+      if (kept === joined) return this.#before(memory);
     }
     const same = new Set(memory.last(kept).map(({ site }) => site));
     const firsts = new Map(); // where each site begins among what is as it was known
@@ -145,14 +141,17 @@ export class Log {
     return isAgain ? { kept, isSure: false } : null;
   }
 
-  /** Whether the log lost its end soon before what is remembered: no further back can be gone. */
-  async #wasBefore({ base, sites, known: { start, known } }) {
-    const found = await this.#singles(start, base - start);
-    if (found.length === 0 && base <= FEW && (await this.#isEmpty()) && (await this.#isOfOneOf(sites))) return { kept: base, isSure: true };
-    const kept = found.findIndex((it, n) => !isLike(known[n], it));
+  /** What is told of a log that isn't the known one where what is remembered begins: it may have ended before. */
+  async #before({ base, joined, sites, known: { start, known } }) {
+    const first = Math.max(start, joined - SIGNS);
+    const found = await this.#singles(first, joined - first);
+    const kept = found.findIndex((it, n) => !isLike(known[first - start + n], it));
     const next = kept < 0 ? undefined : found[kept];
-    const isSure = found.length > 0 && kept !== 0 && (next === undefined || next.sequence === 1);
-    return isSure ? { kept: base, isSure } : null;
+    const isBefore = found.length > 0 && kept !== 0 && (next === undefined || next.sequence === 1);
+    if (isBefore) return { kept: joined, isSure: true, isBefore };
+    const isWhole = first <= FEW && (await this.#isOfOneOf(sites));
+    if (await this.#isEmpty()) return isWhole ? { kept: base, isSure: true } : null;
+    return base === 0 ? { kept: base, isSure: false, isWhole } : null;
   }
 
   /** Whether one of some sites isn't that of the first operation, which may be known: a new document begins with a text of one site. */

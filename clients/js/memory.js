@@ -72,6 +72,13 @@ export class Memory {
     return { start, known };
   }
 
+  /** The version of the first text that is known: one that was joined, of whose operations the last alone are known, or the base. */
+  get joined() {
+    const { start, known } = this.known;
+    const first = known.findIndex((it) => it !== undefined);
+    return first > 0 ? start + first + SIGNS : this.base;
+  }
+
   /** What is known of the last operations up to a version, at most `SIGNS`. */
   last(version) {
     const { start, known } = this.known;

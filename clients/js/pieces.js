@@ -221,6 +221,13 @@ export class Pieces {
     return taken;
   }
 
+  /** The room lost what others put in: it stands unseen where it stood. */
+  lose(piece, changes) {
+    if (piece.isShown) add(changes, { at: this.shownPlace(this.list.indexOf(piece)), removed: piece.text.length, text: "" });
+    piece.owner = "lost";
+    piece.gone ??= "others";
+  }
+
   /** A character that was under way is the room's now. Where it stands elsewhere than it is shown, what is pending there moves. */
   settle(k, ch, changes) {
     const { list } = this;

@@ -49,21 +49,33 @@ async function wayWithin(document, room, log, edits) {
   const knows = document.version > 0 || found !== null || !document.isWaiting; // any log goes on from nothing, a new document's too
   if (goesOn && knows) return () => settle(document, found, edits);
   const lost = await log.upTo(document);
-  const goBack = () => document.goBack(memory.lengthAt(lost.kept));
-  if (lost?.isSure) return goBack;
+  const goBack = ({ kept, isBefore = false }) => () => {
+    const changes = document.goBack(memory.lengthAt(kept));
+    if (isBefore) {
+      changes.push(...document.follow(room, true));
+      document.renew(room.version, room.memory.last(room.version));
+    }
+    return changes;
+  };
+  if (lost?.isSure) return goBack(lost);
   const first = await log.firstText();
-  if (first?.isNew && wasThere(document, first)) first.isNew = false;
+  const isBefore = memory.joined > 0 && !(lost?.kept > 0) && isShorter(document, room, first);
+  if (isBefore) return goBack({ kept: memory.joined, isBefore });
   const before = first === null ? null : textBefore(document, first.text);
   if (first?.text === document.roomText || (first?.isNew && isLike(before.text, first.text))) return () => renew(document, first, before);
   if (first?.isNew) return null;
   if (goesOn) return () => settle(document, found, edits);
-  return lost?.isWhole || (lost !== null && isLike(document.roomText, room.roomText)) ? goBack : null;
+  return lost?.isWhole || (lost !== null && isLike(document.roomText, room.roomText)) ? goBack(lost) : null;
 }
 
-/** Whether the log began with this text when the room was joined. (A log of site 0 may have as many operations, and be another.) */
-function wasThere({ counts }, { version, last }) {
-  const [{ site }] = last;
-  return site > 0 && counts.get(site) === version;
+/**
+ * Whether a log is the one that was joined, and lost more than is known of it: its first site has as many operations as it had there. A room
+ * that is renewed by hand begins with a text of site 0, which may be as long: then another site has to have as many, too.
+ */
+function isShorter({ counts }, room, first) {
+  const same = [...counts.keys()].filter((site) => room.counts.get(site) === counts.get(site));
+  const site = first?.last[0].site;
+  return same.includes(site) && (same.length > 1 || site > 0 || first.version < counts.get(site));
 }
 
 /** Takes what is under way as what the log has of it, and plays the edits. */

@@ -82,12 +82,15 @@ export class Document {
      * @returns {Change[]}
      */
     play(edits: Edit[], from?: number): Change[];
-    /** The room has another text by now, of a version whose way from this one isn't known: what both have in common stays. */
+    /**
+     * The room has another text by now, of a version whose way from this one isn't known: what both have in common stays. `isLost`: what it
+     * lacks it lost.
+     */
     follow({ roomText, version, memory }: {
         roomText: any;
         version: any;
         memory: any;
-    }): any[];
+    }, isLost?: boolean): any[];
     /**
      * The room has lost all that came behind so many entries of the memory. What was done here since is new again, what others did is
      * undone: they do it again. Gives the changes of the shown text.

@@ -23,10 +23,18 @@ export class Log {
     upTo({ version, memory }: Document): Promise<{
         kept: any;
         isSure: boolean;
+        isBefore: true;
+        isWhole?: undefined;
     } | {
-        kept: number;
+        kept: any;
+        isSure: boolean;
+        isBefore?: undefined;
+        isWhole?: undefined;
+    } | {
+        kept: any;
         isSure: boolean;
         isWhole: boolean;
+        isBefore?: undefined;
     } | null>;
     /**
      * Whether a site is that of the server's run: that takes no operation of its own from elsewhere. This one deletes what isn't there, so

@@ -26,6 +26,8 @@ export class Memory {
         start: number;
         known: (Known | undefined)[];
     };
+    /** The version of the first text that is known: one that was joined, of whose operations the last alone are known, or the base. */
+    get joined(): any;
     /** What is known of the last operations up to a version, at most `SIGNS`. */
     last(version: any): (Known | undefined)[];
     /** How many entries lead to the document's version. */

@@ -31,6 +31,8 @@ export class Pieces {
     put(k: any, text: any, changes: any): void;
     /** Units of the room's text that are deleted, by whom ever. What was gone is gone for good. Gives the pieces. */
     take(k: any, units: any, changes: any): Piece[];
+    /** The room lost what others put in: it stands unseen where it stood. */
+    lose(piece: any, changes: any): void;
     /** A character that was under way is the room's now. Where it stands elsewhere than it is shown, what is pending there moves. */
     settle(k: any, ch: any, changes: any): void;
     /** What was under way is the room's now. */
