@@ -156,6 +156,7 @@ async function rehearse() {
     await server.restart(how, roll(3_000) * roll(2));
     if (roll(10) < 3) server.copied = server.kept = await server.version();
   }
+  await until(() => typists.length === texts.length, late / 1_000);
   await pause(2_000);
   server.rate = 0;
   for (const it of typists) it.isTyping = false;
