@@ -13,14 +13,18 @@ import { USUAL } from "./options.js";
 /** A line over a WebSocket. */
 export class Connection {
   /**
-   * Connects, and opens the room. `Socket` is a class like WebSocket. Rejects with `Lost`, or `Refused` where there is no such room.
+   * Connects, and opens the room. `Socket` is a class like WebSocket. Rejects with `Lost`, also where a signal is aborted before, or with
+   * `Refused` where there is no such room.
    * @param {string} address
    * @param {string} room
+   * @param {AbortSignal} [signal]
    * @returns {Promise<Line>}
    */
-  static async open(address, room, Socket = globalThis.WebSocket, options = USUAL) {
+  static async open(address, room, Socket = globalThis.WebSocket, options = USUAL, signal = undefined) {
     const connection = new Connection(new Socket(address), options);
-    const reply = await connection.ask({ t: "open", room });
+    const close = () => connection.close();
+    signal?.addEventListener("abort", close);
+    const reply = await connection.ask({ t: "open", room }).finally(() => signal?.removeEventListener("abort", close));
     if (reply.r !== "opened") {
       connection.close();
       throw new Refused(reply.n);

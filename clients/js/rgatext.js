@@ -38,7 +38,7 @@ export function open(address, room, { Socket = globalThis.WebSocket, ...options 
   const isThere = typeof Socket === "function";
   if (!isThere) throw new TypeError("there is no WebSocket: start Node 20 with --experimental-websocket, or name a class");
   const times = withUsual(options);
-  const session = new Session(() => Connection.open(address, room, Socket, times), options);
+  const session = new Session((signal) => Connection.open(address, room, Socket, times, signal), options);
   session.isHidden = globalThis.document?.hidden ?? false;
   return session;
 }

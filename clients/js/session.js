@@ -42,7 +42,8 @@ export class Session extends /** @type {{new (): Tells & EventTarget}} */ (Event
   #isPaused = false;
   #isClosing = false; // what is done here is sent, and nothing is taken any more
   #isClosed = false;
-  #isCutOff = false; // no answer is waited for any more
+  #cut = new AbortController(); // aborted where no answer is waited for any more
+  #stopConnecting = () => {};
   #isShut = false; // the room takes nothing more for now
   #isRefused = false; // for good: nothing is tried any more
   #isJoined = false; // the room's text was shown at some time
@@ -52,8 +53,8 @@ export class Session extends /** @type {{new (): Tells & EventTarget}} */ (Event
   #awaited = []; // what callers wait for: whether it has come, and how they are told
 
   /**
-   * `connect` gives an open line to the room, at each call a new one.
-   * @param {() => Promise<Line>} connect
+   * `connect` gives an open line to the room, at each call a new one. Where its signal is aborted nobody waits for that any more.
+   * @param {(signal: AbortSignal) => Promise<Line>} connect
    * @param {import("./options.js").Options} [options]
    */
   constructor(connect, options = {}) {
@@ -77,8 +78,14 @@ export class Session extends /** @type {{new (): Tells & EventTarget}} */ (Event
      */
     this.ready = this.#until(() => this.#isJoined);
     this.ready.catch(() => {});
-    /** Settles when the session has ended; `state` and `why` tell how. */
-    this.ended = this.#run();
+    /**
+     * Settles when the session has ended; `state` and `why` tell how.
+     * @type {Promise<void>}
+     */
+    this.ended = new Promise((resolve, reject) => {
+      this.#cut.signal.addEventListener("abort", () => resolve());
+      this.#run().then(resolve, reject);
+    });
     this.ended.catch(() => {});
   }
 
@@ -264,13 +271,15 @@ export class Session extends /** @type {{new (): Tells & EventTarget}} */ (Event
   async close({ flush = 0 } = {}) {
     this.#isClosing = true;
     if (flush > 0) this.#isPaused = false;
-    const isNew = this.#isServed && this.#other === null && this.document.hasNew();
-    if (isNew || (flush > 0 && this.isAhead)) this.#wake();
+    const isServed = this.#isServed && !this.#isOver && this.#other === null;
+    if (this.isAhead && (isServed || flush > 0)) this.#wake();
     else this.#close();
-    let timer;
-    const late = new Promise((resolve) => (timer = setTimeout(resolve, inTime(flush || this.#options.closing))));
-    await Promise.race([this.ended, late.then(() => this.#cutOff())]);
-    clearTimeout(timer);
+    const timer = setTimeout(() => this.#cutOff(), inTime(flush || this.#options.closing));
+    try {
+      await this.ended;
+    } finally {
+      clearTimeout(timer);
+    }
     return !this.mayBeLost;
   }
 
@@ -281,9 +290,10 @@ export class Session extends /** @type {{new (): Tells & EventTarget}} */ (Event
 
   /** Ends, and waits for no answer. */
   #cutOff() {
-    this.#isCutOff = true;
     this.#close();
     this.#seat.line?.close();
+    this.#cut.abort();
+    this.#stopConnecting();
     this.#tell("closed");
   }
 
@@ -308,11 +318,12 @@ export class Session extends /** @type {{new (): Tells & EventTarget}} */ (Event
     this.#isJoined = true;
     this.#other = null;
     this.#compared = null;
-    this.#tell(this.#isServed ? "sending" : this.state, this.#isServed ? "" : this.why);
+    this.#tell(this.#isServed ? this.#standing : this.state, this.#isServed ? "" : this.why);
     this.#wake();
   }
 
   #tell(state, why = "", number = null) {
+    if (this.#cut.signal.aborted && state !== "closed") return;
     const hasOther = this.#other !== null;
     const isTold = state === this.state && why === this.why && number === this.number && hasOther === this.#hasOther;
     this.#hasOther = hasOther;
@@ -346,7 +357,7 @@ export class Session extends /** @type {{new (): Tells & EventTarget}} */ (Event
   #tellChanges(changes) {
     const told = [];
     for (const change of changes) if (change.removed > 0 || change.text !== "") add(told, change);
-    if (told.length === 0) return;
+    if (told.length === 0 || this.#cut.signal.aborted) return;
     this.#pace.hasNews();
     this.dispatchEvent(new CustomEvent("changes", { detail: told }));
   }
@@ -356,7 +367,7 @@ export class Session extends /** @type {{new (): Tells & EventTarget}} */ (Event
     const { retry, longest } = this.#options;
     for (let wait = retry; !this.#isClosed && !this.#isRefused; wait = Math.min(2 * wait, longest)) {
       try {
-        this.#seat.line = await this.#connect();
+        this.#seat.line = await this.#newLine();
         if (this.#isShut) await this.#awaitRoom();
         await this.#resume();
         this.#isShut = false;
@@ -373,8 +384,20 @@ export class Session extends /** @type {{new (): Tells & EventTarget}} */ (Event
       if (!this.#isClosed && !this.#isRefused) await this.#sleep(wait);
     }
     if (!this.#isClosed) return;
-    if (!this.#isCutOff) await this.#leaveLate();
+    if (!this.#cut.signal.aborted) await this.#leaveLate();
     this.#tell("closed");
+  }
+
+  /** A new line. Where the session is cut off before, none: it is closed once it comes. */
+  async #newLine() {
+    const line = this.#connect(this.#cut.signal);
+    await new Promise((resolve, reject) => {
+      this.#stopConnecting = () => resolve();
+      line.then(resolve, reject);
+    });
+    if (!this.#cut.signal.aborted) return line;
+    line.then((it) => it.close(), () => {});
+    throw new Lost();
   }
 
   /** Says what went wrong, and whether it is for good. A fault that is none of the line's or the room's is thrown on. */
@@ -405,7 +428,7 @@ export class Session extends /** @type {{new (): Tells & EventTarget}} */ (Event
   async #leaveLate() {
     if (await this.#seat.isLeft()) return;
     try {
-      this.#seat.line = await this.#connect();
+      this.#seat.line = await this.#newLine();
       if (await this.#seat.isOwn(await this.#seat.findOut(this.#current), this.#current)) await this.#seat.giveUp();
     } catch {
       // the session stays
@@ -454,6 +477,7 @@ export class Session extends /** @type {{new (): Tells & EventTarget}} */ (Event
     }
     const changes = go();
     this.document.site = null;
+    this.#isServed = true;
     this.#tellChanges(changes);
     this.#goOn();
   }

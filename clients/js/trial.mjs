@@ -137,9 +137,79 @@ async function endsInTime() {
   assert.deepEqual([...sessions, late].map((it) => it.state), Array(4).fill("closed"));
 }
 
-/** A program ends once its session is closed. */
+/** What is typed right when the session is ready is sent; and where it is under way, before others' many edits, it counts as sent then. */
+async function sendsBeforeItEnds() {
+  for (const text of ["hello", "m".repeat(1_000)]) {
+    const room = new MemoryRoom();
+    const session = new Session(() => room.connect({ delay: 5 }));
+    await session.ready;
+    assert.equal(session.state, "up to date");
+    session.insert(0, text);
+    assert.equal(await session.close(), true);
+    assert.deepEqual([room.text, room.sessions, session.unsent], [text, 0, []]);
+  }
+  const room = new MemoryRoom();
+  const [other, session] = [0, 60].map((delay) => new Session(() => room.connect({ delay })));
+  await Promise.all([other.ready, session.ready]);
+  await until(() => session.state === "up to date");
+  session.insert(0, "mine");
+  other.insert(0, "y".repeat(500));
+  await until(() => room.text.includes("mine") && room.text.length === 504);
+  assert.equal(session.isAhead, true, "it doesn't know yet");
+  assert.equal(await session.close(), true);
+  assert.deepEqual(session.unsent, []);
+  await other.close();
+}
+
+/** Once `close` has settled nothing comes any more but the end, also where a line is still being opened. */
+async function endsForGood() {
+  const room = new MemoryRoom();
+  const writer = new Session(() => room.connect());
+  writer.insert(0, "hello");
+  await writer.close({ flush: 5_000 });
+  let line;
+  const late = new Session(async () => {
+    await pause(300);
+    return (line = await room.connect());
+  }, { closing: 100 });
+  const told = [];
+  for (const name of ["state", "changes"]) late.addEventListener(name, () => told.push(name === "state" ? late.state : name));
+  assert.equal(await late.close(), true);
+  await late.ended;
+  await until(() => line !== undefined);
+  await pause(100);
+  assert.deepEqual([told, late.text, room.sessions, line.isOpen], [["closed"], "", 0, false]);
+  const sockets = [];
+  class Socket extends EventTarget {
+    isClosed = false;
+    constructor() {
+      super();
+      sockets.push(this);
+    }
+    close() {
+      this.isClosed = true;
+    }
+  }
+  const never = open("ws://nowhere", "notes", { Socket, closing: 100 });
+  assert.equal(await never.close(), true);
+  await never.ended;
+  assert.deepEqual(sockets.map((it) => it.isClosed), [true], "a line that is being opened is closed");
+  let isBusy = false;
+  const meets = () => (isBusy ? { r: "no", n: 26 } : "");
+  const busy = new Session(() => room.connect({ meets }), { closing: 100, retry: 200 });
+  await busy.ready;
+  isBusy = true;
+  busy.insert(0, "x");
+  await pause(50);
+  assert.equal(await busy.close(), false);
+  busy.addEventListener("state", () => told.push(busy.state));
+  await pause(400);
+  assert.deepEqual([told, busy.state], [["closed"], "closed"]);
+}
+
+/** A program ends once its session is closed, also where that comes to a fault of another kind. */
 async function ends() {
-  const program = `
+  let program = `
     import { MemoryRoom } from ${JSON.stringify(new URL("memory_room.js", import.meta.url))};
     import { Session } from ${JSON.stringify(new URL("rgatext.js", import.meta.url))};
     const room = new MemoryRoom();
@@ -149,6 +219,13 @@ async function ends() {
   const run = () => promisify(execFile)(process.execPath, ["--input-type=module", "--eval", program]);
   const took = await timed(async () => assert.equal((await run()).stdout, "true hello\n"));
   assert.ok(took < 2_000, `${took} ms`);
+  program = `
+    import { Session } from ${JSON.stringify(new URL("rgatext.js", import.meta.url))};
+    const session = new Session(async () => none());
+    session.insert(0, "hello");
+    await session.close({ flush: 10_000 }).catch((fault) => console.log(fault.name));`;
+  const failed = await timed(async () => assert.equal((await run()).stdout, "ReferenceError\n"));
+  assert.ok(failed < 2_000, `${failed} ms`);
 }
 
 /** The example of a room in memory does what it says. */
@@ -273,6 +350,6 @@ async function losesNothing() {
   await Promise.all(sessions.map((it) => it.close()));
 }
 
-const trials = [isReady, isSent, isFlushed, endsInTime, ends, isAsThePageTells, isAPackage, tellsChanges, takesOptions, hasAnother];
-await Promise.all([...trials, losesNothing].map((it) => it()));
+const trials = [isReady, isSent, isFlushed, endsInTime, sendsBeforeItEnds, endsForGood, ends, isAsThePageTells, isAPackage];
+await Promise.all([...trials, tellsChanges, takesOptions, hasAnother, losesNothing].map((it) => it()));
 console.log("the module: what is ready, sent, closed, told and asked is as the page says");

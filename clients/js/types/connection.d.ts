@@ -1,9 +1,11 @@
 /** A line over a WebSocket. */
 export class Connection {
     /**
-     * Connects, and opens the room. `Socket` is a class like WebSocket. Rejects with `Lost`, or `Refused` where there is no such room.
+     * Connects, and opens the room. `Socket` is a class like WebSocket. Rejects with `Lost`, also where a signal is aborted before, or with
+     * `Refused` where there is no such room.
      * @param {string} address
      * @param {string} room
+     * @param {AbortSignal} [signal]
      * @returns {Promise<Line>}
      */
     static open(address: string, room: string, Socket?: {
@@ -13,7 +15,7 @@ export class Connection {
         readonly CLOSING: number;
         readonly CONNECTING: number;
         readonly OPEN: number;
-    }, options?: Required<import("./options.js").Options>): Promise<Line>;
+    }, options?: Required<import("./options.js").Options>, signal?: AbortSignal | undefined): Promise<Line>;
     constructor(socket: any, options: any);
     socket: any;
     options: any;

@@ -5,11 +5,11 @@ declare const Session_base: new () => Tells & EventTarget;
  */
 export class Session extends Session_base {
     /**
-     * `connect` gives an open line to the room, at each call a new one.
-     * @param {() => Promise<Line>} connect
+     * `connect` gives an open line to the room, at each call a new one. Where its signal is aborted nobody waits for that any more.
+     * @param {(signal: AbortSignal) => Promise<Line>} connect
      * @param {import("./options.js").Options} [options]
      */
-    constructor(connect: () => Promise<Line>, options?: import("./options.js").Options | undefined);
+    constructor(connect: (signal: AbortSignal) => Promise<Line>, options?: import("./options.js").Options | undefined);
     document: Document;
     /** @type {State} */
     state: State;
@@ -24,7 +24,10 @@ export class Session extends Session_base {
      * @type {Promise<void>}
      */
     ready: Promise<void>;
-    /** Settles when the session has ended; `state` and `why` tell how. */
+    /**
+     * Settles when the session has ended; `state` and `why` tell how.
+     * @type {Promise<void>}
+     */
     ended: Promise<void>;
     /** The text that is shown. */
     get text(): string;
