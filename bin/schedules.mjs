@@ -166,22 +166,31 @@ async function losesJoin(kind) {
   await end(way);
 }
 
-/** A session that is closed leaves at once, also in the middle of a round, and where the line is away once it is there. */
+/**
+ * A session that is closed leaves at once, also in the middle of a round; where something is under way once that has come; and where the
+ * line is away once it is there.
+ */
 async function leavesAtOnce() {
+  const idle = await begin("hello");
+  idle.delay = 300;
+  const { asked } = idle.lines[0];
+  const { length } = asked;
+  await until(() => asked.length > length);
+  const closed = idle.editor.session.close();
+  assert.deepEqual(asked.slice(length), ["pull", "leave"]);
+  await closed;
   const busy = await begin("hello");
   busy.delay = 300;
   busy.editor.change(5, 0, "!");
   await until(() => busy.lines[0].asked.filter((it) => it === "ins").length === 2);
-  const closed = busy.editor.session.close();
-  assert.equal(busy.lines[0].asked.at(-1), "leave");
-  await closed;
+  assert.equal(await busy.editor.session.close(), true);
   const away = await begin("hello");
   away.cutOff();
   await away.comesTo("offline");
   away.isUp = true;
   await away.editor.session.close();
-  for (const { room } of [busy, away]) assert.equal((await room.ask({ t: "leave", s: 1 })).n, 5);
-  await end(busy, away);
+  for (const { room } of [idle, busy, away]) assert.equal((await room.ask({ t: "leave", s: 1 })).n, 5);
+  await end(idle, busy, away);
 }
 
 /** A key of an editor on a slow line isn't held up by another's paste, and what came is told a few times a second. */

@@ -40,8 +40,11 @@ export const USUAL = {
 /** So many milliseconds a timer takes at most: 24 days. */
 const LONGEST = 2 ** 31 - 1;
 
-/** A time as a timer takes it. */
-export const inTime = (milliseconds) => Math.min(milliseconds, LONGEST);
+/** A time as a timer takes it. Throws a TypeError where it is no number above 0. */
+export function inTime(name, milliseconds) {
+  if (!(typeof milliseconds === "number" && milliseconds > 0)) throw new TypeError(`the option ${name} is a number above 0`);
+  return Math.min(milliseconds, LONGEST);
+}
 
 /**
  * The options, with the usual values of those that aren't told. Throws a TypeError where there is no option of a name, or one is no number
@@ -49,10 +52,7 @@ export const inTime = (milliseconds) => Math.min(milliseconds, LONGEST);
  * @param {Options} options
  */
 export function withUsual(options) {
-  for (const [name, value] of Object.entries(options)) {
-    if (!Object.hasOwn(USUAL, name)) throw new TypeError(`there is no option ${name}`);
-    if (!(typeof value === "number" && value > 0)) throw new TypeError(`the option ${name} is a number above 0`);
-  }
-  const told = Object.entries({ ...USUAL, ...options }).map(([name, value]) => [name, inTime(value)]);
+  for (const name of Object.keys(options)) if (!Object.hasOwn(USUAL, name)) throw new TypeError(`there is no option ${name}`);
+  const told = Object.entries({ ...USUAL, ...options }).map(([name, value]) => [name, inTime(name, value)]);
   return /** @type {Required<Options>} */ (Object.fromEntries(told));
 }

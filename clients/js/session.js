@@ -264,17 +264,18 @@ export class Session extends /** @type {{new (): Tells & EventTarget}} */ (Event
   /**
    * Ends the session: sends what is new, for some seconds, and leaves the room; where nothing is new at once. Where the line isn't there
    * it tries to leave, once. With `flush` it first tries for so many milliseconds to have all in the room, also where the line isn't
-   * there yet. Once the time is over nothing is waited for. Gives whether the room has all.
+   * there yet. Once the time is over nothing is waited for. Gives whether the room has all. Of two calls the first limit holds.
    * @param {{flush?: number}} [options]
    * @returns {Promise<boolean>}
    */
-  async close({ flush = 0 } = {}) {
+  async close({ flush } = {}) {
+    const time = flush === undefined ? this.#options.closing : inTime("flush", flush);
     this.#isClosing = true;
-    if (flush > 0) this.#isPaused = false;
+    if (flush !== undefined) this.#isPaused = false;
     const isServed = this.#isServed && !this.#isOver && this.#other === null;
-    if (this.isAhead && (isServed || flush > 0)) this.#wake();
+    if (this.isAhead && (isServed || flush !== undefined)) this.#wake();
     else this.#close();
-    const timer = setTimeout(() => this.#cutOff(), inTime(flush || this.#options.closing));
+    const timer = setTimeout(() => this.#cutOff(), time);
     try {
       await this.ended;
     } finally {

@@ -287,6 +287,10 @@ async function takesOptions() {
   const room = new MemoryRoom({ operations: 6 });
   assert.throws(() => new Session(() => room.connect(), { speed: 1 }), /no option speed/);
   assert.throws(() => open("ws://nowhere", "notes", { answer: "1", Socket: EventTarget }), /answer/);
+  const wrong = new Session(() => room.connect());
+  for (const flush of [-1, NaN, "1", 0]) await assert.rejects(wrong.close({ flush }), TypeError);
+  assert.equal(wrong.replace(0, 0, "").at, 0, "nothing was done");
+  await wrong.close();
   const patient = new Session(() => room.connect({ delay: 50 }), { silence: 2 ** 31, answer: Infinity, typing: 1 });
   const states = [];
   patient.addEventListener("state", () => states.push(patient.state));

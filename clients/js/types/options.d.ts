@@ -1,3 +1,5 @@
+/** A time as a timer takes it. Throws a TypeError where it is no number above 0. */
+export function inTime(name: any, milliseconds: any): number;
 /**
  * The options, with the usual values of those that aren't told. Throws a TypeError where there is no option of a name, or one is no number
  * above 0.
@@ -25,7 +27,6 @@ export const OPERATIONS: 131072;
  */
 /** @type {Required<Options>} */
 export const USUAL: Required<Options>;
-export function inTime(milliseconds: any): number;
 export type Options = {
     /**
      * until an answer is missed and the line counts as lost

@@ -115,7 +115,7 @@ export class Session extends Session_base {
     /**
      * Ends the session: sends what is new, for some seconds, and leaves the room; where nothing is new at once. Where the line isn't there
      * it tries to leave, once. With `flush` it first tries for so many milliseconds to have all in the room, also where the line isn't
-     * there yet. Once the time is over nothing is waited for. Gives whether the room has all.
+     * there yet. Once the time is over nothing is waited for. Gives whether the room has all. Of two calls the first limit holds.
      * @param {{flush?: number}} [options]
      * @returns {Promise<boolean>}
      */
