@@ -228,7 +228,30 @@ async function givesUpAtAnotherText(server) {
   assert.deepEqual(await editors[1].closes(), { sent: false, unsent: [], status: 1 });
 }
 
+/** Who types and ends before the line is there has it in the room; what isn't sent is told to its end, and who doesn't read that is left. */
+async function endsBeforeItIsThere(server) {
+  server.turn(new MemoryRoom());
+  const early = new Editor(server);
+  early.say({ replace: [0, 0, "early"] }, { flush: 1 });
+  assert.deepEqual(await early.closes(), { sent: true, unsent: [], status: 0 });
+  assert.equal(server.room.text, "early");
+  const text = "x".repeat(100_000);
+  const nowhere = { address: "ws://127.0.0.1:9" };
+  const alone = new Editor(nowhere);
+  alone.say({ replace: [0, 0, text] }, { flush: 1 });
+  assert.deepEqual(await alone.closes(), { sent: false, unsent: [{ kind: "put in", text }], status: 1 });
+  assert.deepEqual(await alone.hears((it) => "flushed" in it), { flushed: 1, sent: false });
+  const deaf = new Editor(nowhere);
+  await deaf.hears(({ state }) => state !== undefined);
+  deaf.child.stdout.pause();
+  deaf.say({ replace: [0, 0, "x".repeat(130_000)] }, { close: true });
+  const status = await Promise.race([new Promise((resolve) => deaf.child.on("exit", resolve)), pause(10_000)]);
+  assert.equal(status, 1, "it ends, though nobody reads");
+  deaf.child.stdout.resume();
+}
+
 const server = await new Server().listen();
-for (const attempt of [flushesWhatWasBefore, givesUpAtAnotherText, endsWithASignal, replacesAtManyPlaces]) await attempt(server);
+const attempts = [flushesWhatWasBefore, givesUpAtAnotherText, endsBeforeItIsThere, endsWithASignal, replacesAtManyPlaces];
+for (const attempt of attempts) await attempt(server);
 server.close();
-console.log("bin/stdio.mjs: many places, signals, flushes, and another text");
+console.log("bin/stdio.mjs: many places, signals, flushes, ends, and another text");

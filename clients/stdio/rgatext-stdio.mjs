@@ -8,8 +8,8 @@ import { Ended, Full, open, Undo } from "./module.js";
 const [address, room, counted = "units", ...more] = process.argv.slice(2);
 const count = Object.hasOwn(COUNTS, counted) ? COUNTS[counted] : undefined;
 
-/** Milliseconds for which is read at most what was written before a signal, and without a line until all of it is. */
-const READING = 2_000;
+/** Milliseconds: for each step of the end at most, and without a line until all is read that was written before a signal. */
+const ENDING = 2_000;
 const SILENCE = 200;
 
 /** A line that isn't as it should be. Nothing of it was done. */
@@ -25,8 +25,9 @@ function stop(why) {
   process.exit(2);
 }
 
-function tell(line) {
-  process.stdout.write(`${JSON.stringify(line)}\n`);
+/** Tells a line; `done` is called once it is written. */
+function tell(line, done = () => {}) {
+  process.stdout.write(`${JSON.stringify(line)}\n`, done);
 }
 
 /** Changes of one step of the editor, each behind the one before: so they are changes of one text, and are made at once. */
@@ -197,7 +198,7 @@ class Conversation {
 
   /** Does what was written before, as far as it comes in time, and closes. */
   async end() {
-    const till = Date.now() + READING;
+    const till = Date.now() + ENDING;
     for (let lines = -1; lines !== this.#lines && Date.now() < till; ) {
       lines = this.#lines;
       await new Promise((resolve) => setTimeout(resolve, SILENCE));
@@ -211,10 +212,11 @@ class Conversation {
     if (this.#isClosing) return;
     this.#makeBatch();
     this.#isClosing = true;
-    const sent = await this.#session.close().catch((fault) => console.error(fault));
+    const sent = await this.#session.close({ flush: ENDING }).catch((fault) => console.error(fault));
     const { unsent } = this.#session;
-    tell({ closed: true, sent: sent === true, unsent });
-    process.exit(sent === true ? 0 : 1);
+    const ends = () => process.exit(sent === true ? 0 : 1);
+    tell({ closed: true, sent: sent === true, unsent }, ends);
+    setTimeout(ends, ENDING); // where nobody reads
   }
 }
 
