@@ -235,7 +235,7 @@ async function endsBeforeItIsThere(server) {
   early.say({ replace: [0, 0, "early"] }, { flush: 1 });
   assert.deepEqual(await early.closes(), { sent: true, unsent: [], status: 0 });
   assert.equal(server.room.text, "early");
-  const text = "x".repeat(100_000);
+  const text = "世".repeat(100_000); // more than a pipe holds
   const nowhere = { address: "ws://127.0.0.1:9" };
   const alone = new Editor(nowhere);
   alone.say({ replace: [0, 0, text] }, { flush: 1 });
@@ -244,10 +244,10 @@ async function endsBeforeItIsThere(server) {
   const deaf = new Editor(nowhere);
   await deaf.hears(({ state }) => state !== undefined);
   deaf.child.stdout.pause();
-  deaf.say({ replace: [0, 0, "x".repeat(130_000)] }, { close: true });
+  deaf.say({ replace: [0, 0, text] }, { close: true });
   const status = await Promise.race([new Promise((resolve) => deaf.child.on("exit", resolve)), pause(10_000)]);
   assert.equal(status, 1, "it ends, though nobody reads");
-  deaf.child.stdout.resume();
+  deaf.child.stdout.destroy();
 }
 
 const server = await new Server().listen();
