@@ -297,8 +297,16 @@ def tries_commands():
         if isinstance(it, Neovim):
             it.do(f"w {work}/copy")
             until(lambda: (work / "copy").exists() and (work / "copy").read_text() == "unsent a\nb\n", "a copy")
+            program = program_of(it)
+            os.kill(program, signal.SIGSTOP)
             it.do("edit!")
             until(lambda: it.text == "unsent a\nb\n" and it.state == "up to date", "opened anew")
+            os.kill(program, signal.SIGCONT)
+            until(lambda: not pathlib.Path(f"/proc/{program}").exists(), "the program of before ends")
+            time.sleep(0.5)
+            assert it.state == "up to date", it.state
+            told = it.ask("execute(['normal! gg0iwritten ', 'write']) .. &modified").strip()
+            assert (told, room_text("left")) == ("0", "written unsent a\nb\n"), f"what is written isn't modified: {told}"
         else:
             it.do("text-mode")
             it.put("typed ")
@@ -459,6 +467,9 @@ def tries_program_that_is_slow():
         it.keys(it.gives_up)
         until(lambda: it.state == "closed: its program has ended", f"{it.name} has given it up")
         assert it.text == "typed ", it.text
+        it.show_unsent()
+        until(lambda: "is still ending" in it.screen, "the program may still tell what is unsent")
+        it.stay()
         os.kill(program, signal.SIGCONT)
 
 

@@ -236,7 +236,9 @@ The mode line has it, and the buffer is modified and read-only by it."
   (let ((unsent (if (rgatext--room-is-over rgatext--room)
                     (rgatext--room-unsent rgatext--room)
                   (plist-get (rgatext--ask nil :unsent :unsent t) :unsent))))
-    (message "%s" (cond ((eq unsent 'unknown) "What the room doesn't have isn't known: its program has ended without a word")
+    (message "%s" (cond ((eq unsent 'unknown)
+                         (concat "What the room doesn't have isn't known: its program "
+                                 (if (process-live-p (rgatext--room-process rgatext--room)) "is still ending" "has ended without a word")))
                         ((null unsent) "The room has all")
                         (t (mapconcat (lambda (it) (format "%s: %s" (plist-get it :kind) (plist-get it :text))) unsent "\n"))))))
 

@@ -67,6 +67,11 @@ local Room = {}
 Room.__index = Room
 local rooms = {} -- of each buffer
 
+-- Whether the buffer is there, and is still this room.
+function Room:is_there()
+  return rooms[self.buffer] == self and api.nvim_buf_is_loaded(self.buffer)
+end
+
 function Room:send(request)
   if self.is_over then
     return
@@ -119,7 +124,7 @@ function Room:ask(request, key, milliseconds)
 end
 
 function Room:hear(told)
-  if self.is_over or not api.nvim_buf_is_loaded(self.buffer) then
+  if self.is_over or not self:is_there() then
     return
   elseif told.news then
     self.has_news = true
@@ -161,7 +166,7 @@ end
 
 -- The program has ended, and nobody carries changes any more.
 function Room:ends()
-  if api.nvim_buf_is_loaded(self.buffer) then
+  if self:is_there() then
     local is_ahead = vim.bo[self.buffer].modified
     self:show({ state = "closed", why = "its program has ended", ahead = is_ahead, left = 0 })
   end
@@ -174,7 +179,7 @@ function Room:keep_in_step()
   end
   self.is_due = true
   local function does()
-    if api.nvim_buf_is_loaded(self.buffer) and is_busy() then
+    if self:is_there() and is_busy() then
       return vim.defer_fn(does, BUSY)
     end
     self.is_due = false
@@ -195,7 +200,7 @@ function Room:flush()
 end
 
 function Room:step()
-  if self.is_over or not api.nvim_buf_is_loaded(self.buffer) then
+  if self.is_over or not self:is_there() then
     return
   end
   self:flush()
@@ -285,8 +290,8 @@ function Room:write()
   self:step()
   self.flushes = self.flushes + 1
   if self:ask({ flush = self.flushes }, "flushed", SENDING).sent then
-    self.is_untold = false
-    self:show_modified()
+    self.is_untold, self.told.ahead = false, false
+    vim.bo[self.buffer].modified = false -- also where news is due
   else
     api.nvim_err_writeln("rgatext: the room doesn't have all of it: " .. vim.b[self.buffer].rgatext)
   end
@@ -312,7 +317,7 @@ local function open(buffer)
   local arguments = vim.list_extend(vim.list_extend({}, program), { address, name, "bytes" })
   local why
   self.process, why = vim.loop.spawn("node", { args = arguments, stdio = { input, output, nil } }, function()
-    self.is_over = true
+    self.is_over, self.has_ended = true, true
     vim.schedule(function()
       self:ends()
     end)
@@ -363,7 +368,8 @@ end
 command("RgatextUnsent", function(room)
   local unsent = room.is_over and room.unsent or room:ask({ unsent = true }, "unsent").unsent
   if not unsent then
-    return list({ "what the room doesn't have isn't known: its program has ended without a word" })
+    local is_ending = room.is_over and not room.has_ended
+    return list({ "what the room doesn't have isn't known: its program " .. (is_ending and "is still ending" or "has ended without a word") })
   end
   local lines = vim.tbl_map(function(it)
     return it.kind .. ": " .. it.text
