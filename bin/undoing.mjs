@@ -65,6 +65,11 @@ export function undoQuickly() {
   typed.own(6, 0, "x", 70_000);
   typed.other(6, 1, "");
   typed.turn(false, "abcdef");
+  for (let n = 0; n < 20_000; n += 1) {
+    typed.own(0, 0, "x");
+    typed.other(0, 1, "");
+  }
+  typed.turn(false, "abcdef");
 }
 
 /** Changes that are told as one step are one, wherever they are; what it put in and took out itself doesn't come back. */

@@ -37,6 +37,25 @@ export function carried(place, changes) {
   return place;
 }
 
+/**
+ * Where a unit of the text is after changes; null where one removed it.
+ * @param {number} unit
+ * @param {Change[]} changes
+ */
+export function carriedUnit(unit, changes) {
+  for (const { at, removed, text, to = at } of changes) {
+    const isWithin = at <= unit && unit < at + removed;
+    if (isWithin && to === at) return null;
+    if (isWithin) {
+      unit += to - at;
+    } else {
+      if (unit >= at) unit -= removed;
+      if (unit >= to) unit += text.length;
+    }
+  }
+  return unit;
+}
+
 /** Adds a change, or lengthens the last one where it goes on there. */
 export function add(changes, change) {
   const last = changes.at(-1) ?? { at: -1, removed: 0, text: "" };

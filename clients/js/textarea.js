@@ -1,6 +1,6 @@
 /** A text area over a session: what is typed goes to the room, and what others type comes into the area. */
 import { Binding } from "./binding.js";
-import { carried } from "./changes.js";
+import { carried, carriedUnit } from "./changes.js";
 import { difference } from "./text.js";
 
 /** Milliseconds until it is told that what an input method composes is held back. */
@@ -15,11 +15,10 @@ const signs = (text) => text.replaceAll("\r", "\u240d");
 /** Where so many units from a place on are after changes: the stretches that others' text stands between. */
 function stretches(at, units, changes) {
   const found = [];
-  for (let end = at + 1; end <= at + units; end += 1) {
-    const to = carried(end, changes);
-    if (to === carried(end - 1, changes)) continue; // others deleted it
-    if (found.at(-1)?.[1] === to - 1) found.at(-1)[1] = to;
-    else found.push([to - 1, to]);
+  for (let unit = at; unit < at + units; unit += 1) {
+    const to = carriedUnit(unit, changes);
+    if (to !== null && found.at(-1)?.[1] === to) found.at(-1)[1] += 1;
+    else if (to !== null) found.push([to, to + 1]);
   }
   return found;
 }

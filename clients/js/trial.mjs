@@ -5,6 +5,7 @@ import { access, readFile } from "node:fs/promises";
 import { promisify } from "node:util";
 import { MemoryRoom } from "./memory_room.js";
 import { Ended, Full, GivenUp, Lost, open, played, Refused, Session } from "./rgatext.js";
+import { bindTextarea } from "./textarea.js";
 
 const pause = (milliseconds) => new Promise((resolve) => setTimeout(resolve, milliseconds));
 
@@ -354,6 +355,64 @@ async function losesNothing() {
   await Promise.all(sessions.map((it) => it.close()));
 }
 
+/** What a text area has of a page, as far as a binding asks for it. */
+class Area extends EventTarget {
+  #value = "";
+  constructor() {
+    super();
+    Object.assign(this, { selectionStart: 0, selectionEnd: 0, selectionDirection: "none", scrollTop: 0, readOnly: false });
+  }
+  get value() {
+    return this.#value;
+  }
+  set value(value) {
+    this.#value = value;
+    this.selectionStart = this.selectionEnd = value.length;
+  }
+  setSelectionRange(start, end, direction) {
+    Object.assign(this, { selectionStart: start, selectionEnd: end, selectionDirection: direction });
+  }
+  after() {}
+  /** The user puts a text in in the place of another, as an event tells. */
+  types(at, removed, text) {
+    this.value = this.value.slice(0, at) + text + this.value.slice(at + removed);
+    this.selectionStart = this.selectionEnd = at + text.length;
+    this.dispatchEvent(new Event("input"));
+  }
+}
+
+/** What is composed over a text removes that alone, whatever others put in and delete there meanwhile. */
+async function composesAlone() {
+  const element = { style: {}, remove: () => {}, offsetHeight: 0 };
+  Object.assign(globalThis, { document: { createElement: () => element }, getComputedStyle: () => ({}) });
+  for (const [start, theirs, composed, wanted] of [
+    ["abcde", [[1, 0, "QQ"], [3, 1, ""]], [1, 2, "X"], "aXQQde"],
+    ["abcde", [[2, 0, "Q"], [1, 1, ""]], [1, 2, ""], "aQde"],
+    ["abcde", [[1, 2, "QQ"]], [1, 2, "X"], "aXQQde"],
+    ["a😀b", [[1, 2, "Q"]], [0, 4, "X"], "XQ"],
+  ]) {
+    const room = new MemoryRoom();
+    const [one, other] = [1, 2].map(() => new Session(() => room.connect(), { idle: 5, typing: 5 }));
+    one.insert(0, start);
+    await one.sent();
+    await until(() => other.text === start);
+    const area = new Area();
+    const binding = bindTextarea(one, area);
+    area.dispatchEvent(new Event("compositionstart"));
+    area.types(...composed);
+    for (const [at, removed, text] of theirs) {
+      other.replace(at, removed, text);
+      await other.sent();
+    }
+    await until(() => one.text === other.text);
+    area.dispatchEvent(new Event("compositionend"));
+    await one.sent();
+    assert.deepEqual([room.text, area.value], [wanted, wanted]);
+    binding.release();
+    await Promise.all([one.close(), other.close()]);
+  }
+}
+
 const trials = [isReady, isSent, isFlushed, endsInTime, sendsBeforeItEnds, endsForGood, ends, isAsThePageTells, isAPackage];
-await Promise.all([...trials, tellsChanges, takesOptions, hasAnother, losesNothing].map((it) => it()));
+await Promise.all([...trials, tellsChanges, takesOptions, hasAnother, losesNothing, composesAlone].map((it) => it()));
 console.log("the module: what is ready, sent, closed, told and asked is as the page says");

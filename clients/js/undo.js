@@ -133,16 +133,14 @@ export class Undo {
    */
   turn(isRedo, session, make) {
     const [from, to] = isRedo ? [this.#undone, this.#done] : [this.#done, this.#undone];
-    const step = from.at(-1);
-    if (step === undefined) return;
-    const turned = this.#turned(step, isRedo);
     const before = session.text;
-    if (turned.length > 0) make(turned.map(({ change }) => change));
-    for (const { piece, change } of turned) piece.text = piece.isHidden ? null : before.slice(change.at, change.at + change.removed);
+    for (let turned = []; turned.length === 0 && from.length > 0; to.push(from.pop())) {
+      turned = this.#turned(from.at(-1), isRedo); // nothing, where others have left nothing of the step
+      if (turned.length > 0) make(turned.map(({ change }) => change));
+      for (const { piece, change } of turned) piece.text = piece.isHidden ? null : before.slice(change.at, change.at + change.removed);
+      this.#mayGoOn = false;
+    }
     this.#pieces = joined(this.#pieces);
-    to.push(from.pop());
-    this.#mayGoOn = false;
-    if (turned.length === 0) this.turn(isRedo, session, make); // others have left nothing of it
   }
 
   /** The pieces that a step turns, each with its change, from the last one to the first: so each place is one of the text of now. */

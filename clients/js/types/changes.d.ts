@@ -18,6 +18,12 @@ export function played(text: string, changes: Change[]): string;
  * @param {Change[]} changes
  */
 export function carried(place: number, changes: Change[]): number;
+/**
+ * Where a unit of the text is after changes; null where one removed it.
+ * @param {number} unit
+ * @param {Change[]} changes
+ */
+export function carriedUnit(unit: number, changes: Change[]): number | null;
 /** Adds a change, or lengthens the last one where it goes on there. */
 export function add(changes: any, change: any): void;
 /**
