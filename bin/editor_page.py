@@ -14,6 +14,7 @@ import threading
 import time
 
 from client import Session, Socket
+from selenium.webdriver.common.by import By
 from selenium.webdriver.common.keys import Keys
 from windows import AREA, ELSEWHERE, Bare, Cable, History, Mirror, Server, Walk, Window, serve_pages
 
@@ -295,6 +296,8 @@ def tries_walk():
         until(lambda: window.told == "walk: saved", "the page's example")
         window.type("from the page\n")
         until(lambda: window.state == "up to date", "it is sent")
+        said = window.run("const { width, height } = document.querySelector('.said').getBoundingClientRect(); return [width, height]")
+        assert said == [1, 1], f"what is read out isn't seen, without a style of the page: {said}"
         node = ["node", *(["--experimental-websocket"] if NODE < 22 else []), str(module / "script.mjs")]
         done = subprocess.run(node, capture_output=True, text=True, timeout=20)
         assert (done.returncode, done.stderr) == (0, "") or "ExperimentalWarning" in done.stderr, done
@@ -324,6 +327,20 @@ def tries_text_of_before():
         files,
     )
     assert replaced == ["a draft", ""], replaced
+
+
+def tries_bad_address_beside_a_room():
+    """A bad address is told, and the room that is open goes on, and tells how it stands."""
+    window = Window(PAGES, server.port, "walk")
+    until(lambda: window.told == "walk: saved", "a room")
+    field = window.driver.find_element(By.ID, "server")
+    field.clear()
+    field.send_keys("nowhere")
+    window.press_open()
+    until(lambda: "nowhere can't be opened" in window.told, "a bad address is told")
+    window.type("x")
+    until(lambda: window.told == "walk: saved", "the room goes on")
+    window.quit()
 
 
 def tries_missing_lib():
@@ -592,9 +609,10 @@ try:
     for attempt in (tries_cut_lines, *writing, tries_another_run, tries_refilled_run):
         attempt()
         print(attempt.__name__.removeprefix("tries_").replace("_", " "))
-    rooms = (tries_kept_run, tries_origins, tries_65_windows, tries_full_room, tries_bad_addresses, tries_missing_lib, tries_text_of_before)
+    rooms = (tries_kept_run, tries_origins, tries_65_windows, tries_full_room, tries_bad_addresses)
+    others = (tries_bad_address_beside_a_room, tries_missing_lib, tries_text_of_before)
     mirrors = (tries_carriage_returns, tries_codemirror, tries_codemirror_scroll, tries_codemirror_in_a_full_room)
-    for attempt in (tries_walk, tries_widths, tries_history, *rooms, *mirrors, tries_pastes, tries_long_history):
+    for attempt in (tries_walk, tries_widths, tries_history, *rooms, *others, *mirrors, tries_pastes, tries_long_history):
         attempt()
         print(attempt.__name__.removeprefix("tries_").replace("_", " "))
     print("bin/try_editor_page: all as it should be")

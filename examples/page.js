@@ -39,6 +39,7 @@ export function askWhere(enter) {
 /** Opens the room that is asked for. `bind` binds a session to the page's editor, and gives the binding; it gets the options of one. */
 export function openRooms(bind) {
   let session = null;
+  let status = null;
   let bindings = [];
 
   askWhere((server, room) => {
@@ -48,12 +49,14 @@ export function openRooms(bind) {
       next = open(server, room);
     } catch (fault) {
       if (!(fault instanceof TypeError)) throw fault;
-      return tellTrouble(`${server} can't be opened: ${fault.message}`);
+      const trouble = `${server} can't be opened: ${fault.message}`;
+      const goesOn = session !== null && !["refused", "closed"].includes(session.state);
+      return goesOn ? status.trouble(trouble) : tellTrouble(trouble);
     }
     for (const it of bindings) it.release();
     session?.close();
     session = next;
-    const status = bindStatus(session, element("status"), { name: room });
+    status = bindStatus(session, element("status"), { name: room });
     bindings = [status, bindPage(session), bind(session, { onTrouble: (trouble) => status.trouble(trouble) })];
   });
 }

@@ -21,6 +21,9 @@ const SCARCE = 0.75;
 /** Milliseconds for which something has to be so until it is read out. */
 const SAID = 1_000;
 
+/** How an element is read out and not seen. */
+const UNSEEN = { position: "absolute", width: "1px", height: "1px", margin: "0", overflow: "hidden", clipPath: "inset(50%)" };
+
 const number = (count) => count.toLocaleString("en");
 
 /** How full a room is, where that is told. */
@@ -83,6 +86,7 @@ class StatusBinding {
     this.#name = name;
     for (const it of [this.#theirs, this.#mine, this.#save]) it.type = "button";
     this.#said.setAttribute("aria-live", "polite");
+    Object.assign(this.#said.style, UNSEEN);
     const { signal } = this.#bound;
     this.#theirs.addEventListener("click", () => session.takeTheirs(), { signal });
     this.#mine.addEventListener("click", () => this.#putMine(), { signal });
