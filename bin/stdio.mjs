@@ -7,6 +7,7 @@ import { createInterface } from "node:readline";
 import { fileURLToPath } from "node:url";
 import { MemoryRoom } from "../clients/js/memory_room.js";
 import { pause } from "../clients/js/seat.js";
+import { dice } from "./room.mjs";
 
 const PROGRAM = fileURLToPath(new URL("../clients/stdio/rgatext-stdio.mjs", import.meta.url));
 const [TEXT, END] = [1, 8]; // kinds of frames (RFC 6455)
@@ -92,8 +93,8 @@ class Editor {
   text = "";
   #looks = () => {};
 
-  constructor({ address }) {
-    const words = ["--experimental-websocket", "--no-warnings", PROGRAM, address, "notes"];
+  constructor({ address }, count = "units") {
+    const words = ["--experimental-websocket", "--no-warnings", PROGRAM, address, "notes", count];
     this.child = spawn(process.execPath, words, { stdio: ["pipe", "pipe", "inherit"] });
     this.ended = new Promise((resolve) => this.child.on("close", resolve));
     createInterface({ input: this.child.stdout }).on("line", (line) => {
@@ -149,12 +150,13 @@ class Editor {
 /** A room that has a text. */
 const roomOf = (text) => new MemoryRoom({ log: [{ c: [[0, 1]], k: "r", s: 0, p: null, x: text }], site: 1 });
 
-/** A word is replaced at 10,000 places, by one change or by many, and that is undone: each within two seconds of a processor. */
+/** A word is replaced at 10,000 places, by one change or by many in both orders, and that is undone: each within two seconds of a processor. */
 async function replacesAtManyPlaces(server) {
   const text = "the cat the\n".repeat(5_000);
   const done = text.replaceAll("the", "some");
   const places = Array.from({ length: 10_000 }, (_, n) => ({ replace: [13 * (n >> 1) + (n % 2) * 9 + (n >> 1), 3, "some"], more: n > 0 }));
-  for (const changes of [[{ replace: [0, text.length, done] }], places]) {
+  const back = Array.from({ length: 10_000 }, (_, n) => ({ replace: [12 * ((9_999 - n) >> 1) + ((n + 1) % 2) * 8, 3, "some"], more: n > 0 }));
+  for (const changes of [[{ replace: [0, text.length, done] }], places, back]) {
     server.turn(roomOf(text));
     const editor = new Editor(server);
     await editor.hears(({ news }) => news);
@@ -172,6 +174,28 @@ async function replacesAtManyPlaces(server) {
     }
     assert.equal(editor.text, text);
     editor.child.kill("SIGKILL");
+  }
+}
+
+/** Steps of changes at random places, in each count, become what a plain list becomes. */
+async function stepsAtRandom(server) {
+  const signs = ["a", "\r", "\n", "é", "漢", "😀", "😁"];
+  const counts = { units: (text) => text.length, characters: (text) => [...text].length, bytes: (text) => Buffer.byteLength(text) };
+  for (const [count, size] of Object.entries(counts)) {
+    server.turn(new MemoryRoom());
+    const [editor, roll, list] = [new Editor(server, count), dice(7), []];
+    for (let n = 0; n < 500; n += 1) {
+      const at = roll(list.length + 1);
+      const removed = roll(2) * roll(Math.min(6, list.length - at + 1));
+      const put = Array.from({ length: roll(4) }, () => signs[roll(signs.length)]);
+      const places = [list.slice(0, at), list.slice(at, at + removed)].map((it) => size(it.join("")));
+      editor.say({ replace: [...places, put.join("")], more: roll(6) > 0 });
+      list.splice(at, removed, ...put);
+      if (roll(40) === 0) assert.equal(await editor.asks({ text: true }, "text"), list.join(""));
+    }
+    assert.deepEqual(await editor.closes(), { sent: true, unsent: [], status: 0 });
+    assert.equal(server.room.text, list.join(""));
+    assert.ok(!editor.told.some((it) => "wrong" in it));
   }
 }
 
@@ -251,7 +275,7 @@ async function endsBeforeItIsThere(server) {
 }
 
 const server = await new Server().listen();
-const attempts = [flushesWhatWasBefore, givesUpAtAnotherText, endsBeforeItIsThere, endsWithASignal, replacesAtManyPlaces];
+const attempts = [flushesWhatWasBefore, givesUpAtAnotherText, endsBeforeItIsThere, endsWithASignal, stepsAtRandom, replacesAtManyPlaces];
 for (const attempt of attempts) await attempt(server);
 server.close();
 console.log("bin/stdio.mjs: many places, signals, flushes, ends, and another text");

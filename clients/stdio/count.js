@@ -32,6 +32,22 @@ export function gone(text, places, count, from = 0) {
 }
 
 /**
+ * Goes so many places back, as `gone` goes on.
+ * @param {string} text
+ * @param {number} places
+ * @param {Count} count
+ * @param {number} from
+ */
+export function goneBack(text, places, count, from) {
+  let [index, rest] = [from, places];
+  while (rest > 0 && index > 0) {
+    index -= text.codePointAt(index - 2) > 0xffff ? 2 : 1;
+    rest -= count(text.codePointAt(index));
+  }
+  return { index, rest };
+}
+
+/**
  * How many places a text takes.
  * @param {string} text
  * @param {Count} count

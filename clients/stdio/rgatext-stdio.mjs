@@ -1,6 +1,6 @@
 #!/usr/bin/env -S node --experimental-websocket --no-warnings
 // A room of an rgatext server for an editor that starts a program: it speaks by lines of JSON, which README.md tells.
-import { COUNTS, gone, size } from "./count.js";
+import { COUNTS, gone, goneBack, size } from "./count.js";
 import { EditorText } from "./editor_text.js";
 import { linesOf } from "./lines.js";
 import { Ended, Full, open, Undo } from "./module.js";
@@ -30,11 +30,13 @@ function tell(line, done = () => {}) {
   process.stdout.write(`${JSON.stringify(line)}\n`, done);
 }
 
-/** Changes of one step of the editor, each behind the one before: so they are changes of one text, and are made at once. */
+/**
+ * Changes of one step of the editor, each behind all before or before all of them: so they are changes of one text, and are made at once.
+ */
 class Batch {
   #whole;
-  #index = 0; // the units of the text, and the editor's place, behind the last change
-  #place = 0;
+  #start = { index: 0, place: 0 }; // before the first change: the unit of the text, and the editor's place
+  #end = { index: 0, place: 0 }; // behind the last one
   changes = [];
 
   constructor(whole, isMore) {
@@ -42,20 +44,29 @@ class Batch {
     this.isMore = isMore;
   }
 
-  /** Whether a change goes on behind the last one. */
-  isGoneOnBy(at) {
-    return at >= this.#place;
+  /** Whether it may have a change too. */
+  takes(at, removed) {
+    return at >= this.#end.place || at + removed <= this.#start.place;
   }
 
   add(at, removed, text, caret) {
-    const start = gone(this.#whole, at - this.#place, count, this.#index);
+    const isBehind = at >= this.#end.place;
+    const start = isBehind
+      ? gone(this.#whole, at - this.#end.place, count, this.#end.index)
+      : goneBack(this.#whole, this.#start.place - at, count, this.#start.index);
     const end = gone(this.#whole, removed, count, start.index);
     if (start.rest > 0 || end.rest > 0) throw new Wrong("the change is beyond the text");
     if (start.rest < 0 || end.rest < 0) throw new Wrong("the change begins or ends inside of a character");
     const behind = caret === null || caret < at ? 0 : text.length - gone(text, caret - at, count).index;
-    this.changes.unshift({ at: start.index, removed: end.index - start.index, text, behind });
-    this.#index = end.index;
-    this.#place = at + size(text, count);
+    const change = { at: start.index, removed: end.index - start.index, text, behind };
+    if (!isBehind || this.changes.length === 0) this.#start = { index: start.index, place: at };
+    if (isBehind) {
+      this.changes.unshift(change);
+      this.#end = { index: end.index, place: at + size(text, count) };
+    } else {
+      this.changes.push(change);
+      this.#end.place += size(text, count) - removed;
+    }
   }
 }
 
@@ -126,7 +137,7 @@ class Conversation {
 
   /** The editor has changed its text, where its caret is at a place then. */
   #replace([at, removed, text], isMore, caret) {
-    if (!isMore || !this.#batch?.isGoneOnBy(at)) this.#makeBatch();
+    if (!isMore || !this.#batch?.takes(at, removed)) this.#makeBatch();
     if (this.#batch === null) setImmediate(() => this.#makeBatch()); // once all is read that is there
     this.#batch ??= new Batch(this.#text.text, isMore);
     this.#batch.add(at, removed, text, caret);
