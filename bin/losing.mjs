@@ -269,7 +269,8 @@ async function isFarBehind() {
   const { s, v } = await way.room.ask({ t: "join", u: 16 });
   for (let n = 1; n <= 55; n += 1) await way.room.ask({ t: "ins", s, n, v, k: start(n) - 1, x: "0123456789abcdefghij" });
   way.isUp = true;
-  const wanted = lines.map((line, n) => (n === 30 ? "" : `${n === 50 ? "MINE " : ""}${line.slice(0, -1)}`) + (n < 55 ? "0123456789abcdefghij" : "") + (n === 30 ? "" : "\n"));
+  const put = (n) => (n < 55 ? "0123456789abcdefghij" : "");
+  const wanted = lines.map((line, n) => (n === 30 ? put(n) : `${n === 50 ? "MINE " : ""}${line.slice(0, -1)}${put(n)}\n`));
   await endsAs(way, wanted.join(""));
   assert.equal(caret.place, wanted.slice(0, 55).join("").length);
 }

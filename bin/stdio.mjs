@@ -150,12 +150,13 @@ class Editor {
 /** A room that has a text. */
 const roomOf = (text) => new MemoryRoom({ log: [{ c: [[0, 1]], k: "r", s: 0, p: null, x: text }], site: 1 });
 
-/** A word is replaced at 10,000 places, by one change or by many in both orders, and that is undone: each within two seconds of a processor. */
+/** A word is replaced at 10,000 places, by one change or by many in both orders, and that is undone: each in two seconds of a processor. */
 async function replacesAtManyPlaces(server) {
   const text = "the cat the\n".repeat(5_000);
   const done = text.replaceAll("the", "some");
   const places = Array.from({ length: 10_000 }, (_, n) => ({ replace: [13 * (n >> 1) + (n % 2) * 9 + (n >> 1), 3, "some"], more: n > 0 }));
-  const back = Array.from({ length: 10_000 }, (_, n) => ({ replace: [12 * ((9_999 - n) >> 1) + ((n + 1) % 2) * 8, 3, "some"], more: n > 0 }));
+  const starts = [...text.matchAll(/the/g)].map(({ index }) => index);
+  const back = starts.reverse().map((at, n) => ({ replace: [at, 3, "some"], more: n > 0 }));
   for (const changes of [[{ replace: [0, text.length, done] }], places, back]) {
     server.turn(roomOf(text));
     const editor = new Editor(server);
@@ -252,7 +253,7 @@ async function givesUpAtAnotherText(server) {
   assert.deepEqual(await editors[1].closes(), { sent: false, unsent: [], status: 1 });
 }
 
-/** Who types and ends before the line is there has it in the room; what isn't sent is told to its end, and who doesn't read that is left. */
+/** Who types and ends before the line is there has it in the room; what isn't sent is told whole, and who doesn't read that is left. */
 async function endsBeforeItIsThere(server) {
   server.turn(new MemoryRoom());
   const early = new Editor(server);

@@ -238,7 +238,8 @@ export class Log {
       const end = found[at + count];
       const isWhole = count === signs.length || (count > 0 && (end === undefined || end.sequence === 1));
       if (!isWhole) continue;
-      if (document.accepted !== null || (await this.#areOf(found.slice(at, at + count), isPut ? [before] : signs))) return { from: first + at, count };
+      const isFound = document.accepted !== null || (await this.#areOf(found.slice(at, at + count), isPut ? [before] : signs));
+      if (isFound) return { from: first + at, count };
     }
     return null;
   }

@@ -116,7 +116,10 @@ export class Memory {
     }
   }
 
-  /** The entries that put in something here that the room's text of so many units still has, the last first: how many lead to each, and where. */
+  /**
+   * The entries that put in something here that the room's text of so many units still has, the last first: how many lead to each, and
+   * where.
+   */
   *own(units) {
     const now = [...Array(units).keys()];
     for (let length = this.#entries.length - 1; length >= 0; length -= 1) {

@@ -49,4 +49,9 @@ export class Piece {
   isLike(other) {
     return ["owner", "gone", "order", "since"].every((it) => this[it] === other[it]);
   }
+
+  /** Takes in a piece of its kind that stands behind it. */
+  join(next) {
+    this.text += next.text;
+  }
 }

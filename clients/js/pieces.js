@@ -2,6 +2,7 @@
  * The list of pieces of a document: what is shown are those that aren't gone, and the room's text are those that are its own. A place is
  * one of the shown text or one of the room's, and both count UTF-16 units.
  */
+import { joined } from "./along.js";
 import { add } from "./changes.js";
 import { Piece } from "./piece.js";
 
@@ -78,20 +79,16 @@ export class Pieces {
   /** Joins the pieces round a number that are of one kind, but for what is lost, which may be looked at. */
   joinAt(index) {
     for (let at = Math.min(index + 1, this.list.length - 1); at >= Math.max(1, index - 1); at -= 1) {
-      if (!this.list[at].isLost) this.#joinBefore(at);
+      const [left, piece] = this.list.slice(at - 1, at + 1);
+      if (piece.isLost || !left.isLike(piece)) continue;
+      left.join(piece);
+      this.list.splice(at, 1);
     }
   }
 
   /** Joins all neighbours of one kind. */
   join() {
-    for (let at = this.list.length - 1; at > 0; at -= 1) this.#joinBefore(at);
-  }
-
-  /** Joins a piece to the one before it, where both are of one kind. */
-  #joinBefore(at) {
-    if (!this.list[at - 1].isLike(this.list[at])) return;
-    this.list[at - 1].text += this.list[at].text;
-    this.list.splice(at, 1);
+    this.list = joined(this.list);
   }
 
   get hasLost() {

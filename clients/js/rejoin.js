@@ -69,8 +69,8 @@ async function wayWithin(document, room, log, edits) {
 }
 
 /**
- * Whether a log is the one that was joined, and lost more than is known of it: its first site has as many operations as it had there. A room
- * that is renewed by hand begins with a text of site 0, which may be as long: then another site has to have as many, too.
+ * Whether a log is the one that was joined, and lost more than is known of it: its first site has as many operations as it had there. A
+ * room that is renewed by hand begins with a text of site 0, which may be as long: then another site has to have as many, too.
  */
 function isShorter({ counts }, room, first) {
   const same = [...counts.keys()].filter((site) => room.counts.get(site) === counts.get(site));
@@ -115,9 +115,9 @@ function hasCome({ roomText, textToCome, underWay }, text) {
 }
 
 /**
- * The text that a new document was made of, and how many entries lead there: the last one that is the same. Else it was made by changes that
- * weren't seen, of a later one; but as far as all is missing that was put in here last, that was lost. Others put theirs in again. Where it
- * has what is under way, nothing was lost.
+ * The text that a new document was made of, and how many entries lead there: the last one that is the same. Else it was made by changes
+ * that weren't seen, of a later one; but as far as all is missing that was put in here last, that was lost. Others put theirs in again.
+ * Where it has what is under way, nothing was lost.
  */
 function textBefore(document, wanted) {
   const { memory, roomText } = document;

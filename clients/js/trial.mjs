@@ -280,7 +280,9 @@ async function tellsChanges() {
   await until(() => one.text === "a\ufffd");
   assert.equal(played("b\ufffd", told), "a\ufffd");
   other.insert(2, "😀");
-  for (const [at, removed] of [[3, 0], [2, 1], [9, 0], [-1, 0], [NaN, 0], [0, 0.5]]) assert.throws(() => other.replace(at, removed, ""), RangeError);
+  for (const [at, removed] of [[3, 0], [2, 1], [9, 0], [-1, 0], [NaN, 0], [0, 0.5]]) {
+    assert.throws(() => other.replace(at, removed, ""), RangeError);
+  }
   await Promise.all([one.close(), other.close()]);
 }
 

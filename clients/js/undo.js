@@ -164,8 +164,8 @@ export class Undo {
   }
 
   /**
-   * Makes changes of the text: `puts` gives the pieces that one puts in, behind what is hidden at its place, and `takes` what becomes of one
-   * that is within what it removes.
+   * Makes changes of the text: `puts` gives the pieces that one puts in, behind what is hidden at its place, and `takes` what becomes of
+   * one that is within what it removes.
    */
   #rewrite(changes, puts, takes) {
     const pieces = [];

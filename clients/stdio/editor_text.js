@@ -110,7 +110,7 @@ export class EditorText {
     this.#rewrite("editor", changes, ({ text }) => fresh(text), null);
   }
 
-  /** Makes changes of one of the texts: `puts` gives what one puts in. What they take out of both stays in the other one, if there is one. */
+  /** Makes changes of one of the texts: `puts` gives what one puts in. What they take out of both stays in the other one, if any. */
   #rewrite(whose, changes, puts, other) {
     const pieces = [];
     for (const [change, piece] of along(changes, this.#pieces, unitsOf(whose))) {

@@ -41,7 +41,10 @@ export class Memory {
         text: any;
         length: number;
     }, void, unknown>;
-    /** The entries that put in something here that the room's text of so many units still has, the last first: how many lead to each, and where. */
+    /**
+     * The entries that put in something here that the room's text of so many units still has, the last first: how many lead to each, and
+     * where.
+     */
     own(units: any): Generator<{
         length: number;
         places: number[];

@@ -22,4 +22,6 @@ export class Piece {
     cut(place: any): Piece;
     /** Whether both are of one kind, so that they may be one piece. */
     isLike(other: any): boolean;
+    /** Takes in a piece of its kind that stands behind it. */
+    join(next: any): void;
 }

@@ -368,8 +368,8 @@ end
 command("RgatextUnsent", function(room)
   local unsent = room.is_over and room.unsent or room:ask({ unsent = true }, "unsent").unsent
   if not unsent then
-    local is_ending = room.is_over and not room.has_ended
-    return list({ "what the room doesn't have isn't known: its program " .. (is_ending and "is still ending" or "has ended without a word") })
+    local why = room.is_over and not room.has_ended and "is still ending" or "has ended without a word"
+    return list({ "what the room doesn't have isn't known: its program " .. why })
   end
   local lines = vim.tbl_map(function(it)
     return it.kind .. ": " .. it.text
