@@ -7,7 +7,7 @@ import { wayTo } from "../clients/js/rejoin.js";
 import { isInside } from "../clients/js/text.js";
 import { rejoin } from "./rejoining.mjs";
 import { dice, Room } from "./room.mjs";
-import { mustFitWhole, undoAtRandom, undoOnesOwn, undoQuickly, undoTogether } from "./undoing.mjs";
+import { mustFitWhole, undoAtRandom, undoBesideAList, undoOnesOwn, undoQuickly, undoTogether } from "./undoing.mjs";
 import { vectors } from "./vectors.mjs";
 import { keptRun, renewedRun } from "./way.mjs";
 
@@ -203,4 +203,5 @@ undoQuickly();
 undoTogether();
 mustFitWhole();
 for (let seed = 1; seed <= 300; seed += 1) undoAtRandom(dice(seed), seed % 2 === 0);
+for (let seed = 1; seed <= 300; seed += 1) undoBesideAList(dice(seed));
 console.log(`bin/try_merging: ${cases.length + rejoined} vectors, texts of ${merged.join(", ")} units merged, steps undone`);

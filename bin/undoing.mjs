@@ -19,9 +19,14 @@ class Typed {
     for (const { at, removed, text } of changes) this.text = this.text.slice(0, at) + text + this.text.slice(at + removed);
   }
 
-  own(at, removed, text, when = (this.#time += 5_000), isMore = false) {
-    this.undo.note({ at, removed, text }, this.text.slice(at, at + removed), when, isMore);
-    this.replaceAll([{ at, removed, text }]);
+  own(at, removed, text, when = undefined, isMore = false) {
+    this.step([{ at, removed, text }], when, isMore);
+  }
+
+  /** Changes from the last place to the first, as one step. */
+  step(changes, when = (this.#time += 5_000), isMore = false) {
+    this.undo.noteAll(changes.map((it) => ({ ...it, taken: this.text.slice(it.at, it.at + it.removed) })), when, isMore);
+    this.replaceAll(changes);
   }
 
   other(at, removed, text) {
@@ -118,4 +123,65 @@ export function undoAtRandom(roll, isAlone) {
   assert.equal(typed.text.length, start.length + others.length);
   for (const _ of steps) typed.turn(true);
   assert.equal(typed.text, before);
+}
+
+/** Steps of several changes, and others' changes, beside a list that tells of each character who put it in and who took it out. */
+export function undoBesideAList(roll) {
+  const typed = new Typed();
+  const [known, done, undone] = [new Map(), [], []];
+  let next = 0x4e00;
+  const some = () => Array.from({ length: roll(4) }, () => String.fromCodePoint(next++)).join("");
+  const change = (last) => {
+    const end = roll(last + 1);
+    const at = roll(2) === 0 ? end : roll(end + 1);
+    return { at, removed: end - at, text: some() };
+  };
+  /** What a step leaves of the text, or brings back. */
+  const turned = (shown, step, isRedo) => {
+    const wanted = new Set(shown);
+    for (const [sign, { putBy, takenBy, isGone }] of known) {
+      const [hides, brings] = isRedo ? [takenBy === step, putBy === step] : [putBy === step, takenBy === step];
+      if (isGone || (hides && brings)) continue; // what a step put in and took out itself doesn't come back
+      if (hides) wanted.delete(sign);
+      if (brings) wanted.add(sign);
+    }
+    return wanted;
+  };
+  for (let n = 0; n < 60; n += 1) {
+    const does = roll(10);
+    if (does < 4) {
+      const step = [];
+      for (let m = roll(4), last = typed.text.length; m > 0; m -= 1, last = step.at(-1).at) step.push(change(last));
+      const made = step.filter(({ removed, text }) => removed > 0 || text !== "");
+      if (made.length === 0) continue;
+      const gone = new Set(undone.splice(0));
+      for (const [sign, it] of known) {
+        const isShown = typed.text.includes(sign);
+        it.isGone ||= !isShown && gone.has(it.putBy);
+        if (isShown && gone.has(it.takenBy)) it.takenBy = null;
+      }
+      for (const { at, removed, text } of made) {
+        for (const sign of typed.text.slice(at, at + removed)) known.get(sign).takenBy = step;
+        for (const sign of text) known.set(sign, { putBy: step, takenBy: null, isGone: false });
+      }
+      typed.step(made);
+      done.push(step);
+    } else if (does < 7) {
+      const { at, removed, text } = change(typed.text.length);
+      for (const sign of typed.text.slice(at, at + removed)) known.get(sign).isGone = true;
+      for (const sign of text) known.set(sign, { putBy: null, takenBy: null, isGone: false });
+      typed.other(at, removed, text);
+    } else {
+      const isRedo = does === 9;
+      const [from, to] = isRedo ? [undone, done] : [done, undone];
+      const shown = new Set(typed.text);
+      let wanted = shown;
+      while (from.length > 0 && wanted.size === shown.size && [...wanted].every((it) => shown.has(it))) {
+        to.push(from.pop());
+        wanted = turned(shown, to.at(-1), isRedo);
+      }
+      typed.turn(isRedo);
+      assert.deepEqual([...typed.text].sort(), [...wanted].sort());
+    }
+  }
 }
