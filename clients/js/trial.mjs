@@ -6,6 +6,7 @@ import { promisify } from "node:util";
 import { MemoryRoom } from "./memory_room.js";
 import { Ended, Full, GivenUp, Lost, open, played, Refused, Session } from "./rgatext.js";
 import { bindTextarea } from "./textarea.js";
+import { dice } from "../../bin/room.mjs";
 
 const pause = (milliseconds) => new Promise((resolve) => setTimeout(resolve, milliseconds));
 
@@ -357,6 +358,53 @@ async function losesNothing() {
   await Promise.all(sessions.map((it) => it.close()));
 }
 
+/** Lists of changes, of characters of all kinds, at random: each makes the text that its changes lead to, and costs what it then has. */
+async function replacesAtRandom() {
+  const signs = ["a", "b", "\r", "\n", "\0", "é", "😀", "😁", "\ud83d"];
+  for (let seed = 1; seed <= 6; seed += 1) {
+    const roll = dice(seed);
+    const operations = seed % 3 === 0 ? 120 : 131_072;
+    const room = new MemoryRoom({ operations });
+    const meets = ({ t }) => (t === "join" || t === "leave" || roll(25) > 0 ? "" : ["request", "answer"][roll(2)]);
+    const times = { typing: 2, idle: 3, retry: 1, longest: 4, operations };
+    const sessions = [1, 2, 3].map(() => new Session(() => room.connect({ meets }), times));
+    const shown = new Map(sessions.map((it) => [it, ""]));
+    for (const it of sessions) it.addEventListener("changes", ({ detail }) => shown.set(it, played(shown.get(it), detail)));
+    for (let n = 0; n < 100; n += 1) {
+      const session = sessions[roll(3)];
+      const { text, left, document: { pending } } = session;
+      assert.equal(text, shown.get(session));
+      if (session.state === "refused") break;
+      const borders = [0];
+      for (const sign of text) borders.push(borders.at(-1) + sign.length);
+      const changes = [];
+      for (let m = roll(5), last = borders.length - 1; m > 0; m -= 1) {
+        const end = roll(last + 1);
+        const start = roll(2) === 0 ? end : roll(end + 1);
+        const put = Array.from({ length: roll(4) }, () => signs[roll(signs.length)]).join("");
+        changes.push({ at: borders[start], removed: borders[end] - borders[start], text: put });
+        last = start;
+      }
+      const wanted = changes.map((it) => ({ ...it, text: it.text.toWellFormed() }));
+      const cost = session.document.cost(changes);
+      if (cost > left) {
+        assert.throws(() => session.replaceAll(changes), Full);
+        assert.equal(session.text, text);
+      } else {
+        assert.deepEqual(session.replaceAll(changes), wanted);
+        shown.set(session, played(text, wanted));
+        assert.equal(session.text, shown.get(session));
+        assert.equal(session.document.pending - pending, cost);
+      }
+      if (roll(4) === 0) await pause(roll(4));
+    }
+    await Promise.all(sessions.map((it) => it.sent().catch(({ number }) => assert.equal(number, 12))));
+    const isThere = (it) => it.state === "refused" || (it.text === room.text && shown.get(it) === room.text);
+    await until(() => sessions.every(isThere));
+    await Promise.all(sessions.map((it) => it.close()));
+  }
+}
+
 /** What a text area has of a page, as far as a binding asks for it. */
 class Area extends EventTarget {
   #value = "";
@@ -416,5 +464,5 @@ async function composesAlone() {
 }
 
 const trials = [isReady, isSent, isFlushed, endsInTime, sendsBeforeItEnds, endsForGood, ends, isAsThePageTells, isAPackage];
-await Promise.all([...trials, tellsChanges, takesOptions, hasAnother, losesNothing, composesAlone].map((it) => it()));
+await Promise.all([...trials, tellsChanges, takesOptions, hasAnother, losesNothing, composesAlone, replacesAtRandom].map((it) => it()));
 console.log("the module: what is ready, sent, closed, told and asked is as the page says");
