@@ -49,38 +49,48 @@ class Both {
     this.session.splice(to, 0, ...put);
   }
 
-  /** The editor changes its text; the session may refuse that. */
+  /** The editor changes its text at some places, from the last one to the first; the session may refuse that. */
   edits() {
-    const [at, removed] = this.range(this.editor);
-    const put = this.roll(3) > 0 ? this.some() : [];
+    const edits = [];
+    for (let n = 1 + this.roll(3), last = this.editor.length; n > 0; n -= 1, last = edits.at(-1).at) {
+      const end = this.roll(3) === 0 ? last : this.roll(last + 1);
+      const at = Math.max(0, end - this.roll(2) * this.roll(5));
+      edits.push({ at, removed: end - at, put: this.roll(3) > 0 ? this.some() : [] });
+    }
     const isRefused = this.roll(8) === 0;
-    const before = [...this.session];
-    const taken = this.editor.slice(at, at + removed);
-    const change = { at: this.editor.slice(0, at).join("").length, removed: taken.join("").length, text: put.join("") };
-    const make = (changes) => {
+    const [before, editor] = [[...this.session], [...this.editor]];
+    const units = (from, to) => editor.slice(from, to).join("").length;
+    const changes = edits.map(({ at, removed, put }) => {
+      return { at: units(0, at), removed: units(at, at + removed), text: put.join(""), behind: this.roll(3) };
+    });
+    const make = (made) => {
       if (isRefused) throw new Full(0);
       let shown = this.session.join("");
-      for (const [n, { at: place, removed: units, text, taken: out }] of changes.entries()) {
-        assert.equal(shown.slice(place, place + units), out);
-        assert.ok(n === 0 || place + units <= changes[n - 1].at, "from the last one to the first");
-        shown = shown.slice(0, place) + text + shown.slice(place + units);
+      for (const [n, { at: place, removed: length, text, taken: out }] of made.entries()) {
+        assert.equal(shown.slice(place, place + length), out);
+        assert.ok(n === 0 || place + length <= made[n - 1].at, "from the last one to the first");
+        shown = shown.slice(0, place) + text + shown.slice(place + length);
       }
       this.session = [...shown];
     };
-    const edits = [{ ...change, behind: this.roll(3) }];
-    if (isRefused) assert.throws(() => this.text.replace(edits, make), Full);
-    else this.text.replace(edits, make);
-    const neighbour = this.editor[at - 1];
-    this.editor.splice(at, removed, ...put);
+    if (isRefused) assert.throws(() => this.text.replace(changes, make), Full);
+    else this.text.replace(changes, make);
+    const put = edits.flatMap((it) => it.put);
+    const taken = edits.flatMap(({ at, removed, put }) => this.editor.splice(at, removed, ...put));
     if (isRefused) return this.refused.push(...put);
     const isPut = new Set(put);
     const isTaken = new Set(taken.filter((it) => !this.moved.includes(it)));
     const [left, wanted] = [this.session.filter((it) => !isPut.has(it)), before.filter((it) => !isTaken.has(it))];
     assert.deepEqual(left, wanted, "others' text stays, and its order");
-    const first = this.session.indexOf(put[0]);
-    if (put.length > 0) assert.deepEqual(this.session.slice(first, first + put.length), put, "what is put in stays together");
-    const isBehind = put.length > 0 && this.session.includes(neighbour) && !this.moved.includes(neighbour);
-    if (isBehind) assert.equal(this.session[first - 1], neighbour, "it stands right behind the character that it was put in behind");
+    for (const it of edits) {
+      const first = this.session.indexOf(it.put[0]);
+      if (first < 0) continue;
+      assert.deepEqual(this.session.slice(first, first + it.put.length), it.put, "what is put in stays together");
+      const neighbour = editor[it.at - 1];
+      const isAlone = edits.every((other) => other === it || other.at + other.removed < it.at || other.at > it.at);
+      const isBehind = isAlone && this.session.includes(neighbour) && !this.moved.includes(neighbour);
+      if (isBehind) assert.equal(this.session[first - 1], neighbour, "it stands right behind the character that it was put in behind");
+    }
   }
 
   /** The editor takes what there is, in its own count, and has the session's text then. */
