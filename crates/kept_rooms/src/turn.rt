@@ -1,5 +1,5 @@
 //! A turn of keeping a room's log.
-ghost use Rattle.std.specs.Prelude.{◌≡◌, ◌<◌, ◌≤◌, Err, length, IfOk, OnOk};
+ghost use Rattle.std.specs.Prelude.{◌≡◌, ◌<◌, ◌≤◌, ◌↔◌, Err, None, length, IfOk, IfSome, OnOk};
 ghost use Rattle.std.specs.declared.io.Error.{Error};
 ghost use Rattle.ws_server.specs.Halls.{rooms_of, IsHallPassOf};
 ghost use Rattle.kept_rooms.specs.Keeping.{TurnsRoom, KeepsRoom};
@@ -83,6 +83,11 @@ pub(crate) fn look_at<R: Wait, D: Disk>(
     ensures pass { IsHallPassOf hall.now pass.new }
     ensures version { IfOk result (λ look. look.version ≡ length (seen_log hall.now at pass.new)) }
     ensures no_less { length (seen_log hall.now at pass.old) ≤ length (seen_log hall.now at pass.new) }
+    ensures turned { IfSome file.old (λ old. IfSome file.new (λ new. old.room ≡ at
+        → TurnsRoom D.honest D.seen D.may_leave D.fresh D.moment D.left_since hall.now pass.new old new
+        × OnOk result (KeepsRoom D.honest D.seen D.may_leave D.fresh hall.now pass.new old new))) }
+    ensures there { (file.new ≡ None) ↔ (file.old ≡ None) }
+    ensures others { IfSome file.old (λ old. (old.room ≡ at → ⊥) → file.new ≡ file.old) }
 {
     match file {
         Some(file) if file.room() == at => keep_turn(rt, alloc, hall, pass, file),
