@@ -18,8 +18,8 @@ READ = '{"t":"read"}'
 class Room:
     """A kept room, and the server that has it."""
 
-    def __init__(self, work, program, every, lines, note):
-        self.work, self.program, self.every, self.lines, self.note = work, program, every, lines, note
+    def __init__(self, work, program, every, lines, note, *words):
+        self.work, self.program, self.every, self.lines, self.note, self.words = work, program, every, lines, note, words
         self.folder, self.backup, self.number, self.run, self.restarts = work / "rooms", work / "backup", 0, None, 0
         self.folder.mkdir()
 
@@ -30,7 +30,7 @@ class Room:
     def start(self):
         port = free_port()
         every = [] if self.every == "disk" else ["--every", self.every]
-        words = [self.program, "serve", "--port", str(port), "--keep", str(self.folder), *every, "notes"]
+        words = [self.program, "serve", "--port", str(port), "--keep", str(self.folder), *every, *self.words, "notes"]
         self.run = subprocess.Popen(words, stdin=subprocess.DEVNULL, stdout=subprocess.PIPE)
         if self.run.stdout.readline() != f"listening {port}\n".encode():
             sys.exit("the server doesn't start")

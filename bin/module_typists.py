@@ -21,6 +21,7 @@ class ModuleTypists:
 
     def __init__(self, texts, port, tally, module, is_of_words):
         self.tally, self.reports, self.faults, self.ended = tally, {}, [], 0
+        self.away = []  # until when, and how many seconds, each was away that is quick
         self.who = [it["who"] for it in texts]
         has_socket = "--experimental-websocket" in subprocess.run(["node", "--help"], capture_output=True, text=True).stdout
         words = ["node", *["--experimental-websocket"] * has_socket, "--no-warnings", str(TOP / "bin" / "typing.mjs")]
@@ -44,6 +45,8 @@ class ModuleTypists:
                 self.faults.append((who, told["fault"]))
             elif "ended" in told:
                 self.ended += 1
+            elif "away" in told:
+                self.away.append((time.monotonic(), told["away"] / 1_000))
             else:
                 self.tally.note(who, **told)
 
@@ -55,6 +58,14 @@ class ModuleTypists:
         while len(self.reports) < len(self.who) and time.monotonic() < end:
             time.sleep(0.02)
         return dict(self.reports)
+
+    def go_on(self, texts):
+        """Each types again, another text."""
+        self.say(further=texts)
+
+    def clear(self, count):
+        """The first one takes so many units out."""
+        self.say(clear=count)
 
     def end(self):
         self.say(end=True)

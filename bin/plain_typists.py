@@ -38,9 +38,9 @@ class Line:
 class PlainTypist(threading.Thread):
     """Types and deletes at random. In another run of the server it puts in what that lacks of its own."""
 
-    def __init__(self, who, text, port, tally, is_of_words):
+    def __init__(self, who, text, port, tally, is_of_words, quick=0):
         super().__init__(daemon=True)
-        self.who, self.text, self.port, self.tally, self.is_of_words = who, text, port, tally, is_of_words
+        self.who, self.text, self.port, self.tally, self.is_of_words, self.quick = who, text, port, tally, is_of_words, quick
         self.dice, self.used = random.Random(who), 0
         self.is_typing, self.is_open, self.fault = True, True, ""
         self.state, self.asked = "joining", 0
@@ -60,7 +60,7 @@ class PlainTypist(threading.Thread):
             except Lost:
                 continue
         while self.is_open:
-            time.sleep(self.dice.uniform(0.05, 0.35))
+            time.sleep(self.dice.uniform(0.15, 0.45) if self.quick else self.dice.uniform(0.05, 0.35))
             self.turn(self.type if self.is_typing and self.state == "up to date" else self.session.pull)
         self.turn(self.session.leave)
 
@@ -84,13 +84,13 @@ class PlainTypist(threading.Thread):
 
     def type(self):
         session, dice = self.session, self.dice
-        if dice.random() < 0.2 and session.text and not self.is_of_words:
-            count = min(dice.randint(1, 4), len(session.text))
+        if dice.random() < (1 / 3 if self.quick else 0.2) and session.text and not self.is_of_words:
+            count = min(dice.randint(1, 2 * self.quick or 4), len(session.text))
             place = dice.randint(0, len(session.text) - count)
             taken = session.text[place : place + count]
             self.noted(lambda: session.delete(place, count), "", taken)
             return
-        count = dice.randint(65, 130) if dice.random() < 0.02 else dice.randint(1, 5)
+        count = dice.randint(1, 2 * self.quick) if self.quick else dice.randint(65, 130) if dice.random() < 0.02 else dice.randint(1, 5)
         text = self.text[self.used : self.used + count]
         place = dice.choice((len(session.text), dice.randint(0, len(session.text))))
         self.used += count
@@ -123,7 +123,7 @@ class PlainTypists:
 
     def __init__(self, texts, port, tally, is_of_words):
         self.who = [it["who"] for it in texts]
-        self.typists = [PlainTypist(it["who"], it["text"], port, tally, is_of_words) for it in texts]
+        self.typists = [PlainTypist(it["who"], it["text"], port, tally, is_of_words, it.get("quick", 0)) for it in texts]
 
     @property
     def faults(self):
@@ -132,6 +132,11 @@ class PlainTypists:
     def report(self):
         self.reports = {it.who: it.report() for it in self.typists}
         return self.reports
+
+    def go_on(self, texts):
+        """Each types again, another text."""
+        for typist, it in zip(self.typists, texts):
+            typist.text, typist.used, typist.is_typing = it["text"], 0, True
 
     def end(self):
         for it in self.typists:

@@ -93,7 +93,7 @@ static int is_late(int file)
         return 0;
     snprintf(link, sizeof link, "/proc/self/fd/%d", file);
     ssize_t length = readlink(link, path, sizeof path);
-    return length > 4 && !memcmp(path + length - 4, ".ops", 4);
+    return length > 4 && (!memcmp(path + length - 4, ".ops", 4) || !memcmp(path + length - 4, ".new", 4));
 }
 
 /* Writes what waits to the file, or takes it away. */

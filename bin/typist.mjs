@@ -12,9 +12,10 @@ export async function moduleOf(folder) {
 }
 
 export class Typist {
-  /** `open` gives a session, and `tell` takes what was done, a line each. */
-  constructor({ module, open, tell, isOfWords }, { who, text, answer }) {
-    Object.assign(this, { module, open, isOfWords, who, answer, supply: [...text], used: 0, asked: 0, differs: 0, isTyping: true });
+  /** `open` gives a session, and `tell` takes what was done, a line each. Who is quick puts in and takes out so many characters at a time,
+   * a third of the times out. */
+  constructor({ module, open, tell, isOfWords }, { who, text, answer, quick = 0 }) {
+    Object.assign(this, { module, open, isOfWords, who, answer, quick, supply: [...text], used: 0, asked: 0, differs: 0, isTyping: true });
     this.tell = (what) => tell({ who, ...what });
     this.begin();
     this.type().catch((fault) => this.tell({ fault: `${fault.stack}` }));
@@ -32,7 +33,11 @@ export class Typist {
       if (this.shown !== session.text) this.differs += 1;
     });
     let state = "";
+    let left = null;
     session.addEventListener("state", () => {
+      const isThere = session.state === "up to date" || session.state === "sending";
+      if (isThere && left !== null && this.quick) this.tell({ away: Date.now() - left });
+      left = isThere ? null : (left ?? Date.now());
       if (session.state === "another text" && state !== "another text") {
         this.asked += 1;
         setTimeout(() => this.choose(session), 1_000);
@@ -92,9 +97,9 @@ export class Typist {
 
   async put() {
     if (roll(10) < 3) this.caret = this.outside(roll(this.shown.length + 1));
-    const count = roll(50) === 0 ? 65 + roll(70) : 1 + roll(5);
+    const count = this.quick ? 1 + roll(2 * this.quick) : roll(50) === 0 ? 65 + roll(70) : 1 + roll(5);
     const text = this.supply.slice(this.used, this.used + count);
-    const parts = count > 5 || roll(2) === 0 ? [text.join("")] : text;
+    const parts = this.quick || count > 5 || roll(2) === 0 ? [text.join("")] : text;
     this.last = "";
     for (const part of parts) {
       if (!this.isTyping || !this.change(this.caret, 0, part)) return;
@@ -111,8 +116,9 @@ export class Typist {
       if (this.change(this.caret - last.length, last.length, "")) this.last = this.last.slice(0, -last.length);
       return;
     }
-    const at = this.outside(roll(3) > 0 ? Math.max(0, this.caret - 1 - roll(4)) : roll(this.shown.length));
-    let end = Math.min(this.shown.length, at + 1 + roll(4));
+    const most = this.quick ? 2 * this.quick : 4;
+    const at = this.outside(roll(3) > 0 ? Math.max(0, this.caret - 1 - roll(most)) : roll(this.shown.length));
+    let end = Math.min(this.shown.length, at + 1 + roll(most));
     if (isInside(this.shown, end)) end += 1;
     if (end > at) this.change(at, end - at, "");
   }
@@ -125,9 +131,15 @@ export class Typist {
     this.isTaken(() => this.undo.turn(isRedo, this.session, make));
   }
 
+  /** Types again, a text in place of what was left. */
+  goOn(text) {
+    Object.assign(this, { supply: [...text], used: 0, isTyping: true });
+    this.type().catch((fault) => this.tell({ fault: `${fault.stack}` }));
+  }
+
   async type() {
     while (this.isTyping) {
-      await pause(50 + roll(300));
+      await pause(this.quick ? 150 + roll(300) : 50 + roll(300));
       if (this.isOver) {
         this.tell({ ended: this.session.why, unsent: this.session.unsent });
         this.begin();
@@ -136,7 +148,7 @@ export class Typist {
       }
       if (this.session.state === "joining" || this.session.state === "another text") continue;
       const does = roll(40);
-      if (does < 8) this.take();
+      if (does < (this.quick ? 13 : 8)) this.take();
       else if (does === 8 && !this.isOfWords) this.turn(roll(3) === 0);
       else await this.put();
     }

@@ -11,7 +11,7 @@ records, so an idle bridge polls once a second. A room that is full (12) takes n
 the libraries `websockets` and, for the broker, `redis`.
 
 Nothing is carried between two documents: where both have operations and none in common. Where rooms are renewed, delete the stream before
-the bridges begin (`redis-cli DEL rgatext:notes`): a renewed room begins with site 0, as the old one may have, and can look like one that
+the bridges begin (`redis-cli DEL rgatext:notes`): a room renewed by hand begins with site 0, as the old one may have, and can look like one that
 goes on with it. Two documents that are to become one are told by `--merge`.
 """
 import collections

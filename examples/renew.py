@@ -18,11 +18,13 @@ import hashlib
 import json
 import os
 import pathlib
+import re
 import shutil
 import subprocess
 import sys
 
 PROGRAM = pathlib.Path(__file__).resolve().parent.parent / "bin" / "rgatext"
+NAME = re.compile("[a-z0-9-]{1,32}")  # of a room: `notes.1.ops` is an old document
 MOST = 64  # characters of an insertion, and operations of a line
 UNREADABLE = ValueError, KeyError, TypeError, AttributeError, RecursionError  # what is raised where a text isn't what it should be
 
@@ -121,7 +123,7 @@ def renew_folder(program, old, new):
     """Makes a folder with a new document of each room of another one."""
     if os.path.lexists(new):
         raise Unrenewed(f"{new}: it is there already")
-    files = sorted(old.glob("*.ops"))
+    files = sorted(it for it in old.glob("*.ops") if NAME.fullmatch(it.stem))
     if not files:
         raise Unrenewed(f"{old}: no kept room is there")
     made = new.with_name(f"{new.name}.{os.getpid()}")

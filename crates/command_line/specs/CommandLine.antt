@@ -1,6 +1,6 @@
 -- The command line, as `clap` reads it: `rgatext lines [--site N] [--resume] [--snapshot]`, `rgatext text [--version V]`,
--- `rgatext world [--sites N]` and `rgatext serve --port P [--site N] [--conns C] [--keep FOLDER] [--every SECONDS] [--origin ORIGIN]...
--- [--report] NAME...`.
+-- `rgatext world [--sites N]` and `rgatext serve --port P [--site N] [--conns C] [--keep FOLDER] [--every SECONDS] [--renew]
+-- [--origin ORIGIN]... [--report] NAME...`.
 use Rattle.std.specs.Prelude.{◌≡◌, ◌≤◌, ◌⊎◌, ℕ, Bool, false, List, [], ◌∷◌, Option, Some, None, bytes_eq, codes, true, pos, map, option_map}
 use Rattle.std.specs.Prelude.{string_bytes, IfSome}
 use Rattle.std.specs.Option.{unwrap_or}
@@ -82,8 +82,8 @@ world_command = with_rule (new_app (codes "world")) sites_option
 -- the subcommand `serve`
 unfoldable pub serve_command : App
 serve_command =
-    with_rule (with_rule (with_rule (with_rule (with_rule (with_rule (with_rule (with_rule (new_app (codes "serve")) port_option) site_option)
-    conns_option) keep_option) every_option) origin_option) (flag_option (codes "report"))) name_words
+    with_rule (with_rule (with_rule (with_rule (with_rule (with_rule (with_rule (with_rule (with_rule (new_app (codes "serve")) port_option)
+    site_option) conns_option) keep_option) every_option) (flag_option (codes "renew"))) origin_option) (flag_option (codes "report"))) name_words
 
 -- the program, which asks for a subcommand, and tells its version
 unfoldable pub rgatext : App
@@ -114,11 +114,12 @@ AsksIn name rows (Lines site resume snapshot) = (name ≡ codes "lines") × Read
     × (resume ≡ is_set (first_of (codes "resume") rows)) × (snapshot ≡ is_set (first_of (codes "snapshot") rows))
 AsksIn name rows (TextOf version) = (name ≡ codes "text") × ReadsTo 4294967295 (first_of (codes "number") rows) version
 AsksIn name rows (World sites) = (name ≡ codes "world") × (1 ≤ sites) × ReadsTo 32 (first_of (codes "sites") rows) (Some sites)
-AsksIn name rows (Serve port site conns keep every origins report names) = (name ≡ codes "serve")
+AsksIn name rows (Serve port site conns keep every renew origins report names) = (name ≡ codes "serve")
     × (1 ≤ port) × ReadsTo 65535 (first_of (codes "port") rows) (Some port) × ReadsTo 31 (first_of (codes "site") rows) site
     × IfSome conns (λ count. 1 ≤ count) × ReadsTo 65536 (first_of (codes "conns") rows) conns
     × (option_map string_bytes keep ≡ first_of (codes "keep") rows)
     × IfSome every (λ seconds. 1 ≤ seconds) × ReadsTo 3600 (first_of (codes "every") rows) every
+    × (renew ≡ is_set (first_of (codes "renew") rows))
     × (map string_bytes origins.items ≡ unwrap_or (all_of (codes "origin") rows) [])
     × (report ≡ is_set (first_of (codes "report") rows))
     × (all_of (codes "name") rows ≡ Some (map string_bytes names.items))

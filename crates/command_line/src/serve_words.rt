@@ -33,13 +33,18 @@ pub(crate) fn serve_command<'a>(alloc: Global) -> Result<Command<'a>, AllocError
 // The subcommand with what it is told of its connections and of keeping alone.
 fn kept_command<'a>(alloc: Global) -> Result<Command<'a>, AllocError>
     ensures shape { IfOk result (λ made. app_of made
-        ≡ with_rule (with_rule (with_rule (with_rule (with_rule (new_app (codes "serve")) port_option) site_option) conns_option)
-        keep_option) every_option) }
+        ≡ with_rule (with_rule (with_rule (with_rule (with_rule (with_rule (new_app (codes "serve")) port_option) site_option) conns_option)
+        keep_option) every_option) (flag_option (codes "renew"))) }
     ensures local { IfOk result (λ made. (out-Command made).has_globals ≡ false) }
 {
     let serve = line_command(alloc)?;
     let serve = serve.arg(keep_arg(alloc))?;
-    serve.arg(every_arg(alloc))
+    let serve = serve.arg(every_arg(alloc))?;
+    serve.arg(flag_arg(
+        alloc,
+        "renew",
+        "With --keep a room begins anew with its text where it nears its limits",
+    ))
 }
 
 // The subcommand with what it is told of its connections alone.
@@ -156,6 +161,7 @@ pub(crate) fn serve_plan(alloc: Global, used: &ArgMatches<'_>) -> Result<Option<
         conns,
         keep,
         every,
+        renew: flag(used, "renew"),
         origins,
         report: flag(used, "report"),
         names,

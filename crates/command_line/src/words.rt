@@ -21,16 +21,15 @@ const VERSION: &str = "0.1.0";
 
 /// The plan that the words ask for, of which the first is the program's own name.
 ///
-/// `lines` serves standard input: `--site N` gives the room's site, 0 to 31, or 0 where it isn't given; with `--resume`
-/// the first line is a snapshot, and with `--snapshot` one is written last. `text` prints a snapshot's reading:
-/// `--version V`, 0 to 4,294,967,295, names the version, and else it is the newest. `world` plays the script on standard
-/// input: `--sites N` gives how many sites there are, 1 to 32, or 2 where it isn't given. `serve` serves rooms of the names
-/// that follow: `--port P` gives the port, 1 to 65535; `--site N` the site, 0 to 31; `--conns C`, 1 to 65,536, the number of
-/// connections; `--keep FOLDER` where the rooms' logs are kept; `--every SECONDS`, 1 to 3600, how long a turn of keeping waits for the
-/// next, where answers don't wait for one; `--origin ORIGIN`, again and again, whose pages may connect; and `--report` asks for a line each
-/// minute. `--help` and `help`, also of a subcommand, and `--version` are answered by `Help`; all other words by `Words`, which says what
-/// is wrong with them; want of memory by
-/// `Memory`. Takes time and memory in proportion to the words.
+/// `lines` serves standard input: `--site N` gives the room's site, 0 to 31, or 0 where it isn't given; with `--resume` the first line is a
+/// snapshot, and with `--snapshot` one is written last. `text` prints a snapshot's reading: `--version V`, 0 to 4,294,967,295, names the
+/// version, and else it is the newest. `world` plays the script on standard input: `--sites N` gives how many sites there are, 1 to 32, or
+/// 2 where it isn't given. `serve` serves rooms of the names that follow: `--port P` gives the port, 1 to 65535; `--site N` the site, 0 to
+/// 31; `--conns C`, 1 to 65,536, the number of connections; `--keep FOLDER` where the rooms' logs are kept; `--every SECONDS`, 1 to 3600,
+/// how long a turn of keeping waits for the next, where answers don't wait for one; `--renew` that rooms begin anew; `--origin ORIGIN`,
+/// again and again, whose pages may connect; and `--report` asks for a line each minute. `--help` and `help`, also of a subcommand, and
+/// `--version` are answered by `Help`; all other words by `Words`, which says what is wrong with them; want of memory by `Memory`. Takes
+/// time and memory in proportion to the words.
 pub fn plan(alloc: Global, words: &[String]) -> Result<Plan, PlanFault>
     ensures planned { IfOk result (λ made. AsksForPlan (subcommand_of rgatext (map string_bytes words.now)) made) }
     ensures refused { IfErr result (Refuses (fault_of rgatext (map string_bytes words.now))

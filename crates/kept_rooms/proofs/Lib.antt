@@ -1,3 +1,4 @@
 mod Opened
 mod SeenGrow
 mod Turned
+mod Followed

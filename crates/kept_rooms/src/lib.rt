@@ -6,6 +6,7 @@
 
 mod assigning;
 mod connection;
+mod following;
 mod held;
 pub mod laws;
 mod opening;
@@ -15,6 +16,7 @@ mod turn;
 
 pub use assigning::{Assigned, assign_rooms};
 pub use connection::KeptConnection;
+pub use following::follow;
 pub use held::HeldStream;
 pub use opening::{Opening, Unopened, open_hall};
 pub use room_turns::{RoomTurns, wait_until_kept};

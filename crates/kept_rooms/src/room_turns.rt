@@ -114,6 +114,17 @@ impl<D: Disk> RoomTurns<D> {
         self.wake_all();
     }
 
+    /// The file, once all turns were taken. Constant time.
+    pub fn into_file(self) -> Option<KeptFile<D>> {
+        let RoomTurns { file, .. } = self;
+        file.into_inner()
+    }
+
+    /// Whether the last turn kept what there was, and the file is the room's. Constant time.
+    pub fn is_well<R: Wait>(&self, rt: &R) -> bool {
+        !self.reached.lock(rt).has_failed
+    }
+
     /// Whether a turn has been taken for more than half a minute: the disk doesn't answer. Constant time.
     pub fn is_stuck<R: Wait + Clock>(&self, rt: &R) -> bool {
         let reached = self.reached.lock(rt);

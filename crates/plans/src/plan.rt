@@ -37,6 +37,8 @@ pub enum Plan {
         /// How many seconds pass between two turns of keeping, 1 to 3600; where it isn't named, each answer waits until all that it rests
         /// on is kept.
         every: Option<u32>,
+        /// A room that is kept begins anew with its text where it nears its limits.
+        renew: bool,
         /// The origins of pages that may connect, where some are named or rooms are kept.
         origins: Vec<String>,
         /// Each minute it is told how the rooms are.

@@ -1,7 +1,7 @@
 //! The connections that were accepted: how many count, and how they ended.
 use line_engine::ServeFault;
 use std::alloc::{AllocError, Global};
-use std::net::{Shutdown, TcpStream};
+use std::net::{Shutdown, SocketAddr, TcpStream};
 use std::sync::{Arc, Condvar, CondvarTimeouts, Mutex, Wait};
 use std::time::{Clock, Duration};
 use ws_server::ShownRoom;
@@ -50,6 +50,10 @@ struct Crowd {
     there: u32,
     // How many have ended with a fault.
     faults: u64,
+    // One that came while nobody was let in any more, and from where.
+    next: Option<(TcpStream, SocketAddr)>,
+    // From where the one came that woke the listener, until it is met.
+    waker: Option<SocketAddr>,
     is_ending: bool,
 }
 
@@ -91,6 +95,8 @@ impl Connections {
                 undecided: 0,
                 there: 0,
                 faults: 0,
+                next: None,
+                waker: None,
                 is_ending: false,
             }),
             changed: Condvar::new(),
@@ -177,6 +183,36 @@ impl Connections {
     pub(crate) fn close<R: Wait>(&self, rt: &R) {
         self.crowd.lock(rt).is_ending = true;
         self.changed.notify_all();
+    }
+
+    /// Others are let in again.
+    pub(crate) fn open_again<R: Wait>(&self, rt: &R) {
+        self.crowd.lock(rt).is_ending = false;
+    }
+
+    /// One has come while nobody is let in any more: it is the next.
+    pub(crate) fn put_off<R: Wait>(&self, rt: &R, stream: TcpStream, from: SocketAddr) {
+        self.crowd.lock(rt).next = Some((stream, from));
+    }
+
+    /// The one that was put off, if one was.
+    pub(crate) fn take_next<R: Wait>(&self, rt: &R) -> Option<(TcpStream, SocketAddr)> {
+        self.crowd.lock(rt).next.take()
+    }
+
+    /// The one from here only wakes the listener.
+    pub(crate) fn wake_from<R: Wait>(&self, rt: &R, from: SocketAddr) {
+        self.crowd.lock(rt).waker = Some(from);
+    }
+
+    /// Whether the one from here only wakes the listener, which it does once.
+    pub(crate) fn is_waker<R: Wait>(&self, rt: &R, from: SocketAddr) -> bool {
+        let mut crowd = self.crowd.lock(rt);
+        let is_waker = crowd.waker == Some(from);
+        if is_waker {
+            crowd.waker = None;
+        }
+        is_waker
     }
 
     /// Each one that is there gets nothing more from its other side, or neither side gets anything more.

@@ -1,19 +1,18 @@
 //! Serves rooms over WebSockets on loopback: a thread for each connection, and one for each room that looks at it meanwhile.
-ghost use Rattle.std.specs.Prelude.{◌≡◌, ◌<◌, ◌↔◌, false, length, All, Err, IfOk};
+ghost use Rattle.std.specs.Prelude.{◌≡◌, ◌↔◌, false, length, Err};
 ghost use Rattle.std.specs.Thread.{IsSync};
 ghost use Rattle.ws_server.specs.Halls.{rooms_of, IsHallPassOf};
 ghost use Rattle.ws_server.specs.Names.{names_fit};
 
 use crate::ends::Connections;
-use crate::listener::{closed, fitting, listen, serve_all};
+use crate::listener::{closed, fitting, listen};
 use crate::rooms::{Opened, open_rooms};
-use crate::serving::{Serving, Shared};
-use crate::state::{RoomState, StateFile};
-use crate::tending::{Folder, RoomPath, hang_up, remove_stop};
-use crate::warnings::{Seldom, Warnings};
-use crate::watch::{Ended, LOOKS, Watched, watch};
+use crate::runs::serve_runs;
+use crate::serving::Serving;
+use crate::state::RoomState;
+use crate::tending::remove_stop;
+use crate::warnings::Warnings;
 use commands::Stop;
-use kept_rooms::{Assigned, assign_rooms};
 use line_engine::ServeFault;
 use log::{Log, warn};
 use opid::Refusal;
@@ -21,12 +20,11 @@ use std::alloc::Global;
 use std::fs::{File, Files};
 use std::io::Print;
 use std::net::{Net, TcpListener, TcpStream};
-use std::sync::atomic::{AtomicBool, Ordering};
-use std::sync::{Mutex, Wait};
+use std::sync::Wait;
 use std::thread::Threads;
 use std::time::Clock;
 use std::{array, io, thread};
-use ws_server::{Hall, HallPass, names_fit};
+use ws_server::names_fit;
 
 // Tells which site the rooms are opened at, where they are kept: in one line where it is the same for all.
 fn tell_sites<R: Print>(rt: &R, serving: &Serving<'_>, rooms: &[RoomState]) -> Result<(), Stop>
@@ -53,172 +51,6 @@ fn tell_each_site<R: Print>(rt: &R, rooms: &[RoomState]) -> io::Result<()> {
         println!(rt; "site {} {}", it.name, it.site.number())?;
     }
     Ok(())
-}
-
-// Serves connections until all have ended, and looks at the rooms meanwhile and once more then. Where no thread can be had that looks, no
-// connection is accepted. Where a file may end the server, connections are accepted by a thread of its own, since files are for this one.
-fn serve_watched<
-    'a,
-    R: Net<Listener = TcpListener, Stream = TcpStream>
-        + Files<File = File>
-        + Clock
-        + Threads
-        + Wait
-        + Log
-        + Sync,
->(
-    rt: &R,
-    alloc: Global,
-    opened: Opened,
-    listener: TcpListener,
-    serving: &Serving<'a>,
-    stop: Option<&'a str>,
-    connections: &'a Connections,
-    warnings: &'a Warnings,
-) -> Result<(), Stop>
-    requires pass { IsHallPassOf opened.hall opened.pass }
-    requires turns { length opened.turns.items ≡ length (rooms_of opened.hall) }
-    requires states { length opened.states.items ≡ length (rooms_of opened.hall) }
-    requires watched { length opened.watched.items ≡ length (rooms_of opened.hall) }
-    ensures fits { (result ≡ Err (Stop.Refused Refusal.BadField)) → ⊥ }
-{
-    let Opened {
-        hall,
-        mut pass,
-        turns,
-        states,
-        watched,
-        files,
-        lock,
-    } = opened;
-    let (ended, is_lost) = (&Ended::new(), &AtomicBool::new(false));
-    let folder = folder_of(alloc, serving, stop, files);
-    let shared = Shared {
-        hall: &hall,
-        turns: turns.as_slice(),
-        rooms: states.as_slice(),
-        connections,
-        warnings,
-        turned_away: &Mutex::new(Seldom::new()),
-        is_ending: &AtomicBool::new(false),
-        rhythm: serving.rhythm(),
-        origins: serving.origins(),
-    };
-    let served = thread::scope(
-        thread::scope_env(),
-        rt,
-        move |scope| -> Result<(), Stop>
-            requires { IsSync R.row × IsHallPassOf shared.hall.now pass
-                × (length shared.turns.now ≡ length (rooms_of shared.hall.now))
-                × (length shared.rooms.now ≡ length (rooms_of shared.hall.now))
-                × (length watched.items ≡ length (rooms_of shared.hall.now)) }
-            ensures { (result ≡ Err (Stop.Refused Refusal.BadField)) → ⊥ }
-        {
-            let Ok((rooms, given)) = split_looks(alloc, shared.hall, &mut pass, watched) else {
-                return Err(closed(rt, alloc, warnings, serving, Stop::Socket));
-            };
-            let mut looks = given;
-            let mut is_watched = true;
-            for it in rooms {
-                let Assigned {
-                    place,
-                    pass: watching,
-                    item: room,
-                } = it;
-                if place >= shared.hall.len() {
-                    is_watched = false;
-                    break;
-                }
-                let watcher = scope.spawn(
-                    move ||
-                        requires { IsSync R.row × IsHallPassOf shared.hall.now watching × (place < length (rooms_of shared.hall.now))
-                            × (length shared.turns.now ≡ length (rooms_of shared.hall.now))
-                            × (length shared.rooms.now ≡ length (rooms_of shared.hall.now)) }
-                    {
-                        if !watch(rt, alloc, shared, watching, room, place) {
-                            is_lost.store(true, Ordering::SeqCst);
-                        }
-                    },
-                );
-                is_watched &= watcher.is_ok();
-            }
-            let served = match folder {
-                _ if !is_watched => Err(closed(rt, alloc, warnings, serving, Stop::Socket)),
-                None => serve_all(rt, alloc, shared, pass, listener, serving),
-                Some(mut folder) => {
-                    let door = scope.spawn(
-                        move || -> Result<(), Stop>
-                            requires { IsSync R.row × IsHallPassOf shared.hall.now pass
-                                × (length shared.turns.now ≡ length (rooms_of shared.hall.now)) }
-                        {
-                            let served = serve_all(rt, alloc, shared, pass, listener, serving);
-                            ended.tell(rt);
-                            served
-                        },
-                    );
-                    match door {
-                        Ok(door) => {
-                            if folder.tend(rt, alloc, shared, &mut looks, ended) {
-                                let port = serving.port;
-                                hang_up(rt, alloc, port, &mut folder, shared, &mut looks, ended);
-                            }
-                            let served = door.join(rt);
-                            folder.look_after(rt, alloc, shared, &mut looks);
-                            fitting(served)
-                        }
-                        Err(_) => Err(closed(rt, alloc, warnings, serving, Stop::Socket)),
-                    }
-                }
-            };
-            for it in shared.turns {
-                it.end(rt);
-            }
-            served
-        },
-    );
-    remove_stop(rt, stop);
-    drop(lock);
-    whole(!is_lost.load(Ordering::SeqCst), fitting(served))
-}
-
-// The rooms, each with a pass for who watches it, and a pass for who looks after their files.
-fn split_looks(
-    alloc: Global,
-    hall: &Hall,
-    pass: &mut HallPass,
-    watched: Vec<Watched>,
-) -> Result<(Vec<Assigned<Watched>>, HallPass), Refusal>
-    requires pass { IsHallPassOf hall.now pass.old }
-    requires counted { length watched.items ≡ length (rooms_of hall.now) }
-    ensures pass { IsHallPassOf hall.now pass.new }
-    ensures rooms { IfOk result (λ r. All (λ it. IsHallPassOf hall.now it.pass) r.0.items) }
-    ensures looks { IfOk result (λ r. IsHallPassOf hall.now r.1) }
-{
-    let rooms = match assign_rooms(alloc, hall, pass, watched, LOOKS) {
-        Ok(rooms) => rooms,
-        Err(why) => return Err(why),
-    };
-    match hall.split(alloc, pass, LOOKS) {
-        Ok(looks) => Ok((rooms, looks)),
-        Err(why) => Err(why),
-    }
-}
-
-// The folder in which rooms are kept, if they are.
-fn folder_of<'a>(
-    alloc: Global,
-    serving: &Serving<'a>,
-    stop: Option<&'a str>,
-    files: Vec<Option<RoomPath>>,
-) -> Option<Folder<'a>> {
-    match (serving.keep, stop) {
-        (Some(path), Some(stop)) => {
-            let state = StateFile::new(alloc, path, serving.seconds());
-            let does_report = serving.does_report;
-            Some(Folder::new(path, stop, files, state, does_report))
-        }
-        _ => None,
-    }
 }
 
 // The same, while a thread of its own tells what is warned of.
@@ -265,7 +97,7 @@ fn serve_warned<
             if teller.is_err() {
                 return Err(closed(rt, alloc, warnings, serving, Stop::Socket));
             }
-            let served = serve_watched(
+            let served = serve_runs(
                 rt,
                 alloc,
                 opened,
@@ -283,19 +115,6 @@ fn serve_warned<
     warnings.end(rt);
     warnings.tell(rt);
     fitting(served)
-}
-
-// How it ends where all connections have ended so, and all that was to be kept is, or isn't.
-fn whole(is_whole: bool, served: Result<(), Stop>) -> Result<(), Stop>
-    requires { (served ≡ Err (Stop.Refused Refusal.BadField)) → ⊥ }
-    ensures fits { (result ≡ Err (Stop.Refused Refusal.BadField)) → ⊥ }
-{
-    served?;
-    if is_whole {
-        Ok(())
-    } else {
-        Err(Stop::Fault(ServeFault::Write))
-    }
 }
 
 /// Serves a room for each name on the port of 127.0.0.1, prints `listening` and the port once it listens, accepts so many connections,
@@ -325,6 +144,10 @@ pub(crate) fn host<
     if !names_fit(serving.names) {
         tell_unfit(rt, serving);
         return Err(Stop::Refused(Refusal::BadField));
+    }
+    if serving.does_renew && (serving.site.is_some() || serving.conns.is_some()) {
+        warn!(rt; "with --renew there is one run after another, each with a site that its logs haven't: --site and --conns tell of one");
+        return Err(Stop::Refused(Refusal::SiteUsed));
     }
     let path = stop_path(alloc, serving.keep)?;
     let stop = path.as_ref().map(|path| path.as_str());

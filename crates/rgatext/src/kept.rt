@@ -1,15 +1,14 @@
 //! The folder in which rooms are kept, and their files in it.
 ghost use Rattle.std.specs.Prelude.{◌≡◌, Err, IfOk};
 
+use crate::beside::{NAMES, Node, new_beside, sync_entries};
 use commands::Stop;
 use keeper::{Found, FoundFile, HostFile, KeptFile, OpenFault, TornFile, find};
 use line_engine::ServeFault;
 use log::{Log, warn};
 use opid::Refusal;
 use std::alloc::Global;
-use std::fs::{File, Files, Metadata, OpenOptions, TryLockError};
-use std::io::{Error, ErrorKind};
-use std::os::unix::fs::MetadataExt;
+use std::fs::{File, Files, OpenOptions, TryLockError};
 use std::{fs, io};
 use versions::Doc;
 
@@ -53,26 +52,6 @@ pub(crate) fn lock_folder<R: Files<File = File> + Log>(
     }
 }
 
-// So many files beside a room's file have a name.
-const NAMES: u32 = 999;
-
-/// The numbers of a file's device and of its node, which no other file has as long as it is there.
-#[derive(Clone, Copy, PartialEq, Eq)]
-pub(crate) struct Node {
-    device: u64,
-    number: u64,
-}
-
-impl Node {
-    /// Those of the file of which this is known.
-    pub(crate) fn of(known: &Metadata) -> Node {
-        Node {
-            device: known.dev(),
-            number: known.ino(),
-        }
-    }
-}
-
 /// A room's file, its path and node, and the document of the log that stands in it.
 #[derive(Drop)]
 pub(crate) struct RoomFile {
@@ -101,6 +80,17 @@ pub(crate) fn open_file<R: Files<File = File> + Log>(
     let Ok(path) = format!(in alloc; "{folder}/{name}.ops") else {
         return Err(Stop::Fault(ServeFault::Memory));
     };
+    match old_alone(rt, alloc, folder, name, path.as_str()) {
+        Ok(None) => {}
+        Ok(Some(old)) => {
+            warn!(rt; "{path}: it isn't there, and {old} is, which it was before: copy that one to its name, or put it elsewhere");
+            return Err(Stop::Files);
+        }
+        Err(why) => {
+            warn!(rt; "{path}: {why}");
+            return Err(Stop::Files);
+        }
+    }
     // (it is made where there is none)
     let file = match OpenOptions::new()
         .read(true)
@@ -151,6 +141,26 @@ pub(crate) fn open_file<R: Files<File = File> + Log>(
     })
 }
 
+// The first of a room's old documents, where it has one, and none that goes on.
+fn old_alone<R: Files<File = File>>(
+    rt: &R,
+    alloc: Global,
+    folder: &str,
+    name: &str,
+    path: &str,
+) -> io::Result<Option<String>> {
+    if fs::exists(rt, path)? {
+        return Ok(None);
+    }
+    for number in 1..=NAMES {
+        let old = format!(in alloc; "{folder}/{name}.{number}.ops")?;
+        if fs::exists(rt, old.as_str())? {
+            return Ok(Some(old));
+        }
+    }
+    Ok(None)
+}
+
 // Saves a line that was cut short in a file of its own, and warns of it.
 fn save_tail<R: Files<File = File> + Log>(
     rt: &R,
@@ -163,125 +173,6 @@ fn save_tail<R: Files<File = File> + Log>(
     let kept = torn.save(&mut HostFile::new(file))?;
     warn!(rt; "{path}: its last line was cut short: the {len} bytes are in {beside}");
     Ok(kept)
-}
-
-// A new file beside the one at a path, and its name.
-fn new_beside<R: Files<File = File>>(
-    rt: &R,
-    alloc: Global,
-    path: &str,
-    word: &str,
-) -> io::Result<(String, File)> {
-    let name = free_name(rt, alloc, path, word)?;
-    let file = new_file(rt, name.as_str())?;
-    Ok((name, file))
-}
-
-// The first name that is free of those of a path with a number and this word.
-fn free_name<R: Files<File = File>>(
-    rt: &R,
-    alloc: Global,
-    path: &str,
-    word: &str,
-) -> io::Result<String> {
-    for number in 1..=NAMES {
-        let name = format!(in alloc; "{path}.{number}.{word}")?;
-        if !fs::exists(rt, name.as_str())? {
-            return Ok(name);
-        }
-    }
-    Err(Error::other("each of its 999 names is taken"))
-}
-
-// A file that wasn't there.
-fn new_file<R: Files<File = File>>(rt: &R, path: &str) -> io::Result<File> {
-    OpenOptions::new()
-        .read(true)
-        .append(true)
-        .create_new(true)
-        .open(rt, path)
-}
-
-/// A file beside the one at a path, in which the room at a place is to be kept: its name, its node, and the file, with nothing in it yet.
-#[derive(Drop)]
-pub(crate) struct NewFile {
-    pub(crate) name: String,
-    pub(crate) node: Node,
-    pub(crate) file: KeptFile<HostFile>,
-}
-
-/// A new file for the room at a place, beside what stands at its path, where that is the room's own file or no server's. Where it can't be
-/// had it isn't there.
-pub(crate) fn begin_anew<R: Files<File = File>>(
-    rt: &R,
-    alloc: Global,
-    path: &str,
-    own: Node,
-    place: usize,
-) -> io::Result<NewFile>
-    ensures room { IfOk result (λ it. it.file.room ≡ place) }
-{
-    let _ = is_there(rt, path, own)?;
-    let (name, file) = new_beside(rt, alloc, path, "new")?;
-    match kept_anew(alloc, file, place) {
-        Ok((file, node)) => Ok(NewFile { name, node, file }),
-        Err(why) => {
-            let _ = fs::remove_file(rt, name.as_str());
-            Err(why)
-        }
-    }
-}
-
-// A file that was made, as one for the room at a place, and its node.
-fn kept_anew(alloc: Global, file: File, place: usize) -> io::Result<(KeptFile<HostFile>, Node)>
-    ensures room { IfOk result (λ it. it.0.room ≡ place) }
-{
-    if file.try_lock().is_err() {
-        return Err(Error::other("somebody else has it"));
-    }
-    let node = Node::of(&file.metadata()?);
-    match find(alloc, HostFile::new(file), place) {
-        Ok(Found { file, doc: _ }) => match file {
-            FoundFile::Whole(file) => Ok((file, node)),
-            FoundFile::Torn(_) => Err(Error::other("somebody else writes to it")),
-        },
-        Err(_) => Err(Error::other("it can't be read")),
-    }
-}
-
-// Whether something stands at a path, unless another server has it.
-fn is_there<R: Files<File = File>>(rt: &R, path: &str, own: Node) -> io::Result<bool> {
-    if !fs::exists(rt, path)? {
-        return Ok(false);
-    }
-    let file = fs::open(rt, path)?;
-    let is_own = Node::of(&file.metadata()?) == own;
-    if !is_own && file.try_lock().is_err() {
-        return Err(Error::other("another server keeps the room there"));
-    }
-    Ok(true)
-}
-
-/// Puts a new file in place of what stands at a path in the folder, in one step, once that has another name too: which, if something stood
-/// there. What another server has stays where it is.
-pub(crate) fn put_in_place<R: Files<File = File>>(
-    rt: &R,
-    alloc: Global,
-    folder: &str,
-    path: &str,
-    own: Node,
-    new: &str,
-) -> io::Result<Option<String>> {
-    let aside = if is_there(rt, path, own)? {
-        let name = free_name(rt, alloc, path, "aside")?;
-        fs::hard_link(rt, path, name.as_str())?;
-        Some(name)
-    } else {
-        None
-    };
-    fs::rename(rt, new, path)?;
-    sync_entries(rt, folder)?;
-    Ok(aside)
 }
 
 // Warns why a file isn't opened, but for want of memory, and tells how `serve` ends by that.
@@ -316,9 +207,4 @@ pub(crate) fn sync_folder<R: Files<File = File> + Log>(rt: &R, folder: &str) -> 
             Err(Stop::Files)
         }
     }
-}
-
-// The same, where whoever calls tells of it.
-fn sync_entries<R: Files<File = File>>(rt: &R, folder: &str) -> io::Result<()> {
-    fs::open(rt, folder)?.sync_all()
 }

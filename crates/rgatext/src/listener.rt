@@ -12,8 +12,8 @@ use log::{Log, warn};
 use opid::Refusal;
 use std::alloc::{AllocError, Global};
 use std::io::Print;
-use std::net::{Net, TcpListener, TcpStream};
-use std::sync::atomic::Ordering;
+use std::net::{Net, SocketAddr, TcpListener, TcpStream};
+use std::sync::atomic::{AtomicBool, Ordering};
 use std::sync::{Arc, Wait};
 use std::thread::Threads;
 use std::time::{Clock, Duration};
@@ -79,12 +79,10 @@ pub(crate) fn serve_all<R: Clock + Threads + Wait + Sync>(
                 if !shared.connections.wait_for_place(rt) {
                     break;
                 }
-                let accepted = accept(rt, alloc, &listener, shared.connections, serving.is_kept());
-                if shared.is_ending.load(Ordering::SeqCst) {
-                    return Ok(());
-                }
-                let (guest, place) = match accepted {
-                    Ok(accepted) => accepted,
+                let (guest, place) = match accept(rt, alloc, &listener, shared, serving.is_kept()) {
+                    Ok(Some(accepted)) => accepted,
+                    Ok(None) => return Ok(()),
+                    Err(_) if shared.is_ending.load(Ordering::SeqCst) => return Ok(()),
                     Err(why) => {
                         trouble.meet(rt, alloc, shared, serving, why)?;
                         continue;
@@ -152,19 +150,21 @@ fn stop_of(why: &Missed) -> Stop
     }
 }
 
-// The next connection, and its place. It sends what it has at once: a reply that waits to be longer would hold up a client that sends many
-// requests before it reads.
+// The next connection, and its place; none where the server ends: one that came is put off then. It sends what it has at once: a reply that
+// waits to be longer would hold up a client that sends many requests before it reads.
 fn accept<R: Wait>(
     rt: &R,
     alloc: Global,
     listener: &TcpListener,
-    connections: &Connections,
+    shared: Shared<'_>,
     is_kept: bool,
-) -> Result<(Arc<Guest, Global>, usize), Missed> {
-    let stream = match listener.accept() {
-        Ok((stream, _)) => stream,
-        Err(why) => return Err(Missed::Socket(why)),
-    };
+) -> Result<Option<(Arc<Guest, Global>, usize)>, Missed> {
+    let connections = shared.connections;
+    let (stream, from) = next_stream(rt, listener, connections, shared.is_ending)?;
+    if shared.is_ending.load(Ordering::SeqCst) {
+        connections.put_off(rt, stream, from);
+        return Ok(None);
+    }
     // No answer waits for another (docs/decisions, P15). Where this fails the other side has gone, as the first read will tell.
     let _ = stream.set_nodelay(true);
     let shown = ShownRoom::new();
@@ -175,9 +175,31 @@ fn accept<R: Wait>(
         return Err(Missed::Memory);
     };
     match connections.add(rt, kept) {
-        Ok(place) => Ok((guest, place)),
+        Ok(place) => Ok(Some((guest, place))),
         Err(_) => Err(Missed::Memory),
     }
+}
+
+// The stream of the next connection, and from where it comes: the one that was put off, or one that the listener has.
+fn next_stream<R: Wait>(
+    rt: &R,
+    listener: &TcpListener,
+    connections: &Connections,
+    is_ending: &AtomicBool,
+) -> Result<(TcpStream, SocketAddr), Missed> {
+    for _ in rt.forever() {
+        let (stream, from) = match connections.take_next(rt) {
+            Some(next) => next,
+            None => match listener.accept() {
+                Ok(next) => next,
+                Err(why) => return Err(Missed::Socket(why)),
+            },
+        };
+        if is_ending.load(Ordering::SeqCst) || !connections.is_waker(rt, from) {
+            return Ok((stream, from));
+        }
+    }
+    unreachable!()
 }
 
 // What is done about connections that can't be had.
@@ -252,7 +274,7 @@ fn handle_of(
 }
 
 /// How threads served connections, of which no contract tells. The rooms' names fit, as was looked at before, so that isn't why they ended.
-pub(crate) fn fitting(served: Result<(), Stop>) -> Result<(), Stop>
+pub(crate) fn fitting<T>(served: Result<T, Stop>) -> Result<T, Stop>
     ensures fits { (result ≡ Err (Stop.Refused Refusal.BadField)) → ⊥ }
 {
     match served {

@@ -3,11 +3,17 @@
 
 ghost use Rattle.commands.specs.Plays.{IsPlayed};
 
+mod beside;
 mod ends;
 mod host;
 mod kept;
 mod listener;
+mod renewed;
+mod renewing;
+mod reopening;
+mod room_path;
 mod rooms;
+mod runs;
 mod serving;
 mod state;
 mod tending;
@@ -81,6 +87,7 @@ fn main(rt: HostRuntime) -> ExitCode {
             conns,
             keep,
             every,
+            renew,
             origins,
             report,
             names,
@@ -91,6 +98,7 @@ fn main(rt: HostRuntime) -> ExitCode {
                 conns: *conns,
                 keep: keep.as_ref().map(|folder| folder.as_str()),
                 every: *every,
+                does_renew: *renew,
                 origins,
                 does_report: *report,
                 names,

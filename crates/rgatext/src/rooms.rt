@@ -3,10 +3,11 @@ ghost use Rattle.std.specs.Prelude.{◌≡◌, true, length, All, Err, IfOk, OnO
 ghost use Rattle.ws_server.specs.Halls.{rooms_of, IsHallPassOf};
 ghost use Rattle.ws_server.specs.Names.{names_fit};
 
-use crate::kept::{Node, RoomFile, lock_folder, open_file, sync_folder};
+use crate::beside::Node;
+use crate::kept::{RoomFile, lock_folder, open_file, sync_folder};
 use crate::listener::fitting;
-use crate::state::RoomState;
-use crate::tending::RoomPath;
+use crate::room_path::RoomPath;
+use crate::state::{MANY_SITES, RoomState, used_sites};
 use crate::watch::Watched;
 use commands::Stop;
 use journal::free_site;
@@ -14,15 +15,12 @@ use keeper::HostFile;
 use kept_rooms::{Opening, RoomTurns, open_hall};
 use line_engine::ServeFault;
 use log::{Log, warn};
-use opid::{Refusal, SITES, Site};
+use opid::{Refusal, Site};
 use snapshot::lacks_site;
 use std::alloc::{AllocError, Global};
 use std::fs::{File, Files};
 use versions::Doc;
 use ws_server::{Hall, HallPass};
-
-// From so many of 32 sites on that have operations in a log it is warned of.
-const MANY_SITES: usize = 28;
 
 /// The rooms, a pass of each, their turns, how they are, what is watched of them, and their files.
 #[derive(Drop)]
@@ -80,7 +78,7 @@ pub(crate) fn open_rooms<R: Files<File = File> + Log>(
         }
     }
     if rooms.names.is_empty() {
-        fitting(Err(fault))?;
+        fitting::<()>(Err(fault))?;
         return Err(Stop::Files);
     }
     for name in &left_out {
@@ -89,6 +87,22 @@ pub(crate) fn open_rooms<R: Files<File = File> + Log>(
     if let Some(folder) = folder {
         sync_folder(rt, folder)?;
     }
+    hall_of(alloc, rooms, lock)
+}
+
+/// The hall of rooms.
+pub(crate) fn hall_of(alloc: Global, rooms: Rooms, lock: Option<File>) -> Result<Opened, Stop>
+    requires unreserved { All (λ it. it.doc.room ≡ 0) rooms.openings.items }
+    requires openings { length rooms.openings.items ≡ length rooms.names.items }
+    requires turns { length rooms.turns.items ≡ length rooms.names.items }
+    requires states { length rooms.states.items ≡ length rooms.names.items }
+    requires watched { length rooms.watched.items ≡ length rooms.names.items }
+    ensures passes { IfOk result (λ opened. IsHallPassOf opened.hall opened.pass) }
+    ensures turns { IfOk result (λ opened. length opened.turns.items ≡ length (rooms_of opened.hall)) }
+    ensures states { IfOk result (λ opened. length opened.states.items ≡ length (rooms_of opened.hall)) }
+    ensures watched { IfOk result (λ opened. length opened.watched.items ≡ length (rooms_of opened.hall)) }
+    ensures fits { (result ≡ Err (Stop.Refused Refusal.BadField)) → ⊥ }
+{
     let Rooms {
         names,
         openings,
@@ -108,16 +122,16 @@ pub(crate) fn open_rooms<R: Files<File = File> + Log>(
             lock,
         }),
         Err(unopened) => {
-            fitting(Err(Stop::of(unopened.why)))?;
+            fitting::<()>(Err(Stop::of(unopened.why)))?;
             Err(Stop::Files)
         }
     }
 }
 
-// Rooms before their hall is there.
+/// Rooms before their hall is there.
 #[derive(Drop)]
-struct Rooms {
-    names: Vec<String>,
+pub(crate) struct Rooms {
+    pub(crate) names: Vec<String>,
     openings: Vec<Opening>,
     turns: Vec<RoomTurns<HostFile>>,
     states: Vec<RoomState>,
@@ -126,8 +140,8 @@ struct Rooms {
 }
 
 impl Rooms {
-    // None yet.
-    fn new(alloc: Global) -> Rooms
+    /// None yet.
+    pub(crate) fn new(alloc: Global) -> Rooms
         ensures unreserved { All (λ it. it.doc.room ≡ 0) result.openings.items }
         ensures openings { length result.openings.items ≡ length result.names.items }
         ensures turns { length result.turns.items ≡ length result.names.items }
@@ -144,8 +158,8 @@ impl Rooms {
         }
     }
 
-    // Adds one. After an error there may be a part of it.
-    fn add(&mut self, room: Room) -> Result<(), AllocError>
+    /// Adds one. After an error there may be a part of it.
+    pub(crate) fn add(&mut self, room: Room) -> Result<(), AllocError>
         requires room { room.opening.doc.room ≡ 0 }
         requires unreserved { All (λ it. it.doc.room ≡ 0) self.old.openings.items }
         requires openings { length self.old.openings.items ≡ length self.old.names.items }
@@ -176,11 +190,11 @@ impl Rooms {
     }
 }
 
-// A room before its hall is there.
+/// A room before its hall is there.
 #[derive(Drop)]
-struct Room {
+pub(crate) struct Room {
     name: String,
-    opening: Opening,
+    pub(crate) opening: Opening,
     turns: RoomTurns<HostFile>,
     state: RoomState,
     watched: Watched,
@@ -205,7 +219,8 @@ fn open_room<R: Files<File = File> + Log>(
             return Err(Stop::Refused(Refusal::SiteUsed));
         };
         let opening = Opening { doc, site };
-        return room_of(name, opening, RoomTurns::new(place, None), None);
+        let state = state_of(name, &opening)?;
+        return room_of(name, state, opening, RoomTurns::new(place, None), None);
     };
     let RoomFile {
         path,
@@ -215,17 +230,25 @@ fn open_room<R: Files<File = File> + Log>(
     } = open_file(rt, alloc, folder, name.as_str(), place)?;
     let site = choose_site(rt, path.as_str(), &doc, site)?;
     let opening = Opening { doc, site };
-    room_of(
-        name,
-        opening,
-        RoomTurns::new(place, Some(file)),
-        Some((path, node)),
-    )
+    let state = state_of(name, &opening)?;
+    let turns = RoomTurns::new(place, Some(file));
+    room_of(name, state, opening, turns, Some((path, node)))
 }
 
-// The room with this name, and the path and node of its file, if it has one.
-fn room_of(
+// How a room with this name is, of which nothing was seen yet.
+fn state_of(name: &String, opening: &Opening) -> Result<RoomState, Stop>
+    ensures fits { (result ≡ Err (Stop.Refused Refusal.BadField)) → ⊥ }
+{
+    match name.clone() {
+        Ok(name) => Ok(RoomState::new(name, opening.site, *opening.doc.known())),
+        Err(_) => Err(Stop::Fault(ServeFault::Memory)),
+    }
+}
+
+/// The room with this name, and the path and node of its file, if it has one.
+pub(crate) fn room_of(
     name: &String,
+    state: RoomState,
     opening: Opening,
     turns: RoomTurns<HostFile>,
     file: Option<(String, Node)>,
@@ -233,9 +256,6 @@ fn room_of(
     ensures opening { IfOk result (λ room. room.opening ≡ opening) }
     ensures fits { (result ≡ Err (Stop.Refused Refusal.BadField)) → ⊥ }
 {
-    let Ok(told) = name.clone() else {
-        return Err(Stop::Fault(ServeFault::Memory));
-    };
     let Ok(watched) = name.clone() else {
         return Err(Stop::Fault(ServeFault::Memory));
     };
@@ -251,7 +271,7 @@ fn room_of(
     };
     Ok(Room {
         name,
-        state: RoomState::new(told, opening.site),
+        state,
         opening,
         turns,
         watched: Watched::new(watched, path),
@@ -272,22 +292,9 @@ fn choose_site<R: Log>(rt: &R, path: &str, doc: &Doc, named: Option<Site>) -> Re
         warn!(rt; "{path}: its log has operations of site {}", site.number());
         return Err(Stop::Refused(Refusal::SiteUsed));
     }
-    let used = used_sites(doc);
+    let used = used_sites(doc.known());
     if used >= MANY_SITES {
         warn!(rt; "{path}: {used} of the 32 sites have operations in its log");
     }
     Ok(site)
-}
-
-// How many sites have operations in the log.
-fn used_sites(doc: &Doc) -> usize {
-    let mut used = 0usize;
-    for number in 0..SITES as u8 {
-        if let Ok(site) = Site::new(number) {
-            if !lacks_site(doc, site) {
-                used = used.saturating_add(1);
-            }
-        }
-    }
-    used
 }

@@ -42,6 +42,7 @@ pub(crate) struct Serving<'a> {
     pub(crate) conns: Option<u32>,
     pub(crate) keep: Option<&'a str>,
     pub(crate) every: Option<u32>,
+    pub(crate) does_renew: bool,
     pub(crate) origins: &'a [String],
     pub(crate) does_report: bool,
     pub(crate) names: &'a [String],

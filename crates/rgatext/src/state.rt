@@ -1,8 +1,11 @@
 //! How the rooms are, for whoever looks from outside: a file in their folder, and a line on standard error.
 use crate::ends::Connections;
+use crate::warnings::Seldom;
+use crate::watch::{MANY_CALLS, MANY_OPERATIONS};
+use causal_clock::Clock as Known;
 use keeper::HostFile;
 use kept_rooms::RoomTurns;
-use opid::Site;
+use opid::{SITES, Site};
 use serde_json::{Value, json};
 use shared_room::Look;
 use std::alloc::{AllocError, Global};
@@ -18,6 +21,10 @@ struct Seen {
     calls: u32,
     sessions: u32,
     fault: Option<String>,
+    // When it was said last that its log nears a limit, and that its history does; and why it can't begin anew.
+    renewal: Seldom,
+    running_out: Seldom,
+    stays: Option<String>,
 }
 
 /// A room as it is told of.
@@ -25,20 +32,55 @@ struct Seen {
 pub(crate) struct RoomState {
     pub(crate) name: String,
     pub(crate) site: Site,
+    // What its log had when it was opened, and whether a peer had put something there before.
+    begun: Known,
+    had_others: bool,
     seen: Mutex<Seen>,
 }
 
 impl RoomState {
-    /// A room of which nothing was seen yet.
-    pub(crate) fn new(name: String, site: Site) -> RoomState {
+    /// A room of which nothing was seen yet, which was opened over a log of these operations.
+    pub(crate) fn new(name: String, site: Site, begun: Known) -> RoomState {
         RoomState {
             name,
             site,
+            begun,
+            had_others: false,
             seen: Mutex::new(Seen {
                 operations: 0,
                 calls: 0,
                 sessions: 0,
                 fault: None,
+                renewal: Seldom::hourly(),
+                running_out: Seldom::new(),
+                stays: None,
+            }),
+        }
+    }
+
+    /// The same room in the next run, which was opened at a site over a log of these operations: its own, or a new document's.
+    pub(crate) fn next(self, site: Site, begun: Known, is_new: bool) -> RoomState {
+        let had_others = !is_new && self.has_others(&begun);
+        let RoomState { name, seen, .. } = self;
+        let Seen { renewal, stays, .. } = seen.into_inner();
+        let (renewal, stays) = if is_new {
+            (Seldom::hourly(), None)
+        } else {
+            (renewal, stays)
+        };
+        RoomState {
+            name,
+            site,
+            begun,
+            had_others,
+            seen: Mutex::new(Seen {
+                operations: begun.sum(),
+                calls: 0,
+                sessions: 0,
+                fault: None,
+                renewal,
+                running_out: Seldom::new(),
+                stays,
             }),
         }
     }
@@ -57,6 +99,33 @@ impl RoomState {
         self.seen.lock(rt).fault = why;
     }
 
+    /// Whether its log nears a limit, as a look tells, which isn't said again for an hour, or its history does, for a minute.
+    pub(crate) fn runs_out<R: Wait + Clock>(&self, rt: &R, look: &Look) -> bool {
+        let mut seen = self.seen.lock(rt);
+        let does_log = nears_limit(look.version, &self.begun) && seen.renewal.is_due(rt);
+        does_log || (look.calls >= MANY_CALLS && seen.running_out.is_due(rt))
+    }
+
+    /// It can't begin anew, for this reason.
+    pub(crate) fn stay<R: Wait>(&self, rt: &R, why: Option<String>) {
+        self.seen.lock(rt).stays = why;
+    }
+
+    /// Whether a peer has put operations into a log of these: it has more than at the start from other sites than its own, or had before.
+    pub(crate) fn has_others(&self, known: &Known) -> bool {
+        if self.had_others {
+            return true;
+        }
+        for number in 0..SITES as u8 {
+            if let Ok(site) = Site::new(number) {
+                if site != self.site && known.entry(site) > self.begun.entry(site) {
+                    return true;
+                }
+            }
+        }
+        false
+    }
+
     // As a JSON object, with how many operations are kept and how many connections have opened it.
     fn told<R: Wait>(
         &self,
@@ -70,7 +139,7 @@ impl RoomState {
             Some(why) => json!(in alloc; why.as_str())?,
             None => json!(in alloc; null)?,
         };
-        json!(in alloc; {
+        let mut told = json!(in alloc; {
             "name": self.name.as_str(),
             "site": self.site.number(),
             "operations": seen.operations,
@@ -79,8 +148,34 @@ impl RoomState {
             "connections": connections,
             "kept": kept,
             "fault": fault
-        })
+        })?;
+        if let (Some(why), Some(all)) = (&seen.stays, told.as_object_mut()) {
+            let why = json!(in alloc; why.as_str())?;
+            all.insert(String::from_str(alloc, "renewal")?, why)?;
+        }
+        Ok(told)
     }
+}
+
+/// From so many of 32 sites on that have operations in a log it nears its limit.
+pub(crate) const MANY_SITES: usize = 28;
+
+/// Whether a log of so many operations, of these sites, nears its limit.
+pub(crate) fn nears_limit(operations: u32, known: &Known) -> bool {
+    operations >= MANY_OPERATIONS || used_sites(known) >= MANY_SITES
+}
+
+/// How many sites have operations in a log of these.
+pub(crate) fn used_sites(known: &Known) -> usize {
+    let mut used = 0usize;
+    for number in 0..SITES as u8 {
+        if let Ok(site) = Site::new(number) {
+            if known.entry(site) > 0 {
+                used = used.saturating_add(1);
+            }
+        }
+    }
+    used
 }
 
 /// How all rooms are.

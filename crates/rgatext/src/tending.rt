@@ -3,24 +3,22 @@
 ghost use Rattle.std.specs.Prelude.{◌≡◌, ◌<◌, length};
 ghost use Rattle.ws_server.specs.Halls.{rooms_of, IsHallPassOf};
 
-use crate::kept::{NewFile, Node, begin_anew, put_in_place};
+use crate::ends::Connections;
+use crate::renewing::{Left, are_well, prepare};
+use crate::room_path::RoomPath;
 use crate::serving::Shared;
 use crate::state::{State, StateFile};
 use crate::warnings::Seldom;
 use crate::watch::Ended;
-use keeper::{Disk, HostFile, KeptFile};
-use kept_rooms::{RoomTurns, TurnFault, keep_turn};
 use log::{Log, warn};
-use std::alloc::{AllocError, Global};
+use std::alloc::Global;
 use std::fs::{File, Files};
-use std::io::ErrorKind;
 use std::net::{Net, Shutdown, TcpListener, TcpStream};
 use std::sync::Wait;
 use std::sync::atomic::Ordering;
 use std::time::{Clock, Duration};
 use std::{fs, io};
-use thiserror::Error;
-use ws_server::{Hall, HallPass};
+use ws_server::HallPass;
 
 // The module under whose name it is warned.
 const TARGET: &str = "rgatext::folder";
@@ -33,199 +31,46 @@ const PATIENCE: u32 = 5;
 
 const STEP: u64 = 100;
 
-/// The path of a room's file, the file that was opened there, and when it was warned last that somebody else has changed it, and that the
-/// disk doesn't answer.
-#[derive(Drop)]
-pub(crate) struct RoomPath {
-    path: String,
-    node: Node,
-    told: Seldom,
-    stuck: Seldom,
-}
-
-impl RoomPath {
-    /// A file that was opened.
-    pub(crate) fn new(path: String, node: Node) -> RoomPath {
-        RoomPath {
-            path,
-            node,
-            told: Seldom::new(),
-            stuck: Seldom::new(),
-        }
-    }
-
-    // Where somebody else has changed the file of the room at a place, answers wait until the room's whole log is written anew: what there
-    // is to tell of it.
-    fn look_after<R: Files<File = File> + Clock + Wait>(
-        &mut self,
-        rt: &R,
-        alloc: Global,
-        folder: &str,
-        shared: Shared<'_>,
-        pass: &mut HallPass,
-        place: usize,
-    ) -> Option<Result<String, AllocError>>
-        requires pass { IsHallPassOf shared.hall.now pass.old }
-        requires within { place < length (rooms_of shared.hall.now) }
-        requires counted { length shared.turns.now ≡ length (rooms_of shared.hall.now) }
-        ensures pass { IsHallPassOf shared.entry.hall.now pass.new }
-    {
-        let turns = &shared.turns[place];
-        if turns.is_stuck(rt) {
-            if !self.stuck.is_due(rt) {
-                return None;
-            }
-            let path = self.path.as_str();
-            return Some(format!(in alloc; "{path}: the disk doesn't answer; answers wait"));
-        }
-        let change = self.change(rt, turns)?;
-        turns.go_astray(rt);
-        match self.write_anew(rt, alloc, folder, shared.hall, turns, pass, place) {
-            Ok(aside) => Some(told_anew(alloc, self.path.as_str(), change, aside)),
-            Err(why) => {
-                if !self.told.is_due(rt) {
-                    return None;
-                }
-                let path = self.path.as_str();
-                Some(format!(in alloc;
-                    "{path}: {change}, and it can't be written anew: {why}; answers wait"
-                ))
-            }
-        }
-    }
-
-    // What somebody else did to the file, if that is seen.
-    fn change<R: Files<File = File> + Wait>(
-        &self,
-        rt: &R,
-        turns: &RoomTurns<HostFile>,
-    ) -> Option<&'static str> {
-        match fs::metadata(rt, self.path.as_str()) {
-            Ok(known) if Node::of(&known) != self.node => return Some("another file stands there"),
-            Ok(_) => {}
-            Err(why) if why.kind() == ErrorKind::NotFound => return Some("it is gone"),
-            Err(_) => return Some("it can't be looked at"),
-        }
-        // (while a turn is taken that one looks)
-        let held = turns.try_hold()?;
-        match &*held {
-            Some(file) if file.disk().check().is_err() => Some("somebody else has changed it"),
-            _ => None,
-        }
-    }
-
-    // Writes the room's whole log to a new file, which is put in place of the old one while nobody takes a turn: what stood there is put
-    // aside. Where that fails there is no new one.
-    fn write_anew<R: Files<File = File> + Wait>(
-        &mut self,
-        rt: &R,
-        alloc: Global,
-        folder: &str,
-        hall: &Hall,
-        turns: &RoomTurns<HostFile>,
-        pass: &mut HallPass,
-        place: usize,
-    ) -> Result<Option<String>, Unwritten>
-        requires pass { IsHallPassOf hall.now pass.old }
-        requires within { place < length (rooms_of hall.now) }
-        ensures pass { IsHallPassOf hall.now pass.new }
-    {
-        let path = self.path.as_str();
-        let NewFile { name, node, file } = match begin_anew(rt, alloc, path, self.node, place) {
-            Ok(new) => new,
-            Err(why) => return Err(Unwritten::File(why)),
-        };
-        let name = name.as_str();
-        let written = self.fill(rt, alloc, folder, hall, turns, pass, name, file);
-        match &written {
-            Ok(_) => self.node = node,
-            Err(_) => {
-                let _ = fs::remove_file(rt, name);
-            }
-        }
-        written
-    }
-
-    // Writes the log to the new file with this name, and puts it in place.
-    fn fill<R: Files<File = File> + Wait>(
-        &self,
-        rt: &R,
-        alloc: Global,
-        folder: &str,
-        hall: &Hall,
-        turns: &RoomTurns<HostFile>,
-        pass: &mut HallPass,
-        name: &str,
-        file: KeptFile<HostFile>,
-    ) -> Result<Option<String>, Unwritten>
-        requires pass { IsHallPassOf hall.now pass.old }
-        requires within { file.room < length (rooms_of hall.now) }
-        ensures pass { IsHallPassOf hall.now pass.new }
-    {
-        let mut file = file;
-        match keep_turn(rt, alloc, hall, pass, &mut file) {
-            Ok(_) => {}
-            Err(why) => return Err(Unwritten::Turn(why)),
-        }
-        let held = turns.hold(rt);
-        // (what came meanwhile)
-        match keep_turn(rt, alloc, hall, pass, &mut file) {
-            Ok(_) => {}
-            Err(why) => return Err(Unwritten::Turn(why)),
-        }
-        match put_in_place(rt, alloc, folder, self.path.as_str(), self.node, name) {
-            Ok(aside) => {
-                turns.replace(rt, held, file);
-                Ok(aside)
-            }
-            Err(why) => Err(Unwritten::File(why)),
-        }
-    }
-}
-
-// Why a room's log isn't written to a new file.
-#[derive(Debug, Drop, Error)]
-enum Unwritten {
-    #[error("{0}")]
-    File(io::Error),
-    #[error("{0}")]
-    Turn(TurnFault),
-}
-
-// What is told where a file is begun anew, and what stood there is put aside.
-fn told_anew(
-    alloc: Global,
-    path: &str,
-    change: &str,
-    aside: Option<String>,
-) -> Result<String, AllocError> {
-    match aside {
-        Some(aside) => format!(in alloc;
-            "{path}: {change}: the room's whole log is written anew, and what stood there is in {aside}"
-        ),
-        None => format!(in alloc; "{path}: {change}: the room's whole log is written anew"),
-    }
-}
-
 /// The folder of a server that keeps its rooms.
 #[derive(Drop)]
 pub(crate) struct Folder<'a> {
     path: &'a str,
     // The path of the file that ends the server.
     stop: &'a str,
+    // The path of the file that has the rooms begin anew, if one may.
+    renew: Option<String>,
     files: Vec<Option<RoomPath>>,
     state: StateFile<'a>,
     does_report: bool,
-    // When it was told last how the rooms are, and that this can't be written.
+    // When it was told last how the rooms are, that this can't be written, that the file can't be taken away, and that no room begins anew.
     told: Seldom,
     failed: Seldom,
+    stays: Seldom,
+    waits: Seldom,
+}
+
+/// Why the folder isn't tended any more: all connections have ended, or the file is there that ends the server, or rooms begin anew.
+#[derive(Drop)]
+pub(crate) enum Tended {
+    Ended,
+    Stop,
+    Renew(Vec<Left>),
+}
+
+impl Tended {
+    /// Whether all connections have ended.
+    pub(crate) fn has_ended(&self) -> bool {
+        matches!(self, Tended::Ended)
+    }
 }
 
 impl<'a> Folder<'a> {
-    /// The folder at a path, the path of the file in it that ends the server, the rooms' files, and the one that tells of them.
+    /// The folder at a path, the paths of the files in it that end the server and have rooms begin anew, the rooms' files, and the one that
+    /// tells of them.
     pub(crate) fn new(
         path: &'a str,
         stop: &'a str,
+        renew: Option<String>,
         files: Vec<Option<RoomPath>>,
         state: StateFile<'a>,
         does_report: bool,
@@ -233,16 +78,61 @@ impl<'a> Folder<'a> {
         Folder {
             path,
             stop,
+            renew,
             files,
             state,
             does_report,
             told: Seldom::new(),
             failed: Seldom::new(),
+            stays: Seldom::new(),
+            waits: Seldom::hourly(),
         }
     }
 
-    /// Looks after the rooms' files, and tells how the rooms are, by a look each second, until all connections have ended, or the file is
-    /// there that ends the server: whether it is.
+    /// The rooms' files.
+    pub(crate) fn into_files(self) -> Vec<Option<RoomPath>> {
+        self.files
+    }
+
+    // Whether rooms may begin anew now. Where one isn't kept that is warned of, each hour.
+    fn may_renew<R: Clock + Wait>(&mut self, rt: &R, alloc: Global, shared: Shared<'_>) -> bool {
+        if self.renew.is_none() || are_well(rt, shared) {
+            return self.renew.is_some();
+        }
+        if self.waits.is_due(rt) {
+            let text = format!(in alloc; "no room begins anew before all are kept again");
+            shared.warnings.add(rt, TARGET, text);
+        }
+        false
+    }
+
+    // Whether all rooms are to begin anew: the file that asks for it is there, and is taken away.
+    fn is_renewal_asked<R: Files<File = File> + Clock + Wait>(
+        &mut self,
+        rt: &R,
+        alloc: Global,
+        shared: Shared<'_>,
+    ) -> bool {
+        let Some(path) = &self.renew else {
+            return false;
+        };
+        if !fs::exists(rt, path.as_str()).unwrap_or(false) {
+            return false;
+        }
+        match fs::remove_file(rt, path.as_str()) {
+            Ok(()) => true,
+            Err(why) => {
+                if self.stays.is_due(rt) {
+                    let text = format!(in alloc; "{path}: {why}; no room begins anew for it");
+                    shared.warnings.add(rt, TARGET, text);
+                }
+                false
+            }
+        }
+    }
+
+    /// Looks after the rooms' files, and tells how the rooms are, by a look each second, until all connections have ended, the file is
+    /// there that ends the server, or rooms are to begin anew.
     pub(crate) fn tend<R: Files<File = File> + Clock + Wait>(
         &mut self,
         rt: &R,
@@ -250,19 +140,26 @@ impl<'a> Folder<'a> {
         shared: Shared<'_>,
         pass: &mut HallPass,
         ended: &Ended,
-    ) -> bool
+    ) -> Tended
         requires pass { IsHallPassOf shared.hall.now pass.old }
         requires counted { length shared.turns.now ≡ length (rooms_of shared.hall.now) }
+        requires told { length shared.rooms.now ≡ length (rooms_of shared.hall.now) }
         ensures pass { IsHallPassOf shared.entry.hall.now pass.new }
     {
         for _ in rt.forever() {
             if ended.wait(rt, Duration::from_secs(LOOKS)) {
-                return false;
+                return Tended::Ended;
             }
             self.look_after(rt, alloc, shared, pass);
             self.tell(rt, alloc, shared);
             if fs::exists(rt, self.stop).unwrap_or(false) {
-                return true;
+                return Tended::Stop;
+            }
+            if self.may_renew(rt, alloc, shared) {
+                let is_asked = self.is_renewal_asked(rt, alloc, shared);
+                if let Some(left) = prepare(rt, alloc, shared, pass, is_asked) {
+                    return Tended::Renew(left);
+                }
             }
         }
         unreachable!()
@@ -338,7 +235,7 @@ pub(crate) fn hang_up<
     for _ in rt.forever() {
         // (it waits for a connection, and this is one)
         if !is_listener_woken {
-            is_listener_woken = TcpStream::connect(rt, ("127.0.0.1", port)).is_ok();
+            is_listener_woken = wake_listener(rt, port, shared.connections).is_ok();
         }
         let how = if steps < PATIENCE {
             Shutdown::Read
@@ -352,6 +249,17 @@ pub(crate) fn hang_up<
         }
         steps = steps.saturating_add(1);
     }
+}
+
+// Connects to the listener at a port, which waits for somebody.
+fn wake_listener<R: Net<Stream = TcpStream> + Wait>(
+    rt: &R,
+    port: u16,
+    connections: &Connections,
+) -> io::Result<()> {
+    let stream = TcpStream::connect(rt, ("127.0.0.1", port))?;
+    connections.wake_from(rt, stream.local_addr()?);
+    Ok(())
 }
 
 /// Takes the file away, where one may end the server and is there. Where that fails it is warned of.

@@ -10,25 +10,39 @@ use std::time::{Clock, Duration, Instant};
 const MOST: usize = 64;
 
 // What is told again and again is told after so many seconds.
-const AGAIN: u64 = 60;
+const MINUTE: u64 = 60;
 
-/// When something was told that isn't told again for a minute.
+const HOUR: u64 = 3600;
+
+/// When something was told that isn't told again for a minute, or an hour.
 #[derive(Drop)]
 pub(crate) struct Seldom {
     told: Option<Instant>,
+    seconds: u64,
 }
 
 impl Seldom {
-    /// It wasn't told yet.
+    /// It wasn't told yet, and is told each minute.
     pub(crate) fn new() -> Seldom {
-        Seldom { told: None }
+        Seldom {
+            told: None,
+            seconds: MINUTE,
+        }
+    }
+
+    /// The same, each hour.
+    pub(crate) fn hourly() -> Seldom {
+        Seldom {
+            told: None,
+            seconds: HOUR,
+        }
     }
 
     /// Whether it is to be told now.
     pub(crate) fn is_due<R: Clock>(&mut self, rt: &R) -> bool {
         let is_due = match &self.told {
             Some(told) => match told.elapsed(rt) {
-                Ok(time) => time >= Duration::from_secs(AGAIN),
+                Ok(time) => time >= Duration::from_secs(self.seconds),
                 Err(_) => false,
             },
             None => true,

@@ -20,11 +20,11 @@ pub(crate) const LOOKS: u64 = 1 << 40;
 const TARGET: &str = "rgatext::watch";
 
 // From so much on it is warned of: seven eighths of what a room takes.
-const MANY_CALLS: u32 = 917_504;
+pub(crate) const MANY_CALLS: u32 = 917_504;
 
-const MANY_OPERATIONS: u32 = 114_688;
+pub(crate) const MANY_OPERATIONS: u32 = 114_688;
 
-const MANY_SESSIONS: u32 = 56;
+pub(crate) const MANY_SESSIONS: u32 = 56;
 
 // So many milliseconds pass before a turn that failed is tried again, while answers wait for it; then the last of them.
 const PAUSES: [u64; 7] = [100, 200, 400, 800, 1_600, 3_200, 5_000];

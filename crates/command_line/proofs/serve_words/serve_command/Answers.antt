@@ -10,8 +10,8 @@ pub returns-clause-shape : goal.returns-clause-shape
 unfolding serve_command
 returns-clause-shape c =
     let of_line = with_rule (with_rule (with_rule (new_app (codes "serve")) port_option) site_option) conns_option in
-    let of_every = with_rule (with_rule of_line keep_option) every_option in
-    let of_origin = with_rule of_every origin_option in
+    let of_renew = with_rule (with_rule (with_rule of_line keep_option) every_option) (flag_option (codes "renew")) in
+    let of_origin = with_rule of_renew origin_option in
     let of_report = with_rule of_origin (flag_option (codes "report")) in
     let first : _ ≡ of_origin = c.in_ok-serve-2.ensures.shape c.origin_arg.ensures.local
     ∙ ap₂ with_rule c.in_ok-serve.ensures.shape c.origin_arg.ensures.rule in

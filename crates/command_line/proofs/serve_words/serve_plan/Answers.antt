@@ -24,8 +24,9 @@ returns-clause-some c =
       c.in_ok-keep.ensures ∙ keep,
       c.in-Some-asked_count_in-2.ensures.some.0,
       subst (λ (t : Option (List ℕ)). ReadsTo 3600 t c.in-Some-asked_count_in-2.every) every c.in-Some-asked_count_in-2.ensures.some.1,
-      c.in_ok-origins.ensures ∙ ap (λ (o : Option (List (List ℕ))). unwrap_or o []) origins,
       c.flag.ensures,
+      c.in_ok-origins.ensures ∙ ap (λ (o : Option (List (List ℕ))). unwrap_or o []) origins,
+      c.flag-2.ensures,
       sym names ∙ ap Some (sym c.in_ok-names.ensures),
     )
 

@@ -1,0 +1,6 @@
+-- The passes stay those of the hall.
+use Rattle.ws_server.specs.Halls.{IsHallPassOf}
+use Rattle.rgatext.proofs.renewing.prepare.Given as goal
+
+abbrev pub invariant-loop-place : goal.invariant-loop-place
+invariant-loop-place g l = IsHallPassOf l.shared.hall.now l.pass
