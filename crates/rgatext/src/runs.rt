@@ -24,9 +24,9 @@ use std::fs::{File, Files};
 use std::net::{Net, TcpListener, TcpStream};
 use std::sync::atomic::{AtomicBool, Ordering};
 use std::sync::{Mutex, Wait};
+use std::thread;
 use std::thread::Threads;
 use std::time::Clock;
-use std::thread;
 use ws_server::{Hall, HallPass};
 
 /// Serves one run after another, until one has nothing left for a next.
@@ -212,7 +212,9 @@ fn serve_watched<
                             let served = door.join(rt);
                             folder.look_after(rt, alloc, shared, &mut looks);
                             match served {
-                                Ok(()) => what_is_left(rt, alloc, shared, &mut looks, folder, tended),
+                                Ok(()) => what_is_left(
+                                    rt, alloc, shared, &mut looks, folder, tended,
+                                ),
                                 Err(why) => fitting(Err(why)),
                             }
                         }
