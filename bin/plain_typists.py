@@ -92,6 +92,8 @@ class PlainTypist(threading.Thread):
             return
         count = dice.randint(1, 2 * self.quick) if self.quick else dice.randint(65, 130) if dice.random() < 0.02 else dice.randint(1, 5)
         text = self.text[self.used : self.used + count]
+        if not text:
+            return
         place = dice.choice((len(session.text), dice.randint(0, len(session.text))))
         self.used += count
         left, right = session.text[max(0, place - 1) : place], session.text[place : place + 1]

@@ -356,6 +356,8 @@ class Session:
 
     def _do(self, change):
         """Submits a change, where the room takes all of it. A long one's room is looked for in the version of now."""
+        if not len(change):
+            return self.pull()
         self.waiting.append(change)
         if len(change) > MOST and not self.under_way:
             self._pull()
