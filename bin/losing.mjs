@@ -366,6 +366,24 @@ async function keepsWhatIsTypedAnew() {
   await end(one, other);
 }
 
+/** Another log that reads the same is known from then on: behind a line that breaks in its run the session of before is left. */
+async function readsTheSame() {
+  const way = await begin("hello world", false);
+  const other = new Room(4);
+  await typedBy(other, 0, "world");
+  await typedBy(other, 0, "hello ");
+  way.cut(other);
+  await way.joins(other);
+  await way.comesTo("up to date", "hello world");
+  const { s } = await other.ask({ t: "join", u: 16 });
+  way.states.length = 0;
+  way.cut();
+  await until(() => way.lines.at(-1).isOpen && way.lines.at(-1).asked.includes("pull"));
+  await way.comesTo("up to date", "hello world");
+  assert.equal((await other.ask({ t: "leave", s: s - 1 })).r, "no", "the session of before is still there");
+  await end(way);
+}
+
 await Promise.all([
   losesItsEnd(3),
   losesItsEnd(8),
@@ -402,6 +420,7 @@ await Promise.all([
   isPlayedInParts(3),
   knowsThatItLeft(),
   typesAWordToo(),
+  readsTheSame(),
 ]);
 await keepsWhatIsTypedAnew();
 console.log("bin/try_merging: logs that lost their end, renewed rooms, and what came of what was under way");

@@ -36,6 +36,7 @@ export async function wayTo(document, room, log, edits) {
     const changes = way === null ? [] : way();
     if (way === null) document.came(document.version, Infinity);
     changes.push(...document.follow(room));
+    if (way === null) document.renew(room.version, room.memory.last(room.version));
     document.counts = room.counts;
     return changes;
   };

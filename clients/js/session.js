@@ -540,6 +540,7 @@ export class Session extends /** @type {{new (): Tells & EventTarget}} */ (Event
       this.#tellChanges(this.document.follow(other));
       this.document.renew(other.version, other.memory.last(other.version));
       this.document.site = other.site;
+      this.document.counts = other.counts;
       this.#goOn();
     } else if (this.#compared !== null) {
       if (this.#putIn(other)) await this.#turn(); // at once, before another does so too
