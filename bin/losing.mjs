@@ -184,15 +184,21 @@ async function losesItsEndBehindARenewal(brought) {
   await goOn(await keptRun(room, 93 + brought.length, 3), [way], `${text} And the end.`);
 }
 
-/** One who has just joined loses what it typed, and so many operations of another that it had joined with, of which it deleted one. */
-async function losesItsEndBehindAJoin(without) {
-  const other = new Way(await keptRun(await roomOf(WHALE, 1)));
-  await other.comesTo("up to date", WHALE);
+/** An editor has pasted 80 digits in front of the text of a room, and then another one joined. */
+async function joinedBehindAPaste(room) {
   const pasted = "0123456789".repeat(8);
+  const other = new Way(room);
+  await other.comesTo("up to date", WHALE);
   other.editor.change(0, 0, pasted);
   await other.comesTo("up to date", pasted + WHALE);
-  const way = new Way(other.room);
+  const way = new Way(room);
   await way.comesTo("up to date", pasted + WHALE);
+  return { pasted, other, way };
+}
+
+/** One who has just joined loses what it typed, and so many operations of another that it had joined with, of which it deleted one. */
+async function losesItsEndBehindAJoin(without) {
+  const { pasted, other, way } = await joinedBehindAPaste(await keptRun(await roomOf(WHALE, 1)));
   way.editor.change(80 + WHALE.length, 0, RABBIT);
   way.editor.change(60, 1, "");
   const text = pasted.slice(0, 60) + pasted.slice(61) + WHALE + RABBIT;
@@ -202,13 +208,7 @@ async function losesItsEndBehindAJoin(without) {
 
 /** A room is renewed by hand, twice, with texts of one length, and another joins between: what it typed is there once. */
 async function isRenewedToOneLength() {
-  const other = new Way(await renewedRun(await roomOf(WHALE, 1)));
-  await other.comesTo("up to date", WHALE);
-  const pasted = "0123456789".repeat(8);
-  other.editor.change(0, 0, pasted);
-  await other.comesTo("up to date", pasted + WHALE);
-  const way = new Way(other.room);
-  await way.comesTo("up to date", pasted + WHALE);
+  const { pasted, other, way } = await joinedBehindAPaste(await renewedRun(await roomOf(WHALE, 1)));
   way.editor.change(80 + WHALE.length, 0, "!");
   for (const it of [other, way]) await it.comesTo("up to date", `${pasted}${WHALE}!`);
   way.cutOff();
