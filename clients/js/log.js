@@ -4,6 +4,7 @@
  */
 import { MOST } from "./document.js";
 import { Refused } from "./faults.js";
+import { firstText } from "./first_text.js";
 import { SIGNS } from "./memory.js";
 
 /**
@@ -21,8 +22,7 @@ const FAR = 131_072;
 /** A log of so few operations may be lost whole: a team types as many before the first turn of a server that keeps it each five seconds. */
 const FEW = 1_024;
 
-/** So many requests are on their way at one time, and so often something is asked that others' typing spoils. */
-const AHEAD = 16;
+/** So often something is asked that others' typing spoils. */
 const TRIES = 4;
 
 const sumOf = (clock) => clock.reduce((sum, [, count]) => sum + count, 0);
@@ -262,24 +262,12 @@ export class Log {
    * The text that one site typed from its beginning to its end, where the log begins so, and whether it is that of a new document, as a
    * room is renewed: behind it is another site's first operation or none, and the run of the server is of another site too. Null where the
    * log begins otherwise.
+   * @param {Document} room
    */
-  async firstText() {
-    const signs = [];
-    let next = null;
-    let site = null;
-    for (let [after, count] = [0, 1]; next === null; [after, count] = [after + count * MOST, AHEAD]) {
-      const parts = await Promise.all(Array.from({ length: count }, (_, n) => this.#singles(after + n * MOST)));
-      const last = parts.findIndex((it) => it.length < MOST); // what a part behind it has came later
-      for (const it of (last < 0 ? parts : parts.slice(0, last + 1)).flat()) {
-        site ??= it.site;
-        const behind = signs.length === 0 ? "null" : `${[signs.length, site]}`;
-        next = it.site !== site || it.sign === "" || it.of !== behind ? it : null;
-        if (next !== null) break;
-        signs.push(it.sign);
-      }
-      if (last >= 0) break;
-    }
-    if (signs.length === 0) return null;
+  async firstText(room) {
+    const found = await firstText((after, max) => this.#singles(after, max), room);
+    if (found === null) return null;
+    const { site, signs, next } = found;
     const isNew = (next === null || next.sequence === 1) && !(await this.isOfRun(site));
     return { text: signs.join(""), version: signs.length, last: signs.slice(-SIGNS).map((sign) => ({ sign, site })), isNew };
   }

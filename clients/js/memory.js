@@ -2,6 +2,7 @@
  * What a document remembers of the edits that it played, until they are surely kept: the room's log may lose its end with a run of the
  * server. Each entry tells what the log has at which versions, and how the edit is undone.
  */
+import { Gap, unitsOf } from "./gap.js";
 
 /** Milliseconds until an edit is surely kept, and how many are remembered at most. */
 const SURE = 300_000;
@@ -25,6 +26,8 @@ export class Memory {
   #entries = [];
   /** @type {Known[]} */
   #before;
+  /** What was asked for last, until the entries change. @type {{start: number, known: (Known | undefined)[]} | null} */
+  #known = null;
 
   /**
    * Remembers nothing but the version, and what the log has last up to there.
@@ -41,6 +44,7 @@ export class Memory {
 
   /** @param {Omit<Entry, "when">} entry */
   add(entry) {
+    this.#known = null;
     this.#entries.push({ ...entry, when: Date.now() });
     this.#meet(entry.known);
     if (this.#entries.length % SIGNS === 0) this.#forget();
@@ -62,6 +66,7 @@ export class Memory {
 
   /** What is known of the operations from some number below the base on; of those in between nothing may be known. */
   get known() {
+    if (this.#known !== null) return this.#known;
     const start = this.base - this.#before.length;
     /** @type {(Known | undefined)[]} */
     const known = [...this.#before];
@@ -69,7 +74,7 @@ export class Memory {
       last.forEach((it, n) => (known[to - last.length + n - start] = it));
       known.length = Math.max(known.length, to - start);
     }
-    return { start, known };
+    return (this.#known = { start, known });
   }
 
   /** The version of the first text that is known: one that was joined, of whose operations the last alone are known, or the base. */
@@ -101,19 +106,20 @@ export class Memory {
 
   /** Forgets all but so many entries, the last one first. */
   *since(length) {
-    while (this.#entries.length > length) yield this.#entries.pop();
+    for (; this.#entries.length > length; this.#known = null) yield this.#entries.pop();
   }
 
-  /** The room's texts that led to this one, the last first, and how many entries lead to each. */
-  *texts(text) {
-    yield { text, length: this.#entries.length };
-    for (let length = this.#entries.length - 1; length >= 0; length -= 1) {
-      for (const { at, taken, put } of [...this.#entries[length].ways].reverse()) {
-        const old = taken.map((it) => it.text).join("");
-        text = text.slice(0, at) + old + text.slice(at + put.length);
+  /** How many entries lead to the last of the room's texts, up to the one of now, that is the wanted one; null where none is. */
+  lengthWhere(wanted, text) {
+    const [units, last] = [new Gap(unitsOf(text)), unitsOf(wanted)];
+    let length = this.#entries.length;
+    for (; !units.is(last); length -= 1) {
+      if (length === 0) return null;
+      for (const { at, taken, put } of [...this.#entries[length - 1].ways].reverse()) {
+        units.replace(at, put.length, unitsOf(taken.map((it) => it.text).join("")));
       }
-      yield { text, length };
     }
+    return length;
   }
 
   /**
@@ -121,13 +127,13 @@ export class Memory {
    * where.
    */
   *own(units) {
-    const now = [...Array(units).keys()];
+    const now = new Gap(Int32Array.from({ length: units }, (_, place) => place));
     for (let length = this.#entries.length - 1; length >= 0; length -= 1) {
       const { isOwn, ways } = this.#entries[length];
       const places = [];
       for (const { at, taken, put } of [...ways].reverse()) {
         const old = taken.reduce((sum, it) => sum + it.text.length, 0);
-        places.push(...now.splice(at, put.length, ...Array(old).fill(-1)).filter((place) => place >= 0));
+        places.push(...now.replace(at, put.length, new Int32Array(old).fill(-1)).filter((place) => place >= 0));
       }
       if (isOwn && places.length > 0) yield { length, places };
     }

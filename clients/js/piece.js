@@ -2,6 +2,10 @@
  * A piece: its text; whose it is; what becomes of it; and, where something of it is new, when that was made. Text that others put in and
  * the room lost stays where it stood, unseen, for when they put it in again.
  */
+
+/** So many units of the room's text are one piece at most, unless they came as one. */
+const LONG = 2_048;
+
 export class Piece {
   constructor(text, owner, gone = null, order = 0, since = 0) {
     this.text = text;
@@ -45,9 +49,10 @@ export class Piece {
     return rest;
   }
 
-  /** Whether both are of one kind, so that they may be one piece. */
+  /** Whether both are of one kind, so that they may be one piece. Two of the room's that are long stay two, since a cut copies a piece. */
   isLike(other) {
-    return ["owner", "gone", "order", "since"].every((it) => this[it] === other[it]);
+    const isShort = !this.isRooms || this.text.length + other.text.length <= LONG;
+    return isShort && ["owner", "gone", "order", "since"].every((it) => this[it] === other[it]);
   }
 
   /** Takes in a piece of its kind that stands behind it. */

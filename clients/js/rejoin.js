@@ -59,7 +59,7 @@ async function wayWithin(document, room, log, edits) {
     return changes;
   };
   if (lost?.isSure) return goBack(lost);
-  const first = await log.firstText();
+  const first = await log.firstText(room);
   const isBefore = memory.joined > 0 && !(lost?.kept > 0) && isShorter(document, room, first);
   if (isBefore) return goBack({ kept: memory.joined, isBefore });
   const before = first === null ? null : textBefore(document, first.text);
@@ -122,7 +122,8 @@ function hasCome({ roomText, textToCome, underWay }, text) {
  */
 function textBefore(document, wanted) {
   const { memory, roomText } = document;
-  for (const it of memory.texts(roomText)) if (it.text === wanted) return it;
+  const length = memory.lengthWhere(wanted, roomText);
+  if (length !== null) return { length, text: wanted };
   if (hasCome(document, wanted)) return { length: memory.length, text: roomText, hasCome: true };
   const away = distance(roomText, wanted);
   const own = [...memory.own(roomText.length)];

@@ -61,14 +61,12 @@ export class Log {
      * The text that one site typed from its beginning to its end, where the log begins so, and whether it is that of a new document, as a
      * room is renewed: behind it is another site's first operation or none, and the run of the server is of another site too. Null where the
      * log begins otherwise.
+     * @param {Document} room
      */
-    firstText(): Promise<{
-        text: string;
-        version: number;
-        last: {
-            sign: string;
-            site: any;
-        }[];
+    firstText(room: Document): Promise<{
+        text: any;
+        version: any;
+        last: any;
         isNew: boolean;
     } | null>;
     #private;

@@ -36,11 +36,8 @@ export class Memory {
     lengthAt(version: any): number;
     /** Forgets all but so many entries, the last one first. */
     since(length: any): Generator<Entry | undefined, void, unknown>;
-    /** The room's texts that led to this one, the last first, and how many entries lead to each. */
-    texts(text: any): Generator<{
-        text: any;
-        length: number;
-    }, void, unknown>;
+    /** How many entries lead to the last of the room's texts, up to the one of now, that is the wanted one; null where none is. */
+    lengthWhere(wanted: any, text: any): number | null;
     /**
      * The entries that put in something here that the room's text of so many units still has, the last first: how many lead to each, and
      * where.

@@ -1,7 +1,3 @@
-/**
- * A piece: its text; whose it is; what becomes of it; and, where something of it is new, when that was made. Text that others put in and
- * the room lost stays where it stood, unseen, for when they put it in again.
- */
 export class Piece {
     constructor(text: any, owner: any, gone?: null, order?: number, since?: number);
     text: any;
@@ -20,7 +16,7 @@ export class Piece {
     part(start: any, end: any): Piece;
     /** Takes what stands behind the place off, and gives it as a piece of its own. */
     cut(place: any): Piece;
-    /** Whether both are of one kind, so that they may be one piece. */
+    /** Whether both are of one kind, so that they may be one piece. Two of the room's that are long stay two, since a cut copies a piece. */
     isLike(other: any): boolean;
     /** Takes in a piece of its kind that stands behind it. */
     join(next: any): void;
