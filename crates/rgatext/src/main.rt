@@ -15,6 +15,7 @@ mod room_path;
 mod rooms;
 mod runs;
 mod serving;
+mod sites;
 mod state;
 mod tending;
 mod warnings;

@@ -4,12 +4,12 @@ ghost use Rattle.std.specs.Prelude.{◌≡◌, ◌<◌, length};
 ghost use Rattle.ws_server.specs.Halls.{rooms_of, IsHallPassOf};
 
 use crate::serving::Shared;
-use crate::state::{MANY_SITES, RoomState, nears_limit, used_sites};
+use crate::sites::{MANY_SITES, site_without, used_sites};
+use crate::state::{RoomState, nears_limit};
 use crate::watch::{MANY_CALLS, MANY_OPERATIONS, MANY_SESSIONS};
 use kept_rooms::follow;
-use opid::{Refusal, SITES, Site};
+use opid::Refusal;
 use shared_room::Look;
-use snapshot::lacks_site;
 use std::alloc::{AllocError, Global};
 use std::sync::Wait;
 use std::time::Clock;
@@ -210,22 +210,15 @@ fn without_site<'a>(all: &[Left], rooms: &'a [RoomState]) -> Option<&'a RoomStat
     let mut place = 0usize;
     for room in rooms {
         match all.get(place) {
-            Some(left) if another_site(&left.doc, room.site).is_none() => return Some(room),
-            _ => {}
+            Some(left) => {
+                let known = left.doc.known();
+                if site_without(known, known, Some(room.site)).is_none() {
+                    return Some(room);
+                }
+            }
+            None => {}
         }
         place = place.saturating_add(1);
-    }
-    None
-}
-
-// The least site that a log has no operation of, and that isn't this one.
-fn another_site(doc: &Doc, own: Site) -> Option<Site> {
-    for number in 0..SITES as u8 {
-        if let Ok(site) = Site::new(number) {
-            if site != own && lacks_site(doc, site) {
-                return Some(site);
-            }
-        }
     }
     None
 }

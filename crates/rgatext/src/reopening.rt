@@ -7,20 +7,18 @@ use crate::renewed::{Over, renew_or_stay};
 use crate::renewing::Left;
 use crate::room_path::RoomPath;
 use crate::rooms::{Opened, Room, Rooms, hall_of, room_of};
+use crate::sites::site_without;
 use crate::state::RoomState;
 use crate::warnings::Warnings;
-use causal_clock::Clock;
 use commands::Stop;
 use journal::free_site;
 use keeper::{HostFile, KeptFile};
 use kept_rooms::{Opening, RoomTurns};
 use line_engine::ServeFault;
-use opid::{Refusal, SITES, Site};
-use snapshot::lacks_site;
+use opid::Refusal;
 use std::alloc::Global;
 use std::fs::{File, Files};
 use std::sync::Wait;
-use versions::Doc;
 
 /// A run that has ended: of each room how it was, its turns, its file and what it leaves.
 #[derive(Drop)]
@@ -118,7 +116,7 @@ fn reopen_room<R: Files<File = File> + Wait>(
     };
     let Over { file, node, doc } = over;
     // (no number of the old document comes again, where a site is left for that)
-    let Some(site) = site_without(&doc, &old).or(free_site(&doc)) else {
+    let Some(site) = site_without(doc.known(), &old, None).or(free_site(&doc)) else {
         return Err(Stop::Refused(Refusal::SiteUsed));
     };
     let turns = RoomTurns::new(place, Some(file));
@@ -136,16 +134,4 @@ fn reopen_room<R: Files<File = File> + Wait>(
         turns,
         Some((path, node)),
     )
-}
-
-// The least site that neither the log of a document nor one with these operations has an operation of.
-fn site_without(doc: &Doc, old: &Clock) -> Option<Site> {
-    for number in 0..SITES as u8 {
-        if let Ok(site) = Site::new(number) {
-            if lacks_site(doc, site) && old.entry(site) == 0 {
-                return Some(site);
-            }
-        }
-    }
-    None
 }

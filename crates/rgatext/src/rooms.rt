@@ -7,7 +7,8 @@ use crate::beside::Node;
 use crate::kept::{RoomFile, lock_folder, open_file, sync_folder};
 use crate::listener::fitting;
 use crate::room_path::RoomPath;
-use crate::state::{MANY_SITES, RoomState, used_sites};
+use crate::sites::{MANY_SITES, shows_others, used_sites};
+use crate::state::RoomState;
 use crate::watch::Watched;
 use commands::Stop;
 use journal::free_site;
@@ -240,7 +241,10 @@ fn state_of(name: &String, opening: &Opening) -> Result<RoomState, Stop>
     ensures fits { (result ≡ Err (Stop.Refused Refusal.BadField)) → ⊥ }
 {
     match name.clone() {
-        Ok(name) => Ok(RoomState::new(name, opening.site, *opening.doc.known())),
+        Ok(name) => {
+            let had_others = shows_others(&opening.doc);
+            Ok(RoomState::new(name, opening.site, *opening.doc.known(), had_others))
+        }
         Err(_) => Err(Stop::Fault(ServeFault::Memory)),
     }
 }

@@ -1,5 +1,6 @@
 //! How the rooms are, for whoever looks from outside: a file in their folder, and a line on standard error.
 use crate::ends::Connections;
+use crate::sites::{MANY_SITES, used_sites};
 use crate::warnings::Seldom;
 use crate::watch::{MANY_CALLS, MANY_OPERATIONS};
 use causal_clock::Clock as Known;
@@ -39,13 +40,13 @@ pub(crate) struct RoomState {
 }
 
 impl RoomState {
-    /// A room of which nothing was seen yet, which was opened over a log of these operations.
-    pub(crate) fn new(name: String, site: Site, begun: Known) -> RoomState {
+    /// A room of which nothing was seen yet, which was opened over a log of these operations, and whether that shows others' before.
+    pub(crate) fn new(name: String, site: Site, begun: Known, had_others: bool) -> RoomState {
         RoomState {
             name,
             site,
             begun,
-            had_others: false,
+            had_others,
             seen: Mutex::new(Seen {
                 operations: 0,
                 calls: 0,
@@ -157,25 +158,9 @@ impl RoomState {
     }
 }
 
-/// From so many of 32 sites on that have operations in a log it nears its limit.
-pub(crate) const MANY_SITES: usize = 28;
-
 /// Whether a log of so many operations, of these sites, nears its limit.
 pub(crate) fn nears_limit(operations: u32, known: &Known) -> bool {
     operations >= MANY_OPERATIONS || used_sites(known) >= MANY_SITES
-}
-
-/// How many sites have operations in a log of these.
-pub(crate) fn used_sites(known: &Known) -> usize {
-    let mut used = 0usize;
-    for number in 0..SITES as u8 {
-        if let Ok(site) = Site::new(number) {
-            if known.entry(site) > 0 {
-                used = used.saturating_add(1);
-            }
-        }
-    }
-    used
 }
 
 /// How all rooms are.
