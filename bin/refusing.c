@@ -7,6 +7,8 @@
  *   SLOW_SYNC=N           every sync takes N microseconds more
  *   LATE_WRITES           what is written to a file of a room waits in memory for its next sync: a kill takes it away, as a power cut may,
  *                         and so does a sync that fails
+ *   FAIL_LINK=N           the Nth time that a file gets another name fails
+ *   FAIL_RENAME=N         the Nth time that a file is renamed to that of a room fails
  *   FAIL_THREAD=N         the Nth thread can't be made
  *   REFUSE_ON             each later call of the same kind is refused, too
  *   SHORT_READS=N         every read that isn't refused gives at most N bytes
@@ -30,7 +32,7 @@
     if (!under) \
         under = dlsym(RTLD_NEXT, #name)
 
-static atomic_long allocations, reads, writes, syncs, threads;
+static atomic_long allocations, reads, writes, syncs, links, renames, threads;
 
 static void tell(void)
 {
@@ -158,6 +160,26 @@ int ftruncate(int file, off_t size)
     UNDER(ftruncate);
     settle(file, 1);
     return under(file, size);
+}
+
+int link(const char *from, const char *to)
+{
+    UNDER(link);
+    return is_refused(&links, "FAIL_LINK", EPERM) ? -1 : under(from, to);
+}
+
+int linkat(int at, const char *from, int other, const char *to, int how)
+{
+    UNDER(linkat);
+    return is_refused(&links, "FAIL_LINK", EPERM) ? -1 : under(at, from, other, to, how);
+}
+
+int rename(const char *from, const char *to)
+{
+    UNDER(rename);
+    size_t length = strlen(to);
+    int is_room = length > 4 && !memcmp(to + length - 4, ".ops", 4);
+    return is_room && is_refused(&renames, "FAIL_RENAME", EIO) ? -1 : under(from, to);
 }
 
 int pthread_create(pthread_t *thread, const pthread_attr_t *how, void *(*run)(void *), void *with)
