@@ -441,6 +441,30 @@ def tries_kept_run():
         kept.kill()
 
 
+def tries_renewed_run():
+    """A room begins anew while a text area and CodeMirror type in it, and another window reads: all go on, carets and undoing too."""
+    with tempfile.TemporaryDirectory() as folder:
+        kept = Server(PROGRAM, "--renew", "notes", folder=folder)
+        both = [Window(PAGES, kept.port), Mirror(PAGES, kept.port, "notes")]
+        reader = Mirror(PAGES, kept.port, "notes")
+        all_show = lambda text: all(it.text == text and it.state == "up to date" for it in (*both, reader))
+        both[0].type("one three")
+        until(lambda: all_show("one three"), "before the room is renewed")
+        both[1].select(4, 4)
+        both[1].type("two ")
+        until(lambda: all_show("one two three"), "both have typed")
+        both[0].select(3, 3)
+        pathlib.Path(folder, "renew").touch()
+        until(lambda: pathlib.Path(folder, "notes.1.ops").exists() or both[1].type("x"), "the room begins anew while somebody types", 30)
+        until(lambda: all_show(both[0].text), "all go on in the new document", 30)
+        assert set(both[0].text.replace("one two ", "").replace("three", "")) <= {"x"}, both[0].text
+        both[0].type("!")
+        until(lambda: all_show("one! three") or both[1].type(Keys.CONTROL + "z"), "the caret, and undoing what one typed, are as before", 30)
+        for it in (*both, reader):
+            it.quit()
+        kept.kill()
+
+
 def tries_origins():
     """A server that keeps its rooms lets pages of this machine in, from each port and by each name, and those of another name where that is
     named."""
@@ -609,7 +633,7 @@ try:
     for attempt in (tries_cut_lines, *writing, tries_another_run, tries_refilled_run):
         attempt()
         print(attempt.__name__.removeprefix("tries_").replace("_", " "))
-    rooms = (tries_kept_run, tries_origins, tries_65_windows, tries_full_room, tries_bad_addresses)
+    rooms = (tries_kept_run, tries_renewed_run, tries_origins, tries_65_windows, tries_full_room, tries_bad_addresses)
     others = (tries_bad_address_beside_a_room, tries_missing_lib, tries_text_of_before)
     mirrors = (tries_carriage_returns, tries_codemirror, tries_codemirror_scroll, tries_codemirror_in_a_full_room)
     for attempt in (tries_walk, tries_widths, tries_history, *rooms, *others, *mirrors, tries_pastes, tries_long_history):

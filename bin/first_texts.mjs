@@ -6,8 +6,9 @@ import { Gap } from "../clients/js/gap.js";
 import { Log } from "../clients/js/log.js";
 import { MemoryRoom } from "../clients/js/memory_room.js";
 import { wayTo } from "../clients/js/rejoin.js";
+import { Session } from "../clients/js/session.js";
 import { isInside } from "../clients/js/text.js";
-import { dice } from "./room.mjs";
+import { dice, until } from "./room.mjs";
 
 const OLD = 5; // the site of what a room begins with
 const SIGNS = [..."abcdefgh", "\n", "é", "\u{1F600}"];
@@ -136,6 +137,25 @@ async function goesOver() {
   }
 }
 
+/** Who only reads goes on in a renewed room, and asks nobody. */
+async function followsAReader() {
+  const before = new MemoryRoom({ site: 1, log: [{ c: [[0, 1]], k: "r", s: 0, p: null, x: "what was typed long ago" }] });
+  let room = before;
+  const reader = new Session(() => room.connect(), { idle: 20 });
+  const states = new Set();
+  reader.addEventListener("state", () => states.add(reader.state));
+  await reader.ready;
+  typeIn(before, dice(9), 20);
+  await until(() => reader.text === before.text, () => "it reads along");
+  typeIn(before, dice(10), 3); // which it doesn't hear of
+  room = renewed(2, before.text);
+  typeIn(room, dice(11), 20);
+  before.cut();
+  await until(() => reader.text === room.text && reader.state === "up to date", () => "it reads the new document");
+  assert.ok(!states.has("another text"));
+  await reader.close();
+}
+
 /** A list with a gap is the list that a plain one is. */
 function isAsAPlainList() {
   const roll = dice(3);
@@ -158,5 +178,6 @@ await isFoundWhateverCame();
 await endsWhereItIsOtherwise();
 await endsInAPartThatIsNotSeen();
 await goesOver();
+await followsAReader();
 isAsAPlainList();
 console.log("bin/first_texts.mjs: the text that a room was renewed with is found in few requests");
