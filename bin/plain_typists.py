@@ -44,6 +44,7 @@ class PlainTypist(threading.Thread):
         self.dice, self.used = random.Random(who), 0
         self.is_typing, self.is_open, self.fault = True, True, ""
         self.state, self.asked = "joining", 0
+        self.left, self.away = None, []  # since when it can't type; until when, and for how many seconds, it couldn't
         self.start()
 
     def run(self):
@@ -66,6 +67,15 @@ class PlainTypist(threading.Thread):
 
     def turn(self, does):
         """Does something, and whatever it leads to."""
+        begun = time.monotonic()
+        self.try_to(does)
+        if self.state != "up to date":
+            self.left = self.left or begun
+        elif self.left or time.monotonic() > begun + 1:
+            self.away.append((time.monotonic(), time.monotonic() - (self.left or begun)))
+            self.left = None
+
+    def try_to(self, does):
         try:
             does()
             self.state = "up to date"
@@ -130,6 +140,10 @@ class PlainTypists:
     @property
     def faults(self):
         return [(it.who, it.fault) for it in self.typists if it.fault]
+
+    @property
+    def away(self):
+        return [told for it in self.typists for told in it.away]
 
     def report(self):
         self.reports = {it.who: it.report() for it in self.typists}
