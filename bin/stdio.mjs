@@ -200,6 +200,20 @@ async function stepsAtRandom(server) {
   }
 }
 
+/** A byte that is no UTF-8 counts one place, and becomes U+FFFD at the next `take`; outside of a text it is no JSON. */
+async function readsBytesThatAreNoText(server) {
+  server.turn(new MemoryRoom());
+  const editor = new Editor(server, "bytes");
+  const bytes = [0x61, 0xff, 0xc3, 0xc3, 0xa9, 0xed, 0xa0, 0x80, 0xf0, 0x9f, 0x98, 0x80, 0xf0, 0x9f]; // (RFC 3629: no surrogates, whole characters)
+  editor.child.stdin.write(Buffer.concat([Buffer.from('{"replace":[0,0,"'), Buffer.from(bytes), Buffer.from('"]}\n')]));
+  const wanted = [[1, 2, "\ufffd".repeat(2)], [9, 3, "\ufffd".repeat(3)], [22, 2, "\ufffd".repeat(2)]];
+  assert.deepEqual(await editor.asks({ take: true }, "changes"), wanted);
+  editor.child.stdin.write(Buffer.from([0x7b, 0xff, 0x7d, 0x0a]));
+  assert.deepEqual(await editor.hears((it) => "wrong" in it), { wrong: "line 3: it is no JSON" });
+  await editor.closes();
+  assert.equal(server.room.text, "a\ufffd\ufffdé\ufffd\ufffd\ufffd😀\ufffd\ufffd");
+}
+
 /** What was written before a signal is done, and is in the room. */
 async function endsWithASignal(server) {
   for (const signal of ["SIGTERM", "SIGINT", "SIGHUP"]) {
@@ -276,7 +290,8 @@ async function endsBeforeItIsThere(server) {
 }
 
 const server = await new Server().listen();
-const attempts = [flushesWhatWasBefore, givesUpAtAnotherText, endsBeforeItIsThere, endsWithASignal, stepsAtRandom, replacesAtManyPlaces];
+const attempts = [flushesWhatWasBefore, givesUpAtAnotherText, endsBeforeItIsThere, endsWithASignal, readsBytesThatAreNoText];
+attempts.push(stepsAtRandom, replacesAtManyPlaces);
 for (const attempt of attempts) await attempt(server);
 server.close();
-console.log("bin/stdio.mjs: many places, signals, flushes, ends, and another text");
+console.log("bin/stdio.mjs: many places, signals, flushes, ends, bytes, and another text");

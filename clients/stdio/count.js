@@ -1,6 +1,6 @@
 /**
- * How an editor counts places: in UTF-16 units, characters, or bytes of UTF-8. A surrogate that stands alone is a byte that is no UTF-8, as
- * an editor tells it: one of each.
+ * How an editor counts places: in UTF-16 units, characters, or bytes of UTF-8. A surrogate that stands alone, as a byte that is no
+ * UTF-8, is one of each.
  *
  * @typedef {(sign: number) => number} Count how many places a code point takes
  */

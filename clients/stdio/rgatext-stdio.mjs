@@ -2,7 +2,7 @@
 // A room of an rgatext server for an editor that starts a program: it speaks by lines of JSON, which README.md tells.
 import { COUNTS, gone, goneBack, size } from "./count.js";
 import { EditorText } from "./editor_text.js";
-import { linesOf } from "./lines.js";
+import { linesOf, textOf } from "./lines.js";
 import { Ended, Full, open, Undo } from "./module.js";
 
 const [address, room, counted = "units", ...more] = process.argv.slice(2);
@@ -235,9 +235,9 @@ class Conversation {
 function parsed(line) {
   let request;
   try {
-    request = JSON.parse(new TextDecoder("utf-8", { fatal: true }).decode(line));
+    request = JSON.parse(textOf(line));
   } catch {
-    throw new Wrong("it is no JSON in UTF-8");
+    throw new Wrong("it is no JSON");
   }
   const isRequest = typeof request === "object" && request !== null && Object.keys(request).length > 0;
   if (!isRequest) throw new Wrong("it is no object with a key");

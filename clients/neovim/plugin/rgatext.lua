@@ -8,32 +8,6 @@ local program = { "--experimental-websocket", "--no-warnings", folder .. "/stdio
 local ANSWER, SENDING, BUSY = 2000, 5000, 50
 local SCARCE = 13107 -- so many changes before a room is full it is told
 
--- The characters of UTF-8 that have more than one byte (RFC 3629).
-local REST = "[\128-\191]"
-local LONG = {
-  "^[\194-\223]" .. REST,
-  "^\224[\160-\191]" .. REST,
-  "^[\225-\236\238\239]" .. REST .. REST,
-  "^\237[\128-\159]" .. REST,
-  "^\240[\144-\191]" .. REST .. REST,
-  "^[\241-\243]" .. REST .. REST .. REST,
-  "^\244[\128-\143]" .. REST .. REST,
-}
-
--- Bytes above 127 as JSON has them: characters as they are, and a byte that is no UTF-8 as half a pair, as the program wants it.
-local function spelled(bytes)
-  local parts, at = {}, 1
-  while at <= #bytes do
-    local found
-    for _, it in ipairs(LONG) do
-      found = found or bytes:match(it, at)
-    end
-    table.insert(parts, found or ("\\udc%02x"):format(bytes:byte(at)))
-    at = at + #(found or " ")
-  end
-  return table.concat(parts)
-end
-
 -- The change that leads from the lines of a text to others: where, how many bytes, and the text. There is an LF between two lines, and none
 -- behind the last one.
 local function change_of(old, new)
@@ -76,8 +50,7 @@ function Room:send(request)
   if self.is_over then
     return
   end
-  local line = vim.json.encode(request):gsub("[\128-\255]+", spelled)
-  self.input:write(line .. "\n")
+  self.input:write(vim.json.encode(request) .. "\n")
 end
 
 -- Takes a line of the program: an answer is kept for who waits for it, all else is heard as soon as nothing else is done.
