@@ -100,6 +100,10 @@ def of(kind):
     return [it for it in terminals if isinstance(it, kind)]
 
 
+def other_than(it):
+    return next(other for other in terminals if other is not it)
+
+
 def one_of_each(room):
     """An editor of each kind in a room of its own, one after the other."""
     for kind in {type(it): None for it in terminals}:
@@ -226,7 +230,7 @@ def tries_wide():
         same("a composed one", "界\nx\n👩‍👩‍👧!\nend")
         it.do("set foldmethod=manual")
         it.do("2,3fold")
-        terminals[-1].put("above\r")
+        other_than(it).put("above\r")
         same("text above a fold", "above\n界\nx\n👩‍👩‍👧!\nend")
         it.keys("3Gdd")
         same("a fold is deleted", "above\n界\nend")
@@ -237,7 +241,7 @@ def tries_wide():
         it.keys(["M-<", "DC", "C-n", "C-a", "DC"])
         same("wide ones are deleted", "界\n\u0301x\nend")
         it.ask("(narrow-to-region 1 2)")
-        terminals[0].put("!", is_end=True)
+        other_than(it).put("!", is_end=True)
         same("text beyond what is shown", "界\n\u0301x\nend!")
         it.put("<")
         same("text within", "<界\n\u0301x\nend!")
@@ -265,7 +269,7 @@ def tries_bytes():
 def tries_waiting():
     """While Neovim's user selects, or sees what a command would do, others' changes wait, and nothing is sent."""
     for it in of(Neovim):
-        other = next(o for o in terminals if o is not it)
+        other = other_than(it)
         it.put("one two")
         same("a text", "one two")
         for keys in ("ggv$", ":%s/one/three"):
@@ -464,6 +468,7 @@ def tries_program_that_is_slow():
         os.kill(program, signal.SIGSTOP)
         it.put("typed ")
         it.undo()
+        until(lambda: "waiting for its program" in it.screen, f"{it.name} says it again")
         it.keys(it.gives_up)
         until(lambda: it.state == "closed: its program has ended", f"{it.name} has given it up")
         assert it.text == "typed ", it.text

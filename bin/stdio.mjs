@@ -147,6 +147,9 @@ class Editor {
   }
 }
 
+/** What a program that has sent all says at its end, and its status. */
+const ALL = { sent: true, unsent: [], words: "the room has all", status: 0 };
+
 /** A room that has a text. */
 const roomOf = (text) => new MemoryRoom({ log: [{ c: [[0, 1]], k: "r", s: 0, p: null, x: text }], site: 1 });
 
@@ -194,9 +197,10 @@ async function stepsAtRandom(server) {
       list.splice(at, removed, ...put);
       if (roll(40) === 0) assert.equal(await editor.asks({ text: true }, "text"), list.join(""));
     }
-    assert.deepEqual(await editor.closes(), { sent: true, unsent: [], status: 0 });
+    assert.deepEqual(await editor.closes(), ALL);
     assert.equal(server.room.text, list.join(""));
     assert.ok(!editor.told.some((it) => "wrong" in it));
+    assert.equal(editor.told.findLast(({ heard }) => heard !== undefined).heard, 500);
   }
 }
 
@@ -223,12 +227,12 @@ async function endsWithASignal(server) {
     const lines = Array.from({ length: 600 }, (_, n) => `${JSON.stringify({ replace: [n, 0, "abc"[n % 3]] })}${" ".repeat(8_000)}\n`);
     editor.child.stdin.write(lines.join("")); // more than is read at once
     editor.child.kill(signal);
-    assert.deepEqual(await editor.isClosed(), { sent: true, unsent: [], status: 0 }, signal);
+    assert.deepEqual(await editor.isClosed(), ALL, signal);
     assert.equal(server.room.text, "abc".repeat(200), signal);
   }
 }
 
-/** Each `flush` is answered by its number, once the room has what was done before it, whatever is typed since. */
+/** Each `flush` is answered by its number, once the room has what was done before it, whatever is typed since; or else once it is late. */
 async function flushesWhatWasBefore(server) {
   server.turn(new MemoryRoom());
   const editor = new Editor(server);
@@ -236,50 +240,80 @@ async function flushesWhatWasBefore(server) {
   let typed = 0;
   const types = () => editor.say({ replace: [typed++, 0, "x"] });
   types();
-  editor.say({ flush: 7 });
+  editor.say({ flush: 10_000 });
   const typing = setInterval(types, 20);
-  assert.deepEqual(await editor.hears((it) => "flushed" in it), { flushed: 7, sent: true });
+  assert.deepEqual(await editor.hears((it) => "flushed" in it), { flushed: 10_000, sent: true });
   clearInterval(typing);
   assert.ok(typed < 100, `it took till ${typed} characters were typed`);
   server.isSilent = true;
   types();
-  editor.say({ flush: 8 });
+  editor.say({ flush: 100 }, { flush: Number.MAX_SAFE_INTEGER });
+  assert.deepEqual(await editor.hears((it) => "flushed" in it), { flushed: 100, sent: false });
   await editor.comesTo("no answer");
   server.isSilent = false;
   server.turn(server.room);
-  assert.deepEqual(await editor.hears((it) => "flushed" in it), { flushed: 8, sent: true });
+  assert.deepEqual(await editor.hears((it) => "flushed" in it), { flushed: Number.MAX_SAFE_INTEGER, sent: true });
+  editor.say({ flush: 0 });
+  assert.match((await editor.hears((it) => "wrong" in it)).wrong, /the value of flush/);
   assert.equal((await editor.closes()).status, 0);
+}
+
+/** Each state tells how many changes were made or refused before, and what the user is told; so do answers that are shown. */
+async function tellsInWords(server) {
+  server.turn(roomOf("x".repeat(131_069)));
+  const editor = new Editor(server);
+  await editor.hears(({ news }) => news);
+  await editor.take();
+  const saved = "up to date; the room takes 3 more changes";
+  assert.deepEqual(await editor.comesTo("up to date"), { state: "up to date", why: "", ahead: false, left: 3, heard: 0, words: saved });
+  editor.say({ replace: [0, 0, "abcd"] });
+  assert.equal((await editor.hears((it) => "refused" in it)).refused, "the room takes 3 more changes");
+  assert.deepEqual((await editor.hears(({ heard }) => heard === 1)).words, saved);
+  server.isSilent = true;
+  editor.say({ replace: [0, 0, "a"] }, { replace: [0, 0, "b"], more: true }, { replace: [0, 0, ""] });
+  const { ahead, left, words } = await editor.hears(({ heard }) => heard === 4);
+  assert.deepEqual({ ahead, left, words }, { ahead: true, left: 1, words: "sending; the room takes 1 more changes" });
+  editor.say({ unsent: true }, { other: true });
+  assert.deepEqual(await editor.hears((it) => "unsent" in it), { unsent: [{ kind: "put in", text: "ba" }], words: "put in: ba" });
+  assert.deepEqual(await editor.hears((it) => "other" in it), { other: null, words: "the room has no other text" });
+  server.isSilent = false;
+  server.turn(new MemoryRoom({ site: 7 }));
+  assert.match((await editor.comesTo("another text")).words, /^another text: ./);
+  editor.say({ unsent: true }, { other: true });
+  assert.deepEqual(await editor.hears((it) => "unsent" in it), { unsent: [{ kind: "put in", text: "ba" }], words: "the room has another text" });
+  assert.deepEqual(await editor.hears((it) => "other" in it), { other: "", words: "" });
+  editor.child.kill("SIGKILL");
 }
 
 /** At another text nothing is said to be sent, neither by `flush`, where it is given up, nor at the end. */
 async function givesUpAtAnotherText(server) {
   server.turn(new MemoryRoom());
   const editors = [new Editor(server), new Editor(server)];
-  editors[0].say({ replace: [0, 0, "here"] }, { flush: 1 });
-  await editors[0].hears((it) => it.flushed === 1 && it.sent);
+  editors[0].say({ replace: [0, 0, "here"] }, { flush: 10_000 });
+  await editors[0].hears(({ sent }) => sent);
   await editors[1].hears(({ news }) => news);
   await editors[1].take();
   server.turn(new MemoryRoom({ site: 7 }));
   for (const it of editors) assert.equal((await it.comesTo("another text")).ahead, true);
-  editors[0].say({ flush: 2 }, { choose: "theirs" });
-  assert.deepEqual(await editors[0].hears((it) => "flushed" in it), { flushed: 2, sent: false });
-  assert.deepEqual(await editors[0].closes(), { sent: true, unsent: [], status: 0 });
-  assert.deepEqual(await editors[1].closes(), { sent: false, unsent: [], status: 1 });
+  editors[0].say({ flush: 10_000 }, { choose: "theirs" });
+  assert.deepEqual(await editors[0].hears((it) => "flushed" in it), { flushed: 10_000, sent: false });
+  assert.deepEqual(await editors[0].closes(), ALL);
+  assert.deepEqual(await editors[1].closes(), { sent: false, unsent: [], words: "the room has another text", status: 1 });
 }
 
 /** Who types and ends before the line is there has it in the room; what isn't sent is told whole, and who doesn't read that is left. */
 async function endsBeforeItIsThere(server) {
   server.turn(new MemoryRoom());
   const early = new Editor(server);
-  early.say({ replace: [0, 0, "early"] }, { flush: 1 });
-  assert.deepEqual(await early.closes(), { sent: true, unsent: [], status: 0 });
+  early.say({ replace: [0, 0, "early"] }, { flush: 10_000 });
+  assert.deepEqual(await early.closes(), ALL);
   assert.equal(server.room.text, "early");
   const text = "世".repeat(100_000); // more than a pipe holds
   const nowhere = { address: "ws://127.0.0.1:9" };
   const alone = new Editor(nowhere);
-  alone.say({ replace: [0, 0, text] }, { flush: 1 });
-  assert.deepEqual(await alone.closes(), { sent: false, unsent: [{ kind: "put in", text }], status: 1 });
-  assert.deepEqual(await alone.hears((it) => "flushed" in it), { flushed: 1, sent: false });
+  alone.say({ replace: [0, 0, text] }, { flush: 10_000 });
+  assert.deepEqual(await alone.closes(), { sent: false, unsent: [{ kind: "put in", text }], words: `put in: ${text}`, status: 1 });
+  assert.deepEqual(await alone.hears((it) => "flushed" in it), { flushed: 10_000, sent: false });
   const deaf = new Editor(nowhere);
   await deaf.hears(({ state }) => state !== undefined);
   deaf.child.stdout.pause();
@@ -290,7 +324,7 @@ async function endsBeforeItIsThere(server) {
 }
 
 const server = await new Server().listen();
-const attempts = [flushesWhatWasBefore, givesUpAtAnotherText, endsBeforeItIsThere, endsWithASignal, readsBytesThatAreNoText];
+const attempts = [tellsInWords, flushesWhatWasBefore, givesUpAtAnotherText, endsBeforeItIsThere, endsWithASignal, readsBytesThatAreNoText];
 attempts.push(stepsAtRandom, replacesAtManyPlaces);
 for (const attempt of attempts) await attempt(server);
 server.close();

@@ -137,7 +137,7 @@ class Emacs(Terminal):
 
     @property
     def state(self):
-        told = self.ask("(substring (rgatext--told) 1)")
+        told = self.ask("(plist-get rgatext--told :words)")
         return json.loads(told) if told.startswith('"') else ""
 
     def do(self, command):

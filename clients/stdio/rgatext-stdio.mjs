@@ -1,9 +1,11 @@
 #!/usr/bin/env -S node --experimental-websocket --no-warnings
 // A room of an rgatext server for an editor that starts a program: it speaks by lines of JSON, which README.md tells.
+import { setTimeout as pause } from "node:timers/promises";
 import { COUNTS, gone, goneBack, size } from "./count.js";
 import { EditorText } from "./editor_text.js";
 import { linesOf, textOf } from "./lines.js";
-import { Ended, Full, open, Undo } from "./module.js";
+import { Ended, Full, inTime, open, Undo } from "./module.js";
+import { lacking, standing } from "./words.js";
 
 const [address, room, counted = "units", ...more] = process.argv.slice(2);
 const count = Object.hasOwn(COUNTS, counted) ? COUNTS[counted] : undefined;
@@ -17,6 +19,7 @@ class Wrong extends Error {}
 
 const isPlace = (it) => Number.isInteger(it) && it >= 0;
 const isChange = (it) => Array.isArray(it) && it.length === 3 && isPlace(it[0]) && isPlace(it[1]) && typeof it[2] === "string";
+const isTime = (it) => isPlace(it) && it > 0;
 const isTrue = (it) => it === true;
 
 /** Ends the program, with a word of why. */
@@ -75,7 +78,8 @@ class Conversation {
   #undo = new Undo();
   #session;
   #hasTold = false; // that there is news, since the editor took some
-  #isAhead = false; // as it was told
+  #heard = 0; // so many changes of the editor are made or refused
+  #told = { ahead: false, heard: 0 };
   /** @type {Batch | null} */
   #batch = null; // what was read and isn't made yet
   #isClosing = false;
@@ -98,10 +102,10 @@ class Conversation {
     take: [isTrue, () => tell({ changes: this.#take() })],
     undo: [isTrue, () => this.#turn(false)],
     redo: [isTrue, () => this.#turn(true)],
-    flush: [isPlace, (number) => this.#flush(number)],
-    unsent: [isTrue, () => tell({ unsent: this.#session.unsent })],
+    flush: [isTime, (milliseconds) => this.#flush(milliseconds)],
+    unsent: [isTrue, () => tell({ unsent: this.#session.unsent, words: lacking(this.#session) })],
     text: [isTrue, () => tell({ text: (this.#take(), this.#text.text) })],
-    other: [isTrue, () => tell({ other: this.#session.other?.text ?? null })],
+    other: [isTrue, () => this.#tellOther()],
     choose: [(it) => it === "mine" || it === "theirs", (whose) => this.#choose(whose)],
     close: [isTrue, () => this.close()],
   };
@@ -147,6 +151,7 @@ class Conversation {
     if (this.#batch === null) return;
     const { changes, isMore } = this.#batch;
     this.#batch = null;
+    this.#heard += changes.length;
     this.#change(() =>
       this.#text.replace(changes, (made) => {
         this.#session.replaceAll(made);
@@ -164,7 +169,7 @@ class Conversation {
       if (!(fault instanceof Full || fault instanceof Ended)) throw fault;
       tell({ refused: fault.message });
     }
-    if (this.#session.mayBeLost !== this.#isAhead) this.#tellState();
+    if (this.#session.mayBeLost !== this.#told.ahead || this.#heard !== this.#told.heard) this.#tellState();
   }
 
   #take() {
@@ -195,16 +200,22 @@ class Conversation {
     this.#change(() => (whose === "mine" ? this.#session.putMine() : this.#session.takeTheirs()));
   }
 
-  /** Says whether the room has all that was done here until now, once that is known. */
-  #flush(number) {
-    const answer = (sent) => tell({ flushed: number, sent });
-    this.#session.sent().then(() => answer(true), () => answer(false));
+  /** Says whether the room has all that was done here until now: once that is known, in so many milliseconds at most. */
+  #flush(milliseconds) {
+    const isSent = this.#session.sent().then(() => true, () => false);
+    const isLate = pause(inTime("flush", milliseconds), false, { ref: false });
+    Promise.race([isSent, isLate]).then((sent) => tell({ flushed: milliseconds, sent }));
+  }
+
+  #tellOther() {
+    const other = this.#session.other?.text ?? null;
+    tell({ other, words: other ?? "the room has no other text" });
   }
 
   #tellState() {
-    const { state, why, mayBeLost, left } = this.#session;
-    this.#isAhead = mayBeLost;
-    if (!this.#isClosing) tell({ state, why, ahead: mayBeLost, left });
+    const { state, why, mayBeLost: ahead, left } = this.#session;
+    this.#told = { ahead, heard: this.#heard };
+    if (!this.#isClosing) tell({ state, why, ahead, left, heard: this.#heard, words: standing(this.#session) });
   }
 
   /** Does what was written before, as far as it comes in time, and closes. */
@@ -212,7 +223,7 @@ class Conversation {
     const till = Date.now() + ENDING;
     for (let lines = -1; lines !== this.#lines && Date.now() < till; ) {
       lines = this.#lines;
-      await new Promise((resolve) => setTimeout(resolve, SILENCE));
+      await pause(SILENCE);
       await new Promise(setImmediate); // what came meanwhile is read by then
     }
     await this.close();
@@ -224,9 +235,8 @@ class Conversation {
     this.#makeBatch();
     this.#isClosing = true;
     const sent = await this.#session.close({ flush: ENDING }).catch((fault) => console.error(fault));
-    const { unsent } = this.#session;
     const ends = () => process.exit(sent === true ? 0 : 1);
-    tell({ closed: true, sent: sent === true, unsent }, ends);
+    tell({ closed: true, sent: sent === true, unsent: this.#session.unsent, words: lacking(this.#session) }, ends);
     setTimeout(ends, ENDING); // where nobody reads
   }
 }
