@@ -260,12 +260,16 @@ async function flushesWhatWasBefore(server) {
 
 /** Each state tells how many changes were made or refused before, and what the user is told; so do answers that are shown. */
 async function tellsInWords(server) {
-  server.turn(roomOf("x".repeat(131_069)));
-  const editor = new Editor(server);
+  server.turn(roomOf("x".repeat(131_068)));
+  const [editor, other] = [new Editor(server), new Editor(server)];
   await editor.hears(({ news }) => news);
   await editor.take();
   const saved = "up to date; the room takes 3 more changes";
-  assert.deepEqual(await editor.comesTo("up to date"), { state: "up to date", why: "", ahead: false, left: 3, heard: 0, words: saved });
+  await editor.comesTo("up to date");
+  other.say({ replace: [0, 0, "x"] });
+  await other.closes();
+  const wanted = { state: "up to date", why: "", ahead: false, left: 3, heard: 0, words: saved };
+  assert.deepEqual(await editor.comesTo("up to date"), wanted, "what others use up is told");
   editor.say({ replace: [0, 0, "abcd"] });
   assert.equal((await editor.hears((it) => "refused" in it)).refused, "the room takes 3 more changes");
   assert.deepEqual((await editor.hears(({ heard }) => heard === 1)).words, saved);

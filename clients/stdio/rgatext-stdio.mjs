@@ -79,7 +79,7 @@ class Conversation {
   #session;
   #hasTold = false; // that there is news, since the editor took some
   #heard = 0; // so many changes of the editor are made or refused
-  #told = { ahead: false, heard: 0 };
+  #told = { ahead: false, heard: 0, words: "" };
   /** @type {Batch | null} */
   #batch = null; // what was read and isn't made yet
   #isClosing = false;
@@ -91,6 +91,7 @@ class Conversation {
       this.#undo.follow(detail);
       this.#text.follow(detail);
       this.#tellNews();
+      if (standing(session) !== this.#told.words) this.#tellState();
     });
     session.addEventListener("state", () => this.#tellState());
     this.#tellState();
@@ -214,8 +215,8 @@ class Conversation {
 
   #tellState() {
     const { state, why, mayBeLost: ahead, left } = this.#session;
-    this.#told = { ahead, heard: this.#heard };
-    if (!this.#isClosing) tell({ state, why, ahead, left, heard: this.#heard, words: standing(this.#session) });
+    this.#told = { ahead, heard: this.#heard, words: standing(this.#session) };
+    if (!this.#isClosing) tell({ state, why, ahead, left, heard: this.#heard, words: this.#told.words });
   }
 
   /** Does what was written before, as far as it comes in time, and closes. */
