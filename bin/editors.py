@@ -162,6 +162,16 @@ def tries_undo():
         same("theirs is undone", "mine ")
         mine.undo()
         same("both are", "")
+    for it in terminals:
+        it.put("one ")
+        it.put("two ")
+        same("two steps", "two one ")
+        it.undo("2")
+        same("both are undone at once", "")
+        it.redo()
+        same("one is done again", "one ")
+        it.undo_otherwise()
+        same("and undone", "")
 
 
 def tries_lines():
@@ -267,12 +277,12 @@ def tries_bytes():
 
 
 def tries_waiting():
-    """While Neovim's user selects, or sees what a command would do, others' changes wait, and nothing is sent."""
+    """While Neovim's user selects, sees what a command would do, searches, or has begun an operator, others' changes wait."""
     for it in of(Neovim):
         other = other_than(it)
         it.put("one two")
         same("a text", "one two")
-        for keys in ("ggv$", ":%s/one/three"):
+        for keys in ("ggv$", ":%s/one/three", "/two", "ggd"):
             it.keys(keys)
             other.put("> ")
             time.sleep(3)
@@ -296,6 +306,12 @@ def tries_commands():
         it.put("unsent ")
         it.show_unsent()
         until(lambda: "put in: unsent" in it.screen, "what is unsent")
+        it.save()
+        until(lambda: "have all of it: offline" in it.screen, "saving waits, and says so")
+        if isinstance(it, Neovim):
+            it.stay()
+            it.do("bdelete")
+            until(lambda: "E89" in it.screen, "it isn't left")
         server.start()
         until(lambda: room_text("left") == "unsent a\nb\n" and it.state == "up to date", "it is sent", 60)
         if isinstance(it, Neovim):
@@ -314,7 +330,9 @@ def tries_commands():
         else:
             it.do("text-mode")
             it.put("typed ")
-            until(lambda: room_text("left") == "typed unsent a\nb\n", "another major mode")
+            it.save()
+            until(lambda: "The room has it" in it.screen, "it is saved")
+            assert room_text("left") == "typed unsent a\nb\n", "another major mode"
         it.clear()
         until(lambda: room_text("left") == "", "none")
 
@@ -443,6 +461,9 @@ def tries_program_that_ends_with_unsent_text():
             it.ask_to_leave()
             until(lambda: it.refuses in it.screen, f"{it.name} asks, though the buffer says that it isn't modified")
             it.stay()
+            it.end()
+            until(lambda: it.refuses in it.screen, f"{it.name} asks before it ends")
+            it.stay()
         os.kill(program_of(it), signal.SIGTERM)
         until(lambda: it.state == "closed: its program has ended", f"{it.name} is told")
         it.show_unsent()
@@ -489,6 +510,10 @@ def tries_another_text():
             fill("another", "there")
             until(lambda: it.state.startswith("another text"), "another text", 60)
             assert it.text == "here"
+            it.show_unsent()
+            until(lambda: "the room has another text" in it.screen, "it isn't said that the room has all")
+            it.show_other()
+            until(lambda: "there" in it.screen, "the other text is shown")
             it.choose(whose)
             wanted = {"mine": "here", "theirs": "there"}[whose]
             until(lambda: it.text == wanted == room_text("another") and it.state == "up to date", f"{whose} is taken", 60)

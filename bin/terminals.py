@@ -75,8 +75,11 @@ class Neovim(Terminal):
         """Types a text at the beginning, or at the end."""
         self.keys("GA" if is_end else "gg0i", text, ["Escape"])
 
-    def undo(self):
-        self.keys("u")
+    def undo(self, times=""):
+        self.keys(f"{times}u")
+
+    def undo_otherwise(self):
+        self.keys("U")
 
     def redo(self):
         self.keys(["C-r"])
@@ -101,6 +104,12 @@ class Neovim(Terminal):
 
     def show_unsent(self):
         self.do("RgatextUnsent")
+
+    def show_other(self):
+        self.do("RgatextOther")
+
+    def save(self):
+        self.do("write")
 
     def ask_to_leave(self):
         self.do("quit")
@@ -148,8 +157,11 @@ class Emacs(Terminal):
         """Types a text at the beginning, or at the end."""
         self.keys(["M->" if is_end else "M-<"], text)
 
-    def undo(self):
-        self.keys(["C-_"])
+    def undo(self, times=""):
+        self.keys(*([["C-u"], times] if times else []), ["C-_"])
+
+    def undo_otherwise(self):
+        self.keys(["C-x"], "u")
 
     def redo(self):
         self.keys(["C-M-_"])
@@ -175,6 +187,12 @@ class Emacs(Terminal):
 
     def show_unsent(self):
         self.do("rgatext-unsent")
+
+    def show_other(self):
+        self.do("rgatext-other")
+
+    def save(self):
+        self.keys(["C-x", "C-s"])
 
     def ask_to_leave(self):
         self.keys(["C-x"], "k", ["Enter"])
