@@ -249,6 +249,9 @@ def tries_history():
     for version, text in shown.items():
         page.go(version)
         assert page.html == text, (version, page.html)
+    page.go(5)
+    assert page.copied() == "hello", page.copied()
+    until(lambda: "copied version 5" in page.told, "the text of then is copied")
     page.press("play")
     until(lambda: "version 6 of 6" in page.told, "it plays to the end")
     with tempfile.NamedTemporaryFile("w", suffix=".ops") as file:
@@ -261,6 +264,8 @@ def tries_history():
         file.flush()
         page.choose(file.name)
         until(lambda: "is no kept file" in page.told, "another file")
+    page.drop("dropped.ops", json.dumps(kept) + "\n")
+    until(lambda: "dropped.ops: version 6 of 6" in page.told, "a file that is dropped")
     wrong = ((server.port, "nowhere", "no room of this name"), (1, "past", "no server answers"), ("x", "past", "no address"))
     for port, room, told in wrong:
         page.open(port, room)

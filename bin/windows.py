@@ -291,3 +291,17 @@ class History(Window):
 
     def choose(self, name):
         self.driver.find_element(By.ID, "file").send_keys(name)
+
+    def drop(self, name, text):
+        self.run(
+            "const data = new DataTransfer(); data.items.add(new File([arguments[1]], arguments[0]));"
+            "dispatchEvent(new DragEvent('drop', { dataTransfer: data, cancelable: true }))",
+            name,
+            text,
+        )
+
+    def copied(self):
+        """What the button copies."""
+        self.driver.execute_cdp_cmd("Browser.grantPermissions", {"permissions": ["clipboardReadWrite", "clipboardSanitizedWrite"]})
+        self.press("copy")
+        return self.driver.execute_async_script("const [done] = arguments; navigator.clipboard.readText().then(done, (it) => done(`${it}`))")
