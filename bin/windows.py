@@ -304,4 +304,4 @@ class History(Window):
         """What the button copies."""
         self.driver.execute_cdp_cmd("Browser.grantPermissions", {"permissions": ["clipboardReadWrite", "clipboardSanitizedWrite"]})
         self.press("copy")
-        return self.driver.execute_async_script("const [done] = arguments; navigator.clipboard.readText().then(done, (it) => done(`${it}`))")
+        return self.driver.execute_async_script("navigator.clipboard.readText().then(arguments[0], (it) => arguments[0](`${it}`))")
