@@ -312,6 +312,10 @@ def tries_commands():
             it.stay()
             it.do("bdelete")
             until(lambda: "E89" in it.screen, "it isn't left")
+        it.save()
+        it.keys(it.gives_up, it.gives_up)
+        time.sleep(6)
+        assert it.state == "offline", f"a program that isn't late is given up: {it.state}"
         server.start()
         until(lambda: room_text("left") == "unsent a\nb\n" and it.state == "up to date", "it is sent", 60)
         if isinstance(it, Neovim):

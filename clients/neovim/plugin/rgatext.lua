@@ -57,9 +57,13 @@ end
 -- CTRL-C gives the program up.
 function Room:ask(request)
   local function is_done() return self.answer ~= nil or self.over ~= nil end
+  local late = uv.now() + (request.flush or 0) + ANSWER
   self.answer = nil
   self:send(request)
-  if not vim.wait((request.flush or 0) + ANSWER, is_done, 1, true) then
+  while not is_done() and uv.now() < late do
+    vim.wait(late - uv.now(), is_done, 1, true) -- (CTRL-C ends it, too)
+  end
+  if not is_done() then
     say("rgatext: waiting for its program; CTRL-C gives it up", "WarningMsg")
     vim.cmd("redraw")
     repeat
