@@ -8,8 +8,7 @@
 
 (require 'json)
 
-(defvar rgatext-node '("node" "--experimental-websocket" "--no-warnings")
-  "How Node is started.")
+(defvar rgatext-node '("node" "--experimental-websocket" "--no-warnings") "How Node is started.")
 
 (defconst rgatext--program
   (expand-file-name "../stdio/rgatext-stdio.mjs" (file-name-directory (or load-file-name buffer-file-name))))
@@ -54,8 +53,7 @@
   "Send a REQUEST and give its answer, or what the program told at its end.
 Nothing is typed meanwhile. Where that is late it is said, and C-g gives it up."
   (let ((late (+ (float-time) 2 (/ (or (plist-get request :flush) 0) 1000)))
-        (is-told nil)
-        (inhibit-quit t))
+        (inhibit-quit t) is-told)
     (setq rgatext--answer nil)
     (apply #'rgatext--send request)
     (while (not (or rgatext--answer rgatext--over))
