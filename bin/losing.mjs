@@ -4,7 +4,7 @@ import assert from "node:assert/strict";
 import { carried } from "../clients/js/changes.js";
 import { Undo } from "../clients/js/undo.js";
 import { Room, until } from "./room.mjs";
-import { anewRun, begin, deletedBy, end, endsAs, keptRun, renewedRun, roomOf, textOf, typedBy, Way } from "./way.mjs";
+import { anewRun, begin, deletedBy, end, endsAs, keptRun, renewedRun, roomOf, singlesOf, textOf, typedBy, Way } from "./way.mjs";
 
 /** Unrelated texts, by Melville and by Carroll: of the shorter one seven tenths of the letters stand in the longer one, in their order. */
 const WHALE =
@@ -15,6 +15,9 @@ const RABBIT =
   " into the book her sister was reading, but it had no pictures or conversations in it, and what is the use of a book, thought Alice," +
   " without pictures or conversations? So she was considering in her own mind, as well as she could, for the hot day made her feel very" +
   " sleepy and stupid, whether the pleasure of making a daisy-chain would be worth the trouble of getting up and picking the daisies.";
+
+/** 400 characters, each once. */
+const SIGNS = String.fromCodePoint(...Array.from({ length: 400 }, (_, n) => 0x400 + n));
 
 /** An editor has a text of its own in a room, and another one one behind it. */
 async function two(text, more) {
@@ -51,6 +54,23 @@ async function losesItsEnd(without) {
 async function losesItsFirstRun() {
   const ways = await two("hello ", "world");
   await goOn(new Room(1), ways, "hello world");
+}
+
+/**
+ * Nothing was kept of a run but what there was before, its site comes again, and another does the like there elsewhere: both are done.
+ * `stays`: under the same number of a session.
+ */
+async function losesARunWhoseSiteComesAgain(before, change, like, text, stays) {
+  const room = await keptRun(await roomOf(before, 0), 0, 1);
+  const way = new Way(room);
+  await way.comesTo("up to date", before);
+  way.editor.change(...change);
+  await way.comesTo("up to date");
+  const kept = await keptRun(room, (await singlesOf(room)).length - before.length, 1);
+  const { s, v } = await kept.ask({ t: "join", u: 16 });
+  for (const [at, it] of like.entries()) await kept.ask({ s, n: at + 1, v, ...it });
+  if (!stays) await kept.ask({ t: "leave", s });
+  await goOn(kept, [way], text);
 }
 
 /** What was brought from another server knows nothing of what was typed here: of the end that the log loses alone is it put in again. */
@@ -390,6 +410,9 @@ await Promise.all([
   losesItsEndBehindABridge(),
   losesItsEndWhileAThirdTypes(),
   losesItsFirstRun(),
+  losesARunWhoseSiteComesAgain("hello", [5, 0, "!"], [{ t: "ins", k: 0, x: "!" }], "!hello!", false),
+  losesARunWhoseSiteComesAgain("hello", [2, 1, ""], [{ t: "del", k: 0, c: 1 }], "elo", true),
+  losesARunWhoseSiteComesAgain(SIGNS, [0, 192, ""], [208, 272, 336].map((k) => ({ t: "del", k, c: 64 })), SIGNS.slice(192, 208), true),
   losesDeletions(),
   losesWhatWasUnderWay(4),
   losesWhatWasUnderWay(2),

@@ -60,7 +60,7 @@ class Case {
     if (!answer) return;
     this.equal(reply, { r: "ok", ...answer });
     this.equal(this.document.accept(reply.from, reply.to), true);
-    this.document.site ??= await this.log.siteOf(reply.from);
+    this.document.first ??= { from: reply.from, known: await this.log.known(reply.from, reply.to) };
     [this.number, this.submission] = [this.number + 1, null];
     this.again = await this.room.ask({ t: "ins", s: 2, n: this.number, v: 0, k: 0, x: "" });
   }
@@ -89,7 +89,7 @@ class Case {
     const shown = this.document.text;
     const go = await wayTo(this.document, new Document(x, v, await this.log.last(v)), this.log, []);
     const changes = go();
-    this.document.site = null;
+    this.document.first = null;
     this.equal(changes, step.changes);
     this.equal(played(shown, changes), this.document.text);
     this.equal(this.document.roomText, x);

@@ -62,10 +62,18 @@ export class Document {
     if (text !== "") this.#pieces.list.push(new Piece(text, "room"));
     this.version = version;
     this.memory = new Memory(version, last);
-    /** The site of the server's run, once an accepted submission has told it. @type {number | null} */
-    this.site = null;
+    /**
+     * What the log has of the first submission that was accepted in the server's run, and from which version on.
+     * @type {{from: number, known: Known[]} | null}
+     */
+    this.first = null;
     /** How many operations of each site the log had where the room was joined, as its last ones told. @type {Map<number, number>} */
     this.counts = new Map();
+  }
+
+  /** The site of the server's run, once an accepted submission has told it. */
+  get site() {
+    return this.first === null ? null : this.first.known[0].site;
   }
 
   /** The text that is shown. */
@@ -294,7 +302,8 @@ export class Document {
   }
 
   #remember(from, signs, isOwn, ways) {
-    const known = signs.map((sign) => knownAs(sign, isOwn ? this.site : null));
+    const told = (n) => (isOwn && this.first !== null ? this.first.known[from + n - this.first.from] : undefined);
+    const known = signs.map((sign, n) => told(n) ?? knownAs(sign, isOwn ? this.site : null));
     this.memory.add({ from, to: from + signs.length, known, isOwn, ways });
   }
 

@@ -42,8 +42,12 @@ function singles({ c, k, s, p, x, t }) {
   }));
 }
 
-/** Whether an operation is one that is known. */
-const isLike = (known, single) => known.sign === single.sign && (known.site === null || known.site === single.site);
+/** What is remembered of operations. @returns {Known[]} */
+const knownOf = (singles) => singles.map(({ sign, site, of }) => ({ sign, site, of }));
+
+/** Whether an operation is one of which something is known, as far as that tells. */
+const isLike = (known, single) =>
+  known.sign === single.sign && (known.site === null || known.site === single.site) && (known.of ?? single.of) === single.of;
 
 export class Log {
   #ask;
@@ -74,7 +78,15 @@ export class Log {
     const last = await this.#singles(version - max, max);
     this.counts = new Map();
     for (const [site, count] of last.flatMap(({ clock }) => clock)) this.counts.set(site, Math.max(count, this.counts.get(site) ?? 0));
-    return last.map(({ sign, site }) => ({ sign, site }));
+    return knownOf(last);
+  }
+
+  /**
+   * The operations that lead from a version to another.
+   * @returns {Promise<Known[]>}
+   */
+  async known(from, to) {
+    return knownOf(await this.#singles(from, to - from));
   }
 
   /** The site of an operation. */
@@ -88,12 +100,27 @@ export class Log {
   }
 
   /**
+   * Up to which version a log may be the one that a document knows: where it hasn't the first of its submissions, no further. That tells
+   * a run apart whose site comes again.
+   * @param {Document} document
+   */
+  async #most({ version, first }) {
+    const count = first === null ? 0 : Math.min(first.known.length, version - first.from);
+    const found = count > 0 ? await this.#singles(first.from, count) : [];
+    const another = found.findIndex((it, n) => !isLike(first.known[n], it));
+    return another < 0 ? version : first.from + another;
+  }
+
+  /**
    * Whether the log goes on from what a document knows of it.
    * @param {Document} document
    */
-  async goesOn({ version, memory }) {
+  async goesOn(document) {
+    const { version, memory, first } = document;
     const last = memory.last(version);
-    return version === 0 || (last.length > 0 && this.#isAt(version - last.length, last));
+    const start = version - last.length;
+    if (last.length === 0 || !(await this.#isAt(start, last))) return version === 0;
+    return first === null || first.from >= start || (await this.#most(document)) === version;
   }
 
   /**
@@ -101,14 +128,16 @@ export class Log {
    * its beginning is known.
    * @param {Document} document
    */
-  async upTo({ version, memory }) {
+  async upTo(document) {
+    const { version, memory } = document;
     const { joined } = memory;
+    const most = await this.#most(document);
     const { start, known } = memory.known;
     const isKnown = (at) => at <= joined || known[at - start - 1] !== undefined;
-    let kept = version;
+    let kept = most;
     for (let back = SIGNS; ; back *= 2) {
       const before = kept;
-      kept = Math.max(joined, version - back);
+      kept = Math.max(joined, most - back);
       if (!isKnown(kept)) {
         let end = kept; // of a text that was joined nothing is known but its end, which is looked at once
         while (!isKnown(end)) end += 1;

@@ -12,8 +12,9 @@ const EDITS = 32_768;
 export const SIGNS = 64;
 
 /**
- * What is known of an operation: the character that it puts in, or an empty text of a deletion; and its site, where that is known.
- * @typedef {{sign: string, site: number | null}} Known
+ * What is known of an operation: the character that it puts in, or an empty text of a deletion; its site; and the stamp of the element
+ * that it stands behind or deletes, both where they are known.
+ * @typedef {{sign: string, site: number | null, of?: string}} Known
  *
  * What took the room's text from a version to another: what was deleted at a place, each text with whether it was deleted here too, and
  * the number of the wait in which it came; and what was put in there. `known` are its last operations.

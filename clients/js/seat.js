@@ -238,7 +238,7 @@ export class Seat {
     if (reply.r === "ok" && document.accept(reply.from, reply.to)) {
       this.#last = { n: this.#underWay.n, from: reply.from, to: reply.to };
       this.#underWay = null;
-      document.site ??= await this.log.siteOf(reply.from);
+      document.first ??= { from: reply.from, known: await this.log.known(reply.from, reply.to) };
       return;
     }
     if (reply.n === 26) return pause(this.options.retry);

@@ -477,7 +477,7 @@ export class Session extends /** @type {{new (): Tells & EventTarget}} */ (Event
       return this.#tell("another text", ANOTHER);
     }
     const changes = go();
-    this.document.site = null;
+    this.document.first = null;
     this.#isServed = true;
     this.#tellChanges(changes);
     this.#goOn();
@@ -539,7 +539,7 @@ export class Session extends /** @type {{new (): Tells & EventTarget}} */ (Event
       this.document.came(this.document.version, Infinity);
       this.#tellChanges(this.document.follow(other));
       this.document.renew(other.version, other.memory.last(other.version));
-      this.document.site = other.site;
+      this.document.first = null;
       this.document.counts = other.counts;
       this.#goOn();
     } else if (this.#compared !== null) {

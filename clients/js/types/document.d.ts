@@ -8,10 +8,18 @@ export class Document {
     constructor(text?: string, version?: number, last?: Known[]);
     version: number;
     memory: Memory;
-    /** The site of the server's run, once an accepted submission has told it. @type {number | null} */
-    site: any;
+    /**
+     * What the log has of the first submission that was accepted in the server's run, and from which version on.
+     * @type {{from: number, known: Known[]} | null}
+     */
+    first: {
+        from: number;
+        known: Known[];
+    } | null;
     /** How many operations of each site the log had where the room was joined, as its last ones told. @type {Map<number, number>} */
     counts: Map<any, any>;
+    /** The site of the server's run, once an accepted submission has told it. */
+    get site(): number | null;
     /** The text that is shown. */
     get text(): string;
     /** The room's text at the document's version. */

@@ -8,19 +8,24 @@ export class Log {
      * @returns {Promise<Known[]>}
      */
     last(version: any): Promise<Known[]>;
+    /**
+     * The operations that lead from a version to another.
+     * @returns {Promise<Known[]>}
+     */
+    known(from: any, to: any): Promise<Known[]>;
     /** The site of an operation. */
     siteOf(number: any): Promise<number>;
     /**
      * Whether the log goes on from what a document knows of it.
      * @param {Document} document
      */
-    goesOn({ version, memory }: Document): Promise<any>;
+    goesOn(document: Document): Promise<boolean>;
     /**
      * Up to which version the log is the one that a document knows, and whether it surely lost what was behind that; null where not even
      * its beginning is known.
      * @param {Document} document
      */
-    upTo({ version, memory }: Document): Promise<{
+    upTo(document: Document): Promise<{
         kept: any;
         isSure: boolean;
         isBefore: true;

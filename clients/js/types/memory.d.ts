@@ -1,8 +1,9 @@
 /** So many operations tell one log from another. */
 export const SIGNS: 64;
 /**
- * What is known of an operation: the character that it puts in, or an empty text of a deletion; and its site, where that is known.
- * @typedef {{sign: string, site: number | null}} Known
+ * What is known of an operation: the character that it puts in, or an empty text of a deletion; its site; and the stamp of the element
+ * that it stands behind or deletes, both where they are known.
+ * @typedef {{sign: string, site: number | null, of?: string}} Known
  *
  * What took the room's text from a version to another: what was deleted at a place, each text with whether it was deleted here too, and
  * the number of the wait in which it came; and what was put in there. `known` are its last operations.
@@ -55,9 +56,11 @@ export class Memory {
 export type Known = {
     sign: string;
     site: number | null;
+    of?: string;
 };
 /**
- * What is known of an operation: the character that it puts in, or an empty text of a deletion; and its site, where that is known.
+ * What is known of an operation: the character that it puts in, or an empty text of a deletion; its site; and the stamp of the element
+ * that it stands behind or deletes, both where they are known.
  */
 export type Way = {
     at: number;
@@ -69,7 +72,8 @@ export type Way = {
     put: string;
 };
 /**
- * What is known of an operation: the character that it puts in, or an empty text of a deletion; and its site, where that is known.
+ * What is known of an operation: the character that it puts in, or an empty text of a deletion; its site; and the stamp of the element
+ * that it stands behind or deletes, both where they are known.
  */
 export type Entry = {
     from: number;
