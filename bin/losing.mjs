@@ -151,6 +151,25 @@ async function isRenewed(first, second, renew) {
   await goOn(renewed, ways, `<${first}-${second}`);
 }
 
+/** While a renewed room is looked at, an operation of the site that wrote it comes from elsewhere. */
+async function isRenewedWhileMoreComes() {
+  const way = await begin("hello world");
+  way.cutOff();
+  await way.comesTo("offline");
+  await typedBy(way.room, 0, "> ");
+  const renewed = await renewedRun(way.room);
+  let hasCome = false;
+  way.loses = async ({ t }) => {
+    if (t !== "put" || hasCome) return "";
+    hasCome = true;
+    const { os } = await renewed.ask({ t: "put", ops: [{ c: [[0, 14]], k: "i", s: 0, p: [13, 0], x: "!" }] });
+    assert.equal(os[0][0], "took");
+    return "";
+  };
+  await goOn(renewed, [way], "> hello world!");
+  assert.ok(hasCome, "it came in the midst");
+}
+
 /** A room is renewed twice, and what was typed between is lost by the second. */
 async function isRenewedTwice() {
   const ways = await two("one ", "two");
@@ -224,6 +243,37 @@ async function losesItsEndBehindAJoin(without) {
   const text = pasted.slice(0, 60) + pasted.slice(61) + WHALE + RABBIT;
   for (const it of [other, way]) await it.comesTo("up to date", text);
   await goOn(await keptRun(other.room, RABBIT.length + 1 + without, 3), [other, way], text);
+}
+
+/** The other one, which is away when a letter of its paste is deleted, puts the paste in again: the letter is deleted again. */
+async function deletesAgainBehindAJoin() {
+  const { pasted, other, way } = await joinedBehindAPaste(await keptRun(await roomOf(WHALE, 1)));
+  other.cutOff();
+  await other.comesTo("offline");
+  way.editor.change(60, 1, "");
+  await way.comesTo("up to date");
+  const kept = await keptRun(other.room, 71, 3);
+  way.cut(kept);
+  await way.comesTo("up to date", pasted.slice(0, 10) + WHALE);
+  await goOn(kept, [other, way], pasted.slice(0, 60) + pasted.slice(61) + WHALE);
+}
+
+/** One loses what it typed behind a room's text, and another types the same there: a caret in what was typed since the room was renewed stays. */
+async function losesWhatAnotherTypesToo() {
+  const room = await keptRun(await roomOf(WHALE, 1));
+  await typedBy(room, WHALE.length, " More was typed since.");
+  const text = `${WHALE} More was typed since.`;
+  const way = new Way(await keptRun(room, 0, 3));
+  await way.comesTo("up to date", text);
+  way.editor.change(text.length, 0, "..");
+  await way.comesTo("up to date", `${text}..`);
+  let caret = WHALE.length + 5;
+  way.editor.session.addEventListener("changes", ({ detail }) => (caret = carried(caret, detail)));
+  const kept = await keptRun(way.room, 2, 4);
+  await typedBy(kept, 0, ">");
+  await typedBy(kept, text.length + 1, "..");
+  await goOn(kept, [way], `>${text}....`);
+  assert.equal(caret, WHALE.length + 6);
 }
 
 /** A room is renewed by hand, twice, with texts of one length, and another joins between: what it typed is there once. */
@@ -426,9 +476,12 @@ await Promise.all([
   isRenewed("hello ", "world", anewRun),
   isRenewed("a", "b", anewRun),
   isRenewedEmpty(),
+  isRenewedWhileMoreComes(),
   isRenewedTwice(),
   losesItsEndBehindAJoin(30),
   losesItsEndBehindAJoin(70),
+  deletesAgainBehindAJoin(),
+  losesWhatAnotherTypesToo(),
   isRenewedToOneLength(),
   losesItsEndBehindARenewal(""),
   losesItsEndBehindARenewal("Elsewhere "),

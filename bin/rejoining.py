@@ -19,9 +19,7 @@ class Player:
     def __init__(self, case, program):
         self.case, self.program, self.lines = case, program, 0
         self.room = self.run_at(0)
-        text = whole(case["text"])
-        for at in range(0, len(text), MOST):
-            self.submits({"t": "ins", "k": at, "x": text[at : at + MOST]})
+        self.writes(whole(case["text"]))
         self.lost = None  # what is lost with the line, then whether it is
         self.is_up, self.late, self.is_accepted = True, None, False
         self.session = Session(self, tries=1)
@@ -46,6 +44,11 @@ class Player:
         self.is_accepted = self.lost == "edits" and is_submission
         return self.room(request)
 
+    def writes(self, text):
+        """Another session, into an empty room."""
+        for at in range(0, len(text), MOST):
+            self.submits({"t": "ins", "k": at, "x": text[at : at + MOST]})
+
     def submits(self, request):
         """Another session, at the newest version."""
         joined = self.room({"t": "join"})
@@ -54,14 +57,13 @@ class Player:
 
     def is_another(self, run):
         """Another run of the server."""
-        before, kept = self.room, MOST
+        before = self.room
         if run in ("renewed", "anew"):
             text = before({"t": "read"})["x"]
-            written = self.run_at(free_site(operations(before, 0, FULL)) if run == "anew" else 0)
+            self.room = self.run_at(free_site(operations(before, 0, FULL)) if run == "anew" else 0)
+            self.writes(text)
             before.close()
-            before = written
-            before({"t": "join"})
-            before({"t": "ins", "s": 1, "n": 1, "v": 0, "k": 0, "x": text})
+            before, kept = self.room, len(text)
         else:
             kept = run["kept"]
         self.room = self.run_at(free_site(operations(before, 0, kept)))

@@ -58,9 +58,12 @@ async function wayWithin(document, room, log, edits) {
     }
     return changes;
   };
-  if (lost?.isSure) return goBack(lost);
+  const mayBeNew = lost?.kept > 0 && lost.kept <= memory.joined && hasOwn(document, room.roomText);
+  if (lost?.isSure && !mayBeNew) return goBack(lost);
   const first = await log.firstText(room);
-  const isBefore = memory.joined > 0 && !(lost?.kept > 0) && isShorter(document, room, first);
+  if (lost?.isSure && first?.version < lost.kept) return goBack(lost);
+  const isOlder = memory.joined > 0 && !(lost?.kept > 0) && isShorter(document, room, first);
+  const isBefore = isOlder && !hasOwn(document, room.roomText);
   if (isBefore) return goBack({ kept: memory.joined, isBefore });
   const before = first === null ? null : textBefore(document, first.text);
   if (first?.text === document.roomText || (first?.isNew && isLike(before.text, first.text))) return () => renew(document, first, before);
@@ -69,14 +72,20 @@ async function wayWithin(document, room, log, edits) {
   return lost?.isWhole || (lost !== null && isLike(document.roomText, room.roomText)) ? goBack(lost) : null;
 }
 
-/**
- * Whether a log is the one that was joined, and lost more than is known of it: its first site has as many operations as it had there. A
- * room that is renewed by hand begins with a text of site 0, which may be as long: then another site has to have as many, too.
- */
+/** Whether a log may be the one that was joined, and have lost more than is known of it: its first site has as many operations as there. */
 function isShorter({ counts }, room, first) {
-  const same = [...counts.keys()].filter((site) => room.counts.get(site) === counts.get(site));
   const site = first?.last[0].site;
-  return same.includes(site) && (same.length > 1 || site > 0 || first.version < counts.get(site));
+  return counts.has(site) && room.counts.get(site) === counts.get(site);
+}
+
+/**
+ * Whether a text has most of what was put in here since the room was joined: then it wasn't lost, though the log begins as it did there.
+ * A room that was renewed twice may do so.
+ */
+function hasOwn({ memory, roomText }, text) {
+  const own = new Set([...memory.own(roomText.length)].flatMap(({ places }) => places));
+  const others = roomText.split("").filter((_, place) => !own.has(place)).join("");
+  return distance(others, text) > distance(roomText, text);
 }
 
 /** Takes what is under way as what the log has of it, and plays the edits. */

@@ -217,7 +217,17 @@ class Past:
         count = next((at for at, (one, other) in enumerate(zip(there, self.log)) if one != other), len(there))
         sites = {it.stamp[1] for it in self.log[:count]}
         is_renewed = any(sites == {it.stamp[1]} == {log[0].stamp[1]} for it in there[count : count + 1])  # its text goes on otherwise
-        return None if is_renewed or (count == 0 and self.log) else self.first + count
+        common, text = self.first + count, written(log)
+        if count < len(self.log) and common <= len(text):  # it may begin as the one of before
+            is_renewed = is_renewed or self.is_own_in(text, common)
+        return None if is_renewed or (count == 0 and self.log) else common
+
+    def is_own_in(self, text, version):
+        """Whether a text has most of what oneself put in behind a version."""
+        _, now = self.elements()
+        set_places(now, text)
+        own = [it.place is not None for it in now if it.is_own and version < it.put < PENDING]
+        return 2 * sum(own) > len(own)
 
     def came_at(self, log, at, request, before=None):
         """How many operations of another log, from its number `at` on, are what a request asked for in the text of now: all, or so many
