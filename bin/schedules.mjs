@@ -348,6 +348,19 @@ async function joinsUnderOneNumber(others) {
   await end(way);
 }
 
+/** The same, where the number is that of a session that is unused too, in a room whose text is another one and as long: that isn't left. */
+async function joinsBesideAnUnusedSession() {
+  const way = new Way(await roomOf("hello", 1));
+  await way.loseOnce("answer", "ops");
+  const kept = await keptRun(await roomOf("world", 1));
+  for (let n = 0; n < 2; n += 1) await kept.ask({ t: "join", u: 16 });
+  way.isUp = true;
+  way.cut(kept);
+  await way.comesTo("up to date", "world");
+  assert.equal((await kept.ask({ t: "leave", s: 2 })).r, "left"); // (that was its own number, too)
+  await end(way);
+}
+
 /** In another run a beginning of what was under way is the submission of who has the same number there: all of it comes. */
 async function isBegunByAnother() {
   const way = await begin("");
@@ -426,6 +439,7 @@ await Promise.all([
   leavesOthersAlone(),
   joinsUnderOneNumber(1),
   joinsUnderOneNumber(2),
+  joinsBesideAnUnusedSession(),
   isBegunByAnother(),
   losesJoin("join"),
   losesJoin("leave"),
