@@ -4,6 +4,7 @@ import assert from "node:assert/strict";
 import { differences } from "../clients/js/differences.js";
 import { MOST } from "../clients/js/document.js";
 import { Pace } from "../clients/js/pace.js";
+import { bindPage } from "../clients/js/page.js";
 import { Ended, played } from "../clients/js/rgatext.js";
 import { pause } from "../clients/js/seat.js";
 import { dice, Room, until } from "./room.mjs";
@@ -134,6 +135,35 @@ async function comesBackWithItsPage() {
   await endsAs(way, "hello!");
 }
 
+/**
+ * A page that ends waits for nothing. In that moment what was done first is sent, where nothing is under way, and the room is left behind
+ * it; what goes out no more is unsent.
+ */
+async function endsWithItsPage(isUnderWay) {
+  const way = await begin("hello");
+  way.delay = 100;
+  const page = new EventTarget();
+  Object.assign(globalThis, { addEventListener: page.addEventListener.bind(page), document: page });
+  bindPage(way.editor.session);
+  const [{ asked }] = way.lines;
+  const submitted = () => asked.filter((it) => it === "ins").length;
+  const before = submitted();
+  way.editor.change(5, 0, "!");
+  if (isUnderWay) await until(() => submitted() > before);
+  way.editor.change(0, 0, ">");
+  const { length } = asked;
+  page.dispatchEvent(Object.assign(new Event("pagehide"), { persisted: false }));
+  assert.deepEqual(asked.slice(length), isUnderWay ? ["leave"] : ["ins", "leave"]);
+  assert.deepEqual(way.editor.session.unsent.map(({ text }) => text), [">", "!"], "the room isn't known to have it");
+  way.isUp = false;
+  await pause(300);
+  assert.equal(await textOf(way.room), "hello!");
+  assert.equal((await way.room.ask({ t: "leave", s: 1 })).n, 5, "the session is left");
+  page.dispatchEvent(Object.assign(new Event("pageshow"), { persisted: true }));
+  way.isUp = true;
+  await endsAs(way, ">hello!");
+}
+
 /** A page that nobody looks at asks each ten seconds, and at once when somebody does. */
 async function asksRarely() {
   const way = await begin("hello");
@@ -178,7 +208,16 @@ async function typesAtTwentyCarets() {
   await end(way, other);
 }
 
-await Promise.all([comesBack(12), comesBack(13), tellsWhatIsSo(), sendsWhatIsNew(), comesBackWithItsPage(), asksRarely()]);
+await Promise.all([
+  comesBack(12),
+  comesBack(13),
+  tellsWhatIsSo(),
+  sendsWhatIsNew(),
+  comesBackWithItsPage(),
+  endsWithItsPage(true),
+  endsWithItsPage(false),
+  asksRarely(),
+]);
 await typesAtTwentyCarets();
 await hearsOfAFullRoom();
 for (const it of vectors("choosing")) await chooses(it);

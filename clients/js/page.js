@@ -166,15 +166,15 @@ class StatusBinding {
 }
 
 /**
- * Asks before text is left that may be lost, leaves the room with the page, goes on where the page comes back, and asks rarely while it is
- * hidden. Gives what unbinds it.
+ * Asks before text is left that may be lost, leaves the room with the page, which can't wait, goes on where the page comes back, and asks
+ * rarely while it is hidden. Gives what unbinds it.
  * @param {Session} session
  */
 export function bindPage(session) {
   const bound = new AbortController();
   const { signal } = bound;
   addEventListener("beforeunload", (event) => session.mayBeLost && event.preventDefault(), { signal });
-  addEventListener("pagehide", ({ persisted }) => (persisted ? session.pause() : session.close()), { signal });
+  addEventListener("pagehide", () => session.pause(), { signal });
   addEventListener("pageshow", ({ persisted }) => persisted && session.resume(), { signal });
   document.addEventListener("visibilitychange", () => (session.isHidden = document.hidden), { signal });
   return { release: () => bound.abort() };

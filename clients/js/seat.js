@@ -224,6 +224,13 @@ export class Seat {
     return this.#underWay;
   }
 
+  /** Sends what a document has to be submitted, where nothing is under way, and waits for nothing: the log tells later whether it came. */
+  submit(document) {
+    if (this.isUnanswered || this.isLeaving || !this.line.isOpen) return;
+    const request = this.submission(document);
+    if (request !== null) this.send(request).catch(() => {});
+  }
+
   /** Whether what was accepted last leads to a version, or one before. */
   hasCome(version) {
     return this.#underWay === null && version >= this.#last.to;

@@ -233,9 +233,13 @@ export class Session extends /** @type {{new (): Tells & EventTarget}} */ (Event
     this.#wake();
   }
 
-  /** Leaves the room until it is gone on with, as a page that may come back. What is done meanwhile is kept. */
+  /**
+   * Leaves the room until it is gone on with, as a page that ends or may come back: at once, behind what one submission takes of what is
+   * new, where none is under way. What is done meanwhile is kept.
+   */
   pause() {
     this.#isPaused = true;
+    if (this.#isServed && this.#other === null) this.#seat.submit(this.document);
     this.#end();
   }
 

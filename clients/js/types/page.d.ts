@@ -8,8 +8,8 @@ export function bindStatus(session: Session, place: HTMLElement, options?: {
     name?: string | undefined;
 } | undefined): StatusBinding;
 /**
- * Asks before text is left that may be lost, leaves the room with the page, goes on where the page comes back, and asks rarely while it is
- * hidden. Gives what unbinds it.
+ * Asks before text is left that may be lost, leaves the room with the page, which can't wait, goes on where the page comes back, and asks
+ * rarely while it is hidden. Gives what unbinds it.
  * @param {Session} session
  */
 export function bindPage(session: Session): {

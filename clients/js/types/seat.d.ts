@@ -68,6 +68,8 @@ export class Seat {
      * @returns {object | null}
      */
     submission(document: Document, before?: number): object | null;
+    /** Sends what a document has to be submitted, where nothing is under way, and waits for nothing: the log tells later whether it came. */
+    submit(document: any): void;
     /** Whether what was accepted last leads to a version, or one before. */
     hasCome(version: any): boolean;
     /**

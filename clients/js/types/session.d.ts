@@ -102,7 +102,10 @@ export class Session extends Session_base {
     takeTheirs(): void;
     /** Another run of the server has another text: makes it the one that is shown, unless the room changes before. */
     putMine(): void;
-    /** Leaves the room until it is gone on with, as a page that may come back. What is done meanwhile is kept. */
+    /**
+     * Leaves the room until it is gone on with, as a page that ends or may come back: at once, behind what one submission takes of what is
+     * new, where none is under way. What is done meanwhile is kept.
+     */
     pause(): void;
     /** Goes on after a pause. */
     resume(): void;
