@@ -73,6 +73,27 @@ async function losesARunWhoseSiteComesAgain(before, change, like, text, stays) {
   await goOn(kept, [way], text);
 }
 
+/**
+ * A first run is lost whole while one is away, and of the next one, at the same site, a little is kept, as another typed it. What the one
+ * had typed is put in again, and nobody is asked.
+ */
+async function losesItsFirstRunAndMore(first, little, isInOrder) {
+  const way = await begin(first);
+  way.cutOff();
+  await way.comesTo("offline");
+  const next = new Room(1);
+  way.room.close();
+  const half = little.length >> 1;
+  const [one, other] = [little.slice(0, half), little.slice(half)];
+  await typedBy(next, 0, isInOrder ? one : other);
+  await typedBy(next, isInOrder ? half : 0, isInOrder ? other : one);
+  way.room = await keptRun(next);
+  way.isUp = true;
+  await way.comesTo("up to date", first + little);
+  assert.ok(!way.states.includes("another text"), "nobody is asked");
+  await endsAs(way, first + little);
+}
+
 /** What was brought from another server knows nothing of what was typed here: of the end that the log loses alone is it put in again. */
 async function losesItsEndBehindABridge() {
   const way = await begin("hello ");
@@ -299,6 +320,36 @@ async function isRenewedEmpty() {
   await goOn(await anewRun(ways[0].room), ways, "again");
 }
 
+/** The same, where the text was joined, and what was typed since isn't there. */
+async function isAnotherDocumentThanJoined() {
+  const way = new Way(await roomOf(WHALE, 1));
+  await way.comesTo("up to date", WHALE);
+  way.editor.change(0, 0, SIGNS.slice(0, 9));
+  await way.comesTo("up to date", SIGNS.slice(0, 9) + WHALE);
+  const another = await renewedRun(await roomOf(RABBIT, 1));
+  way.cut(another);
+  await way.comesTo("another text", SIGNS.slice(0, 9) + WHALE);
+  await end(way);
+}
+
+/**
+ * A small room is renewed by hand, by the site that it had, of a text that was there some time ago, or of a later one: nothing comes twice.
+ */
+async function isRenewedAtItsBeginning(without, more) {
+  const way = await begin("x", true, 0);
+  way.editor.change(1, 0, WHALE);
+  way.editor.change(0, 1, "");
+  await way.comesTo("up to date", WHALE);
+  way.editor.change(WHALE.length, 0, RABBIT);
+  await way.comesTo("up to date", WHALE + RABBIT);
+  way.cutOff();
+  await way.comesTo("offline");
+  if (more !== "") await typedBy(way.room, 0, more);
+  way.room = await renewedRun(way.room, without);
+  way.isUp = true;
+  await endsAs(way, more + WHALE + RABBIT);
+}
+
 /** While one is away another types what one deleted, and the room is renewed: it stays, since nothing tells it from what was lost. */
 async function typesWhatWasDeleted() {
   const way = await begin("one two three");
@@ -460,6 +511,8 @@ await Promise.all([
   losesItsEndBehindABridge(),
   losesItsEndWhileAThirdTypes(),
   losesItsFirstRun(),
+  losesItsFirstRunAndMore(WHALE, " So it is.", true),
+  losesItsFirstRunAndMore(WHALE, " So it is.", false),
   losesARunWhoseSiteComesAgain("hello", [5, 0, "!"], [{ t: "ins", k: 0, x: "!" }], "!hello!", false),
   losesARunWhoseSiteComesAgain("hello", [2, 1, ""], [{ t: "del", k: 0, c: 1 }], "elo", true),
   losesARunWhoseSiteComesAgain(SIGNS, [0, 192, ""], [208, 272, 336].map((k) => ({ t: "del", k, c: 64 })), SIGNS.slice(192, 208), true),
@@ -490,6 +543,10 @@ await Promise.all([
   typesWhatWasDeleted(),
   isFarBehind(),
   isAnotherDocument(),
+  isAnotherDocumentThanJoined(),
+  isRenewedAtItsBeginning(0, ""),
+  isRenewedAtItsBeginning(RABBIT.length, ""),
+  isRenewedAtItsBeginning(0, "Oh, "),
   cameAndIsMostlyDeleted(),
   deletesWhatIsTypedAgain(),
   isPlayedInParts(0),

@@ -103,8 +103,8 @@ export async function roomOf(text, site) {
 }
 
 /** A room with a text of a session, and an editor that has it as its own or others' text. */
-export async function begin(text, isOwn = true) {
-  const room = new Room(1);
+export async function begin(text, isOwn = true, site = 1) {
+  const room = new Room(site);
   if (!isOwn && text !== "") await typedBy(room, 0, text);
   const way = new Way(room);
   await way.comesTo("up to date", isOwn ? "" : text);

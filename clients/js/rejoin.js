@@ -58,15 +58,17 @@ async function wayWithin(document, room, log, edits) {
     }
     return changes;
   };
-  const mayBeNew = lost?.kept > 0 && lost.kept <= memory.joined && hasOwn(document, room.roomText);
+  const mayBeNew = lost?.kept > 0 && lost.kept <= memory.joined && ownIn(document, room.roomText) > 0;
   if (lost?.isSure && !mayBeNew) return goBack(lost);
   const first = await log.firstText(room);
   if (lost?.isSure && first?.version < lost.kept) return goBack(lost);
   const isOlder = memory.joined > 0 && !(lost?.kept > 0) && isShorter(document, room, first);
-  const isBefore = isOlder && !hasOwn(document, room.roomText);
+  const isBefore = isOlder && ownIn(document, room.roomText) <= 0;
   if (isBefore) return goBack({ kept: memory.joined, isBefore });
   const before = first === null ? null : textBefore(document, first.text);
-  if (first?.text === document.roomText || (first?.isNew && isLike(before.text, first.text))) return () => renew(document, first, before);
+  if (first?.text === document.roomText) return () => renew(document, first, before);
+  if (lost?.kept === 0 && isAnotherRun(document, room, first, before)) return goBack(lost);
+  if (first?.isNew && isLike(before.text, first.text)) return () => renew(document, first, before);
   if (first?.isNew) return null;
   if (goesOn) return () => settle(document, found, edits);
   return lost?.isWhole || (lost !== null && isLike(document.roomText, room.roomText)) ? goBack(lost) : null;
@@ -79,13 +81,19 @@ function isShorter({ counts }, room, first) {
 }
 
 /**
- * Whether a text has most of what was put in here since the room was joined: then it wasn't lost, though the log begins as it did there.
- * A room that was renewed twice may do so.
+ * Whether a log that has nothing in common with the one that is known is that of a later run, whose site came again since nothing was kept
+ * of the first. It may begin as that of a renewed room does, of a text that was never there and has little of what was put in here.
  */
-function hasOwn({ memory, roomText }, text) {
+function isAnotherRun(document, room, first, before) {
+  if (!document.memory.sites.has(first.last[0].site)) return false;
+  return !first.isNew || (before.text !== first.text && ownIn(document, room.roomText) < 0);
+}
+
+/** How many units more a text has than it lacks of those that were put in here since the room was joined. */
+function ownIn({ memory, roomText }, text) {
   const own = new Set([...memory.own(roomText.length)].flatMap(({ places }) => places));
   const others = roomText.split("").filter((_, place) => !own.has(place)).join("");
-  return distance(others, text) > distance(roomText, text);
+  return distance(others, text) - distance(roomText, text);
 }
 
 /** Takes what is under way as what the log has of it, and plays the edits. */
