@@ -320,7 +320,16 @@ async function isRenewedEmpty() {
   await goOn(await anewRun(ways[0].room), ways, "again");
 }
 
-/** The same, where the text was joined, and what was typed since isn't there. */
+/** In place of a room that was joined there is an empty one: the user is asked. */
+async function isEmptied() {
+  const way = new Way(await roomOf(WHALE, 1));
+  await way.comesTo("up to date", WHALE);
+  way.cut(new Room(2));
+  await way.comesTo("another text", WHALE);
+  await end(way);
+}
+
+/** In place of a room whose text was joined there is another document, and what was typed since isn't there: the user is asked. */
 async function isAnotherDocumentThanJoined() {
   const way = new Way(await roomOf(WHALE, 1));
   await way.comesTo("up to date", WHALE);
@@ -544,6 +553,7 @@ await Promise.all([
   isFarBehind(),
   isAnotherDocument(),
   isAnotherDocumentThanJoined(),
+  isEmptied(),
   isRenewedAtItsBeginning(0, ""),
   isRenewedAtItsBeginning(RABBIT.length, ""),
   isRenewedAtItsBeginning(0, "Oh, "),
