@@ -5,7 +5,7 @@ import { differences } from "../clients/js/differences.js";
 import { MOST } from "../clients/js/document.js";
 import { Pace } from "../clients/js/pace.js";
 import { bindPage } from "../clients/js/page.js";
-import { Ended, played } from "../clients/js/rgatext.js";
+import { Ended, played, Session } from "../clients/js/rgatext.js";
 import { pause } from "../clients/js/seat.js";
 import { dice, Room, until } from "./room.mjs";
 import { vectors, whole } from "./vectors.mjs";
@@ -132,7 +132,12 @@ async function comesBackWithItsPage() {
   assert.equal((await way.room.ask({ t: "leave", s: 1 })).n, 5, "the session is left");
   way.editor.change(5, 0, "!");
   way.editor.session.resume();
-  await endsAs(way, "hello!");
+  await way.comesTo("up to date", "hello!");
+  way.editor.change(6, 0, "?");
+  way.cut();
+  way.editor.session.pause(); // on a line that is gone
+  way.editor.session.resume();
+  await endsAs(way, "hello!?");
 }
 
 /**
@@ -162,6 +167,22 @@ async function endsWithItsPage(isUnderWay) {
   page.dispatchEvent(Object.assign(new Event("pageshow"), { persisted: true }));
   way.isUp = true;
   await endsAs(way, ">hello!");
+}
+
+/** A page that is left sends nothing where no line is there yet, nor to another text while the user is to choose. */
+async function leavesWithNothing() {
+  const early = new Session(() => new Promise(() => {}));
+  early.insert(0, "x");
+  early.pause();
+  await early.close();
+  const way = await begin("hello");
+  way.cut(await roomOf("world", 2));
+  await way.comesTo("another text", "hello");
+  way.editor.change(5, 0, "!");
+  way.editor.session.pause();
+  await pause(100);
+  assert.equal(await textOf(way.room), "world");
+  await end(way);
 }
 
 /** A page that nobody looks at asks each ten seconds, and at once when somebody does. */
@@ -216,6 +237,7 @@ await Promise.all([
   comesBackWithItsPage(),
   endsWithItsPage(true),
   endsWithItsPage(false),
+  leavesWithNothing(),
   asksRarely(),
 ]);
 await typesAtTwentyCarets();

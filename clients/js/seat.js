@@ -226,7 +226,7 @@ export class Seat {
 
   /** Sends what a document has to be submitted, where nothing is under way, and waits for nothing: the log tells later whether it came. */
   submit(document) {
-    if (this.isUnanswered || this.isLeaving || !this.line.isOpen) return;
+    if (this.isUnanswered || !this.line.isOpen) return;
     const request = this.submission(document);
     if (request !== null) this.send(request).catch(() => {});
   }
