@@ -291,22 +291,31 @@ def written(page, language):
 
 
 def tries_walk():
-    """What the pages of the clients tell an author to write: a text area in ten lines, a script that sends and ends, and a chat."""
+    """What README and the pages of the clients tell an author to write: a text area in ten lines, a script that sends and ends, and a
+    chat."""
     with tempfile.TemporaryDirectory() as folder:
-        module = pathlib.Path(shutil.copytree(f"{top}/clients/js", f"{folder}/module"))
+        module = pathlib.Path(shutil.copytree(f"{top}/clients/js", f"{folder}/clients/js"))
+        (pathlib.Path(folder) / "index.html").write_text(written("README.md", "html"), encoding="utf-8")
         (module / "index.html").write_text(written("clients/js/README.md", "html"), encoding="utf-8")
         (module / "script.mjs").write_text(written("clients/js/README.md", "js"), encoding="utf-8")
         (module / "chat.py").write_text(written("clients/python/README.md", "python"), encoding="utf-8")
-        window = Walk(serve_pages(folder, Bare), server.port)
+        pages = serve_pages(folder, Bare)
+        window = Walk(f"{pages}/clients/js", server.port)
         until(lambda: window.told == "walk: saved", "the page's example")
         window.type("from the page\n")
         until(lambda: window.state == "up to date", "it is sent")
+        front = Walk(pages, server.port)
+        until(lambda: front.text == "from the page\n", "what README tells to write has the text")
+        front.type("from README\n")
+        until(lambda: front.run("return document.getElementById('status').textContent") == "up to date", "its line is sent")
+        until(lambda: window.text == "from the page\nfrom README\n", "its line")
+        front.quit()
         said = window.run("const { width, height } = document.querySelector('.said').getBoundingClientRect(); return [width, height]")
         assert said == [1, 1], f"what is read out isn't seen, without a style of the page: {said}"
         node = ["node", *(["--experimental-websocket"] if NODE < 22 else []), str(module / "script.mjs")]
         done = subprocess.run(node, capture_output=True, text=True, timeout=20)
         assert (done.returncode, done.stderr) == (0, "") or "ExperimentalWarning" in done.stderr, done
-        until(lambda: window.text == "from the page\none more line\n", "the script's line")
+        until(lambda: window.text == "from the page\nfrom README\none more line\n", "the script's line")
         chat = [sys.executable, "-B", str(module / "chat.py"), f"ws://127.0.0.1:{server.port}", "walk"]
         environment = {**os.environ, "PYTHONPATH": f"{top}/clients/python"}
         pipes = {"stdin": subprocess.PIPE, "stdout": subprocess.PIPE, "text": True, "env": environment}
@@ -316,7 +325,7 @@ def tries_walk():
         until(lambda: window.text.endswith("line\nhello\n"), "the chat's line")
         time.sleep(1.5)
         told = [it.communicate()[0] for it in chats]
-        assert told == ["from the page\none more line\nhello\n"] * 2 and all(it.returncode == 0 for it in chats), told
+        assert told == ["from the page\nfrom README\none more line\nhello\n"] * 2 and all(it.returncode == 0 for it in chats), told
         window.quit()
 
 

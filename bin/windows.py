@@ -244,10 +244,10 @@ class Mirror(Window):
 
 
 class Walk(Window):
-    """A window with the page of a folder `module`."""
+    """A window with the page of a folder."""
 
     def open(self, port, room):
-        self.driver.get(f"{self.pages}/module/")
+        self.driver.get(f"{self.pages}/")
 
 
 class History(Window):
