@@ -67,7 +67,7 @@ async function wayWithin(document, room, log, edits) {
   if (isBefore) return goBack({ kept: memory.joined, isBefore });
   const before = first === null ? null : textBefore(document, first.text);
   if (first?.text === document.roomText) return () => renew(document, first, before);
-  if (lost?.kept === 0 && isAnotherRun(document, room, first, before)) return goBack(lost);
+  if (lost?.kept === 0 && isOfKnownSite(document, room, first, before)) return goBack(lost);
   if (first?.isNew && isLike(before.text, first.text)) return () => renew(document, first, before);
   if (first?.isNew) return null;
   if (goesOn) return () => settle(document, found, edits);
@@ -81,10 +81,10 @@ function isShorter({ counts }, room, first) {
 }
 
 /**
- * Whether a log that has nothing in common with the one that is known is that of a later run, whose site came again since nothing was kept
- * of the first. It may begin as that of a renewed room does, of a text that was never there and has little of what was put in here.
+ * Whether a log that has nothing in common with what is known is of a site that is: of the run that is known, which lost more than that, or
+ * of a later one, whose site came again. It may begin as a renewed room's does, of a text that was never there, with little of one's own.
  */
-function isAnotherRun(document, room, first, before) {
+function isOfKnownSite(document, room, first, before) {
   if (!document.memory.sites.has(first.last[0].site)) return false;
   return !first.isNew || (before.text !== first.text && ownIn(document, room.roomText) < 0);
 }
