@@ -563,14 +563,17 @@ editors, windows, terminals = [], [], []
 server = Server("notes", "page", "many", "full", "left", "ended", "another")
 try:
     for kind in (Neovim, Emacs):
-        if kind.__name__.lower() in KINDS:
-            terminals += [kind(work, f"{kind.__name__}{n}", server.port) for n in (1, 2)]
+        for n in (1, 2) if kind.__name__.lower() in KINDS else ():
+            terminals.append(kind(work, f"{kind.__name__}{n}", server.port))
+            editors.append(terminals[-1])
+            # (two Emacs that start at once may rename what is compiled away from each other)
+            until(lambda: terminals[-1].state.startswith("up to date"), "it has joined", 60)
     if "codemirror" in KINDS:
         from windows import Mirror, serve_pages
 
         windows.append(Mirror(serve_pages(TOP), server.port))
         windows[0].name = "a window"
-    editors = [*terminals, *windows]
+    editors += windows
     until(lambda: all(it.state.startswith("up to date") for it in editors), "all have joined", 60)
     cases = (tries_page, tries_typing, tries_undo, tries_lines, tries_wide, tries_bytes, tries_many_places, tries_random_typing)
     cases += (tries_waiting, tries_full_room, tries_leaving, tries_commands, tries_server_that_ends)
