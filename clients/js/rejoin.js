@@ -67,7 +67,7 @@ async function wayWithin(document, room, log, edits) {
   if (isBefore) return goBack({ kept: memory.joined, isBefore });
   const before = first === null ? null : textBefore(document, first.text);
   if (first?.text === document.roomText) return () => renew(document, first, before);
-  if (lost?.kept === 0 && isOfKnownSite(document, room, first, before)) return goBack(lost);
+  if (lost?.kept === 0 && first !== null && isOfKnownSite(document, room, first, before)) return goBack(lost);
   if (first?.isNew && isLike(before.text, first.text)) return () => renew(document, first, before);
   if (first?.isNew) return null;
   if (goesOn) return () => settle(document, found, edits);
