@@ -11,7 +11,7 @@ import struct
 import sys
 import time
 
-sys.path.insert(0, str(pathlib.Path(__file__).resolve().parent.parent / "bin"))
+sys.path.insert(0, str(pathlib.Path(__file__).resolve().parent.parent / "tests" / "lib"))
 from serving import handshake
 
 PORT, COUNT, CLIENTS, FLIGHT = map(int, [*sys.argv[1:], 64][:4])

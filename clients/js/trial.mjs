@@ -6,7 +6,7 @@ import { promisify } from "node:util";
 import { MemoryRoom } from "./memory_room.js";
 import { Ended, Full, GivenUp, Lost, open, played, Refused, Session } from "./rgatext.js";
 import { bindTextarea } from "./textarea.js";
-import { dice } from "../../bin/room.mjs";
+import { dice } from "../../tests/lib/room.mjs";
 
 const pause = (milliseconds) => new Promise((resolve) => setTimeout(resolve, milliseconds));
 

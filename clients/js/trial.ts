@@ -1,4 +1,4 @@
-// What bin/try_types has checked by the module's declarations: a program as README.md tells how to write one.
+// What tests/try_types has checked by the module's declarations: a program as README.md tells how to write one.
 import { Change, Ended, Full, GivenUp, open, Refused, Session } from "./rgatext.js";
 import { bindCodeMirror } from "./codemirror.js";
 import { Connection } from "./connection.js";
