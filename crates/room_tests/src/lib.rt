@@ -11,6 +11,8 @@ mod followed;
 #[cfg(test)]
 mod forged;
 #[cfg(test)]
+mod long_texts;
+#[cfg(test)]
 mod operations;
 #[cfg(test)]
 mod replicas;

@@ -11,4 +11,6 @@ mod looks;
 #[cfg(test)]
 mod memory;
 #[cfg(test)]
+mod refusals;
+#[cfg(test)]
 mod streams;

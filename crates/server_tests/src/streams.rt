@@ -101,7 +101,7 @@ impl Write for Script<'_> {
 }
 
 // Whether a message has this answer.
-fn asks<R: Wait>(
+pub(crate) fn asks<R: Wait>(
     rt: &R,
     alloc: Global,
     hall: &Hall,
