@@ -7,7 +7,11 @@
 const ROOM = 1_024;
 
 /** The units of a text, as a list takes them. */
-export const unitsOf = (text) => Int32Array.from({ length: text.length }, (_, n) => text.charCodeAt(n));
+export function unitsOf(text) {
+  const units = new Int32Array(text.length);
+  for (let n = 0; n < text.length; n += 1) units[n] = text.charCodeAt(n);
+  return units;
+}
 
 export class Gap {
   #numbers;

@@ -134,7 +134,7 @@ export class Memory {
       const places = [];
       for (const { at, taken, put } of [...ways].reverse()) {
         const old = taken.reduce((sum, it) => sum + it.text.length, 0);
-        places.push(...now.replace(at, put.length, new Int32Array(old).fill(-1)).filter((place) => place >= 0));
+        for (const place of now.replace(at, put.length, new Int32Array(old).fill(-1))) if (place >= 0) places.push(place);
       }
       if (isOwn && places.length > 0) yield { length, places };
     }

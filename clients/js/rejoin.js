@@ -91,9 +91,20 @@ function isOfKnownSite(document, room, first, before) {
 
 /** How many units more a text has than it lacks of those that were put in here since the room was joined. */
 function ownIn({ memory, roomText }, text) {
-  const own = new Set([...memory.own(roomText.length)].flatMap(({ places }) => places));
-  const others = roomText.split("").filter((_, place) => !own.has(place)).join("");
+  const others = without(roomText, memory.own(roomText.length));
   return distance(others, text) - distance(roomText, text);
+}
+
+/** A text without what some entries put in. */
+function without(text, entries) {
+  const isGone = new Uint8Array(text.length);
+  for (const { places } of entries) for (const place of places) isGone[place] = 1;
+  let left = "";
+  for (let [start, end] = [0, 0]; start < text.length; start = end) {
+    while (end < text.length && isGone[end] === isGone[start]) end += 1;
+    if (isGone[start] === 0) left += text.slice(start, end);
+  }
+  return left;
 }
 
 /** Takes what is under way as what the log has of it, and plays the edits. */
@@ -144,10 +155,7 @@ function textBefore(document, wanted) {
   if (hasCome(document, wanted)) return { length: memory.length, text: roomText, hasCome: true };
   const away = distance(roomText, wanted);
   const own = [...memory.own(roomText.length)];
-  const upTo = (entry) => {
-    const places = new Set(own.slice(0, entry).flatMap((it) => it.places));
-    return roomText.split("").filter((_, place) => !places.has(place)).join("");
-  };
+  const upTo = (entry) => without(roomText, own.slice(0, entry));
   const isMissing = (entry) => {
     const text = upTo(entry);
     return distance(text, wanted) + roomText.length - text.length <= away;

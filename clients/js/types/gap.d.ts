@@ -1,3 +1,4 @@
+/** The units of a text, as a list takes them. */
 export function unitsOf(text: any): Int32Array;
 export class Gap {
     /** @param {Int32Array} numbers */
