@@ -1,5 +1,5 @@
 //! Lines that lack memory, each served by an engine of its own over one desk. This test passes whatever allocation is refused:
-//! `bin/refused_memory` refuses each of them in turn.
+//! `tests/refused_memory` refuses each of them in turn.
 use crate::desks::desk_of;
 use line_engine::{Counted, ServeFault, serve_lines};
 use opid::Site;

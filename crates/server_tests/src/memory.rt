@@ -1,4 +1,4 @@
-//! A connection that lacks memory. This test passes whatever allocation is refused: `bin/refused_memory` refuses each of them in turn.
+//! A connection that lacks memory. This test passes whatever allocation is refused: `tests/refused_memory` refuses each of them in turn.
 use crate::halls::{Free, hall_of};
 use crate::streams::{CLOSE, HEAD, OPEN, Record, serve_script};
 use std::alloc::Global;
