@@ -63,30 +63,34 @@ async function wayWithin(document, room, log, edits) {
   const first = await log.firstText(room);
   if (lost?.isSure && first?.version < lost.kept) return goBack(lost);
   const isOlder = memory.joined > 0 && !(lost?.kept > 0) && isShorter(document, room, first);
-  const isBefore = isOlder && ownIn(document, room.roomText) <= 0;
-  if (isBefore) return goBack({ kept: memory.joined, isBefore });
   const before = first === null ? null : textBefore(document, first.text);
   if (first?.text === document.roomText) return () => renew(document, first, before);
-  if (lost?.kept === 0 && first !== null && isOfKnownSite(document, room, first, before)) return goBack(lost);
+  const isBefore = isOlder && ownIn(document, room.roomText) <= 0;
+  if (isBefore) return goBack({ kept: memory.joined, isBefore });
+  if (memory.joined === 0 && lost?.kept === 0 && isOfKnownSite(document, first)) return goBack(lost);
   if (first?.isNew && isLike(before.text, first.text)) return () => renew(document, first, before);
   if (first?.isNew) return null;
   if (goesOn) return () => settle(document, found, edits);
   return lost?.isWhole || (lost !== null && isLike(document.roomText, room.roomText)) ? goBack(lost) : null;
 }
 
-/** Whether a log may be the one that was joined, and have lost more than is known of it: its first site has as many operations as there. */
+/**
+ * Whether a log may be the one that was joined, and have lost more than is known of it: its first site has as many operations as it had
+ * there. A room that is renewed by hand begins with a text of site 0, which may be as long: then another site has to have as many, too.
+ */
 function isShorter({ counts }, room, first) {
+  const same = [...counts.keys()].filter((site) => room.counts.get(site) === counts.get(site));
   const site = first?.last[0].site;
-  return counts.has(site) && room.counts.get(site) === counts.get(site);
+  return same.includes(site) && (same.length > 1 || site > 0 || first.version < counts.get(site));
 }
 
 /**
  * Whether a log that has nothing in common with what is known is of a site that is: of the run that is known, which lost more than that, or
- * of a later one, whose site came again. It may begin as a renewed room's does, of a text that was never there, with little of one's own.
+ * of a later one, whose site came again. It may begin as a renewed room's does, of a text that was never there: with nothing of the known.
  */
-function isOfKnownSite(document, room, first, before) {
-  if (!document.memory.sites.has(first.last[0].site)) return false;
-  return !first.isNew || (before.text !== first.text && ownIn(document, room.roomText) < 0);
+function isOfKnownSite({ memory, roomText }, first) {
+  if (first === null || !memory.sites.has(first.last[0].site)) return false;
+  return !first.isNew || (roomText.length >= SHORT && inCommon(roomText, first.text) === 0);
 }
 
 /** How many units more a text has than it lacks of those that were put in here since the room was joined. */

@@ -456,13 +456,14 @@ def tries_kept_run():
 
 
 def tries_renewed_run():
-    """A room begins anew while a text area and CodeMirror type in it, and another window reads: all go on, carets and undoing too."""
+    """A room begins anew while a text area and CodeMirror type in it, and another window reads: all go on, carets and undoing too. (It gains
+    an operation by that, since a letter was deleted.)"""
     with tempfile.TemporaryDirectory() as folder:
         kept = Server(PROGRAM, "--renew", "notes", folder=folder)
         both = [Window(PAGES, kept.port), Mirror(PAGES, kept.port, "notes")]
         reader = Mirror(PAGES, kept.port, "notes")
         all_show = lambda text: all(it.text == text and it.state == "up to date" for it in (*both, reader))
-        both[0].type("one three")
+        both[0].type("one three.", Keys.BACKSPACE)
         until(lambda: all_show("one three"), "before the room is renewed")
         both[1].select(4, 4)
         both[1].type("two ")

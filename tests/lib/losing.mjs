@@ -309,6 +309,39 @@ async function isRenewedToOneLength() {
   await goOn(await renewedRun(other.room), [other, way], `${WHALE.slice(1)}!`);
 }
 
+/** A room is renewed to the length that it had when it was joined, where one deleted one of two letters alike: no other goes. */
+async function isRenewedWithALetterLess(isPulled) {
+  const text = `XX${WHALE}`;
+  const way = new Way(await renewedRun(await roomOf(text, 1)));
+  await way.comesTo("up to date", text);
+  way.editor.change(0, 1, "");
+  await way.comesTo("up to date", text.slice(1));
+  if (isPulled) await typedBy(way.room, text.length - 1, "!");
+  if (isPulled) await way.comesTo("up to date", `${text.slice(1)}!`);
+  way.cutOff();
+  await way.comesTo("offline");
+  if (!isPulled) await typedBy(way.room, text.length - 1, "!");
+  way.room = await renewedRun(way.room);
+  way.isUp = true;
+  await endsAs(way, `${text.slice(1)}!`);
+}
+
+/** A kill loses what one typed, another types in front, and the room is renewed, all while one is away: it comes again, at its place. */
+async function isRenewedBehindALoss(renew) {
+  const way = new Way(await roomOf(WHALE, 0));
+  await way.comesTo("up to date", WHALE);
+  const own = " My end of the text.";
+  way.editor.change(WHALE.length, 0, own);
+  await way.comesTo("up to date", WHALE + own);
+  way.cutOff();
+  await way.comesTo("offline");
+  way.room = await keptRun(way.room, own.length);
+  await typedBy(way.room, 0, "> ");
+  way.room = await renew(way.room);
+  way.isUp = true;
+  await endsAs(way, `> ${WHALE}${own}`);
+}
+
 /** A room without text is renewed, which leaves it no log: what was deleted stays away. */
 async function isRenewedEmpty() {
   const ways = await two("hello ", "world");
@@ -545,6 +578,10 @@ await Promise.all([
   deletesAgainBehindAJoin(),
   losesWhatAnotherTypesToo(),
   isRenewedToOneLength(),
+  isRenewedWithALetterLess(true),
+  isRenewedWithALetterLess(false),
+  isRenewedBehindALoss(renewedRun),
+  isRenewedBehindALoss(async (room) => anewRun(await anewRun(room))),
   losesItsEndBehindARenewal(""),
   losesItsEndBehindARenewal("Elsewhere "),
   isRenewedTwiceWhileAway(WHALE.length),
