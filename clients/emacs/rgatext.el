@@ -49,9 +49,18 @@
          (rgatext--give-up))
         (t (setq rgatext--answer told))))
 
+(defun rgatext--room ()
+  "The buffer of the room: that which an indirect one is made of."
+  (or (buffer-base-buffer) (current-buffer)))
+
 (defun rgatext--ask (&rest request)
   "Send a REQUEST and give its answer, or what the program told at its end.
 Nothing is typed meanwhile. Where that is late it is said, and C-g gives it up."
+  (unless rgatext--process (user-error "This is no room"))
+  (with-current-buffer (rgatext--room) (apply #'rgatext--ask-here request)))
+
+(defun rgatext--ask-here (&rest request)
+  "The same for a REQUEST of the current buffer's room."
   (let ((late (+ (float-time) 2 (/ (or (plist-get request :flush) 0) 1000)))
         (inhibit-quit t) is-told)
     (setq rgatext--answer nil)
@@ -75,21 +84,23 @@ Nothing is typed meanwhile. Where that is late it is said, and C-g gives it up."
   "Tell what was put in from BEG to END, for so many REMOVED characters.
 What is no character of a text becomes U+FFFD."
   (unless rgatext--is-playing
-    (setq rgatext--sent (1+ rgatext--sent))
-    (save-match-data
-      (save-excursion
-        (save-restriction
-          (widen)
-          (goto-char beg)
-          (while (re-search-forward "[^\0-\ud7ff\ue000-\U0010ffff]" end t)
-            (replace-match "\ufffd" t t))
-          (let ((change (vector (1- beg) removed (buffer-substring-no-properties beg end))))
-            (rgatext--send :replace change :more (or rgatext--is-more :false))))))
-    (setq rgatext--is-more t)))
+    (let ((inhibit-quit t)) ; Emacs takes a hook away that a quit ends
+      (with-current-buffer (rgatext--room)
+        (setq rgatext--sent (1+ rgatext--sent))
+        (save-match-data
+          (save-excursion
+            (save-restriction
+              (widen)
+              (goto-char beg)
+              (while (re-search-forward "[^\0-\ud7ff\ue000-\U0010ffff]" end t)
+                (replace-match "\ufffd" t t))
+              (let ((change (vector (1- beg) removed (buffer-substring-no-properties beg end))))
+                (rgatext--send :replace change :more (or rgatext--is-more :false))))))
+        (setq rgatext--is-more t)))))
 
 (defun rgatext--command-ends ()
   "What is changed next isn't of the same command."
-  (setq rgatext--is-more nil))
+  (with-current-buffer (rgatext--room) (setq rgatext--is-more nil)))
 
 (defun rgatext--play (key buffer)
   "Make the changes that a request by a KEY brings to a room's BUFFER.
@@ -170,7 +181,7 @@ Point and markers stay where they are in the text. Gives the answer."
 
 (defun rgatext--may-leave ()
   "Whether the room has all, or the user leaves it all the same."
-  (or (null rgatext--process) (rgatext--has-all 2) (yes-or-no-p (format "Some text of %s isn't in the room. Leave it? " (buffer-name)))))
+  (or (null rgatext--process) (buffer-base-buffer) (rgatext--has-all 2) (yes-or-no-p (format "Some text of %s isn't in the room. Leave it? " (buffer-name)))))
 
 (defun rgatext--may-leave-all ()
   "Whether Emacs may end."
