@@ -67,8 +67,10 @@ async function wayWithin(document, room, log, edits) {
   if (first?.text === document.roomText) return () => renew(document, first, before);
   const isBefore = isOlder && ownIn(document, room.roomText) <= 0;
   if (isBefore) return goBack({ kept: memory.joined, isBefore });
-  if (memory.joined === 0 && lost?.kept === 0 && isOfKnownSite(document, first)) return goBack(lost);
+  const isAgain = lost?.kept === 0 && first !== null && memory.sites.has(first.last[0].site);
+  if (isAgain && memory.joined === 0 && isOfOther(document, first)) return goBack(lost);
   if (first?.isNew && isLike(before.text, first.text)) return () => renew(document, first, before);
+  if (isAgain) return goBack(memory.joined > 0 ? { kept: memory.joined, isBefore: true } : lost);
   if (first?.isNew) return null;
   if (goesOn) return () => settle(document, found, edits);
   return lost?.isWhole || (lost !== null && isLike(document.roomText, room.roomText)) ? goBack(lost) : null;
@@ -85,11 +87,11 @@ function isShorter({ counts }, room, first) {
 }
 
 /**
- * Whether a log that has nothing in common with what is known is of a site that is: of the run that is known, which lost more than that, or
- * of a later one, whose site came again. It may begin as a renewed room's does, of a text that was never there: with nothing of the known.
+ * Whether a log of a site that is known, which has nothing in common with what is known, is of the run that is known, which lost more than
+ * that, or of a later one, whose site came again. It may begin as a renewed room's does, of a text that was never there: with nothing of
+ * the known.
  */
-function isOfKnownSite({ memory, roomText }, first) {
-  if (first === null || !memory.sites.has(first.last[0].site)) return false;
+function isOfOther({ roomText }, first) {
   return !first.isNew || (roomText.length >= SHORT && inCommon(roomText, first.text) === 0);
 }
 
