@@ -23,66 +23,12 @@ with_name name = find (λ r. bytes_eq (name_of r) name) refusals
 found_by_number : (r : Refusal) → with_number (number_of r) ≡ Some r
 unfolding with_number refusals
 found_by_number BadJson = refl
-found_by_number BadField = refl
-found_by_number UnknownKind = refl
-found_by_number NoRoom = refl
-found_by_number NoSession = refl
-found_by_number TooManySessions = refl
-found_by_number BadNumber = refl
-found_by_number BadVersion = refl
-found_by_number BadPlace = refl
-found_by_number BadText = refl
-found_by_number BadCount = refl
-found_by_number Full = refl
-found_by_number HistoryFull = refl
-found_by_number BadSite = refl
-found_by_number BadClock = refl
-found_by_number OwnSite = refl
-found_by_number Conflict = refl
-found_by_number HoldFull = refl
-found_by_number NotRising = refl
-found_by_number UnknownElement = refl
-found_by_number NotOlder = refl
-found_by_number BadHave = refl
-found_by_number BadRange = refl
-found_by_number Busy = refl
-found_by_number Worn = refl
-found_by_number Memory = refl
-found_by_number SiteUsed = refl
-found_by_number BadSnapshot = refl
-found_by_number TooLong = refl
+found_by_number other = refl
 
 found_by_name : (r : Refusal) → with_name (name_of r) ≡ Some r
 unfolding with_name refusals
 found_by_name BadJson = refl
-found_by_name BadField = refl
-found_by_name UnknownKind = refl
-found_by_name NoRoom = refl
-found_by_name NoSession = refl
-found_by_name TooManySessions = refl
-found_by_name BadNumber = refl
-found_by_name BadVersion = refl
-found_by_name BadPlace = refl
-found_by_name BadText = refl
-found_by_name BadCount = refl
-found_by_name Full = refl
-found_by_name HistoryFull = refl
-found_by_name BadSite = refl
-found_by_name BadClock = refl
-found_by_name OwnSite = refl
-found_by_name Conflict = refl
-found_by_name HoldFull = refl
-found_by_name NotRising = refl
-found_by_name UnknownElement = refl
-found_by_name NotOlder = refl
-found_by_name BadHave = refl
-found_by_name BadRange = refl
-found_by_name Busy = refl
-found_by_name Worn = refl
-found_by_name Memory = refl
-found_by_name SiteUsed = refl
-found_by_name BadSnapshot = refl
-found_by_name TooLong = refl
+found_by_name other = refl
 
 same_found : (a b : Refusal) → Some a ≡ Some b → a ≡ b
 same_found a b h = cc

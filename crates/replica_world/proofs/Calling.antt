@@ -9,7 +9,7 @@ use Rattle.opid.proofs.Orders.{Among, Each-at, Among-append, Among-append_left, 
 use Rattle.opid.proofs.Orders.{Contains-from_Among}
 use Rattle.holdback.specs.First.{NoneReady}
 use Rattle.room_calls.specs.declared.call.Call.{Call}
-use Rattle.room_calls.specs.declared.call.Call.TheVariants.{Join, Ins, Del, Pull, Leave, Ops, Put, Read}
+use Rattle.room_calls.specs.declared.call.Call.TheVariants.{Put}
 use Rattle.room.specs.Machine.{State, may_record, next}
 use Rattle.room.specs.History.{Account, mark, called}
 use Rattle.room.proofs.Histories.{consistent_called}
@@ -27,14 +27,8 @@ drop-front [] (y ∷ ys) = refl
 drop-front (x ∷ xs) ys = drop-front xs ys
 
 received_own : (S : State) (c : Call) → puts c ≡ None → (m : Makes S (next S c)) → received S c ≡ m.made
-received_own S (Join units) p m = ap (drop (length S.log)) m.log_is ∙ drop-front S.log m.made
-received_own S (Ins s n v k x) p m = ap (drop (length S.log)) m.log_is ∙ drop-front S.log m.made
-received_own S (Del s n v k c) p m = ap (drop (length S.log)) m.log_is ∙ drop-front S.log m.made
-received_own S (Pull s have most) p m = ap (drop (length S.log)) m.log_is ∙ drop-front S.log m.made
-received_own S (Leave s) p m = ap (drop (length S.log)) m.log_is ∙ drop-front S.log m.made
-received_own S (Ops start most) p m = ap (drop (length S.log)) m.log_is ∙ drop-front S.log m.made
 received_own S (Put ops) p m = cc
-received_own S Read p m = ap (drop (length S.log)) m.log_is ∙ drop-front S.log m.made
+received_own S other p m = ap (drop (length S.log)) m.log_is ∙ drop-front S.log m.made
 
 -- more is received, and stands behind the log
 received_more : (log held ops more : List Operation) → IsReceived log held ops → IsReceived (log ++ more) held (ops ++ more)

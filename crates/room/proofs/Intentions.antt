@@ -22,7 +22,7 @@ use Rattle.session_outbox.specs.declared.submission.Submission.TheVariants.{New}
 use Rattle.session_outbox.specs.Sessions.{session_with}
 use Rattle.session_outbox.specs.Answers.{submission_of}
 use Rattle.room_calls.specs.declared.call.Call.{Call}
-use Rattle.room_calls.specs.declared.call.Call.TheVariants.{Join, Ins, Del, Pull, Leave, Ops, Put, Read}
+use Rattle.room_calls.specs.declared.call.Call.TheVariants.{Ins, Del}
 use Rattle.room_calls.specs.declared.reply.Reply.TheVariants as replies
 use Rattle.room.specs.Machine.{State, Finding, counts_units, check, found_answer, found_next, accepted_answer, accepted_next, counted}
 use Rattle.room.specs.Machine.{recorded_answer, recorded_next, may_record, next}
@@ -102,7 +102,6 @@ placed-longer u log more xs v k b p =
 
 accepted-goes : (S : State) (c : Call) (start end : ℕ) → IsLawful S.log → S.site < 32 → check S c ≡ Ok New
     → accepted_answer S c ≡ replies.Ok start end → Goes S c start end
-accepted-goes S (Join t) start end l b a e = absurd cc
 accepted-goes S (Ins s n v k x) start end l b a e =
     let u : Bool = counts_units s S.outbox in
     let asked : List Operation = asked_insertions_in u S.log S.site v k x in
@@ -134,11 +133,7 @@ accepted-goes S (Del s n v k c) start end l b a e =
     let start_is : length S.log ≡ start = cc e in
     let end_is : length S.log + element_count u S.log v k c ≡ end = cc e in
     record { from = sym start_is; to = omega (arith, end_is, size); grown = refl; placed = λ more. tt }
-accepted-goes S (Pull s have max) start end l b a e = absurd cc
-accepted-goes S (Leave s) start end l b a e = absurd cc
-accepted-goes S (Ops after most) start end l b a e = absurd cc
-accepted-goes S (Put ops) start end l b a e = absurd cc
-accepted-goes S Read start end l b a e = absurd cc
+accepted-goes S other start end l b a e = absurd cc
 
 -- the same of a call that may not be recorded
 goes : (S : State) (c : Call) (start end : ℕ) → IsLawful S.log → S.site < 32 → IsAccepted S c start end

@@ -10,7 +10,7 @@ use Rattle.session_outbox.specs.declared.submission.Submission.TheVariants.{New,
 use Rattle.session_outbox.specs.Sessions.{Session, session_with, with_accepted, sent_to}
 use Rattle.session_outbox.specs.Sessions.{joined}
 use Rattle.room_calls.specs.declared.call.Call.{Call}
-use Rattle.room_calls.specs.declared.call.Call.TheVariants.{Join, Ins, Del, Pull, Leave, Ops, Put, Read}
+use Rattle.room_calls.specs.declared.call.Call.TheVariants.{Join, Ins, Del, Pull, Leave}
 use Rattle.room.specs.Machine.{State, Finding, counts_units, check, accepted_next, found_next, may_record}
 use Rattle.room.specs.Machine.{counted, recorded_next, next}
 use Rattle.room.specs.History.{state_of}
@@ -61,9 +61,7 @@ accepted-since S (Pull t have most) s w r h =
           (λ u d. (d.0, within_max w.sent u.sent to d.1, d.2)) h.1,
     )
 accepted-since S (Leave t) s w r h = (h.0, IfThere-without (Descends w) s t 0 S.outbox.next_number S.outbox.sessions r.numbered h.1)
-accepted-since S (Ops after most) s w r h = h
-accepted-since S (Put ops) s w r h = h
-accepted-since S Read s w r h = h
+accepted-since S other s w r h = h
 
 found-since : (S : State) (c : Call) (f : Finding) (s : ℕ) (w : Session) → IsRunning S → Since s w S → Since s w (found_next S c f)
 found-since S c (Err e) s w r h = h

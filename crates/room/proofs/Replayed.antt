@@ -24,7 +24,7 @@ use Rattle.session_outbox.specs.declared.submission.Submission.TheVariants.{New,
 use Rattle.session_outbox.specs.Sessions.{session_with}
 use Rattle.session_outbox.specs.Answers.{submission_of}
 use Rattle.room_calls.specs.declared.call.Call.{Call}
-use Rattle.room_calls.specs.declared.call.Call.TheVariants.{Join, Ins, Del, Pull, Leave, Ops, Put, Read}
+use Rattle.room_calls.specs.declared.call.Call.TheVariants.{Ins, Del, Put, Read}
 use Rattle.room.specs.Deliveries.{hand_over}
 use Rattle.room.specs.Machine.{State, Finding, room_over, counts_units, check, accepted_next, found_next, recorded_next, counted}
 use Rattle.room.specs.Machine.{may_record, next}
@@ -104,16 +104,13 @@ handed-fit site (x ∷ ops) log held h o = handed-fit site ops (deliver site log
     (deliver-fit IsShort (λ v y l b. omega (arith, l, length-append v (y ∷ []))) site log held x h o.0) o.1
 
 accepted-met : (S : State) (c : Call) → Met S → HandsOperations c → check S c ≡ Ok New → Met (accepted_next S c)
-accepted-met S (Join units) h o e = (record { site = h.0.site; lawful = h.0.lawful; limit = h.0.limit }, h.1)
 accepted-met S (Ins s n v k x) h o e = (inserted-sited S s n v k x h.0 e, h.1)
 accepted-met S (Del s n v k c) h o e = (deleted-sited S s n v k c h.0 e, h.1)
-accepted-met S (Pull s have max) h o e = (record { site = h.0.site; lawful = h.0.lawful; limit = h.0.limit }, h.1)
-accepted-met S (Leave s) h o e = (record { site = h.0.site; lawful = h.0.lawful; limit = h.0.limit }, h.1)
-accepted-met S (Ops after most) h o e = (record { site = h.0.site; lawful = h.0.lawful; limit = h.0.limit }, h.1)
 accepted-met S (Put ops) h o e =
     let stands = handed-fit S.site ops S.log S.held (h.0.lawful, h.0.limit, h.1) o in
     (record { site = h.0.site; lawful = stands.0; limit = stands.1 }, stands.2)
 accepted-met S Read h o e = h
+accepted-met S other h o e = (record { site = h.0.site; lawful = h.0.lawful; limit = h.0.limit }, h.1)
 
 found-met : (S : State) (c : Call) (f : Finding) → Met S → HandsOperations c → check S c ≡ f → Met (found_next S c f)
 found-met S c (Err x) h o e = h

@@ -15,13 +15,7 @@ use Rattle.room.specs.Editor.{Editor, empty_editor, with_reply_in, editor_in, Is
 -- the session that a joined reply opens
 abbrev pub opened_by : Reply → Option ℕ
 opened_by (replies.Joined s v x) = Some s
-opened_by (replies.Ok start end) = None
-opened_by (replies.Edits start es) = None
-opened_by replies.Left = None
-opened_by (replies.Ops start ops) = None
-opened_by (replies.Put os) = None
-opened_by (replies.Text v x) = None
-opened_by (replies.No e) = None
+opened_by other = None
 
 -- the session that the reply to a call is given to
 abbrev pub given_to : Call → Reply → Option ℕ
@@ -77,15 +71,9 @@ replies_to s S (e ∷ es) =
 
 -- in this state a pull of session s, while that is there, names the version of this editor
 abbrev pub NamesVersion : ℕ → State → Option Editor → Call → Type 0
-NamesVersion s S E (Join units) = Unit {0}
-NamesVersion s S E (Ins t n v k x) = Unit {0}
-NamesVersion s S E (Del t n v k c) = Unit {0}
 NamesVersion s S E (Pull t have max) =
     t ≡ s → (w : Session) → session_with s S.outbox.sessions ≡ Some w → option_map (λ F. F.version) E ≡ Some have
-NamesVersion s S E (Leave t) = Unit {0}
-NamesVersion s S E (Ops after most) = Unit {0}
-NamesVersion s S E (Put ops) = Unit {0}
-NamesVersion s S E Read = Unit {0}
+NamesVersion s S E other = Unit {0}
 
 -- the editor after a call: its reply is given to session s, or not
 abbrev pub after_call : Bool → ℕ → State → Call → Option Editor → Option Editor

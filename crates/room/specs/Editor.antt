@@ -57,14 +57,8 @@ pub record IsInStep (log : List Operation) (w : Session) (E : Editor) : Type 0 w
 
 -- a beginning of the reply's edits was played, or nothing at all
 abbrev pub FollowsPart_in : Bool → Reply → Editor → Editor → Type 0
-FollowsPart_in units (Joined s v x) E F = F ≡ E
 FollowsPart_in units (Edits start es) E F = (n : ℕ) × (n ≤ length es) × (with_edits_in units start (take n es) E ≡ Some F)
-FollowsPart_in units (Ok start end) E F = F ≡ E
-FollowsPart_in units Left E F = F ≡ E
-FollowsPart_in units (Ops start ops) E F = F ≡ E
-FollowsPart_in units (Put os) E F = F ≡ E
-FollowsPart_in units (Text v x) E F = F ≡ E
-FollowsPart_in units (No e) E F = F ≡ E
+FollowsPart_in units other E F = F ≡ E
 
 -- a reply that is played where characters are counted
 abbrev pub with_reply : Reply → Editor → Option Editor

@@ -6,43 +6,27 @@ use Rattle.opid.specs.Operations.{Operation}
 use Rattle.opid.specs.Asked.{asked_insertions_in, asked_deletions_in, IsPlaced_in}
 use Rattle.session_outbox.specs.declared.submission.Submission.TheVariants.{New}
 use Rattle.room_calls.specs.declared.call.Call.{Call}
-use Rattle.room_calls.specs.declared.call.Call.TheVariants.{Join, Ins, Del, Pull, Leave, Ops, Put, Read}
+use Rattle.room_calls.specs.declared.call.Call.TheVariants.{Ins, Del}
 use Rattle.room_calls.specs.declared.reply.Reply.TheVariants as replies
 use Rattle.room.specs.Machine.{State, counts_units, check, answer}
 use Rattle.room.specs.History.{Account, state_of}
 
 -- whether the call is a submission of a session whose places count UTF-16 units; no other call names a place
 abbrev pub names_units : State → Call → Bool
-names_units S (Join units) = false
 names_units S (Ins s n v k x) = counts_units s S.outbox
 names_units S (Del s n v k c) = counts_units s S.outbox
-names_units S (Pull s have max) = false
-names_units S (Leave s) = false
-names_units S (Ops after most) = false
-names_units S (Put ops) = false
-names_units S Read = false
+names_units S other = false
 
 -- what a submission asks for over a log, by its place in the version that it names; other calls ask for nothing
 abbrev pub asked_by : Bool → ℕ → List Operation → Call → List Operation
-asked_by units site log (Join u) = []
 asked_by units site log (Ins s n v k x) = asked_insertions_in units log site v k x
 asked_by units site log (Del s n v k c) = asked_deletions_in units log site v k c
-asked_by units site log (Pull s have max) = []
-asked_by units site log (Leave s) = []
-asked_by units site log (Ops after most) = []
-asked_by units site log (Put ops) = []
-asked_by units site log Read = []
+asked_by units site log other = []
 
 -- an insertion's operations stand at its place in the version of the log that it names
 abbrev pub StandsAsked : Bool → List Operation → Call → List Operation → Type 0
-StandsAsked units log (Join u) ops = Unit {0}
 StandsAsked units log (Ins s n v k x) ops = IsPlaced_in units log v k ops
-StandsAsked units log (Del s n v k c) ops = Unit {0}
-StandsAsked units log (Pull s have max) ops = Unit {0}
-StandsAsked units log (Leave s) ops = Unit {0}
-StandsAsked units log (Ops after most) ops = Unit {0}
-StandsAsked units log (Put other) ops = Unit {0}
-StandsAsked units log Read ops = Unit {0}
+StandsAsked units log other ops = Unit {0}
 
 -- in this state the call is a new submission, which is answered `Ok` from one version to another
 pub record IsAccepted (S : State) (c : Call) (start end : ℕ) : Type 0 where

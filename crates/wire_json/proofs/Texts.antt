@@ -16,10 +16,7 @@ use Rattle.serde_json.specs.Data.{Data}
 use Rattle.serde_json.specs.Written.{compact_text, outline, items_outline}
 use Rattle.serde_json.proofs.Texts.{print-outline}
 use Rattle.opid.specs.declared.refusal.Refusal.{Refusal}
-use Rattle.opid.specs.declared.refusal.Refusal.TheVariants.{BadJson, BadField, UnknownKind, NoRoom, NoSession, TooManySessions, BadNumber}
-use Rattle.opid.specs.declared.refusal.Refusal.TheVariants.{BadVersion, BadPlace, BadText, BadCount, Full, HistoryFull, BadSite, BadClock}
-use Rattle.opid.specs.declared.refusal.Refusal.TheVariants.{OwnSite, Conflict, HoldFull, NotRising, UnknownElement, NotOlder, BadHave}
-use Rattle.opid.specs.declared.refusal.Refusal.TheVariants.{BadRange, Busy, Worn, Memory, SiteUsed, BadSnapshot, TooLong}
+use Rattle.opid.specs.declared.refusal.Refusal.TheVariants.{BadJson}
 use Rattle.opid.specs.Refusals.{number_of}
 use Rattle.opid.specs.declared.edit.Edit as edit
 use Rattle.opid.specs.declared.edit.Edit.TheVariants.{Ins, Del, DelUnits, Nop}
@@ -76,34 +73,7 @@ compact (No why) = regroup_3 (codes "{\"n\":") (decimal (number_of why)) (codes 
 
 pub number_small : (why : Refusal) → number_of why < 2 ^ 64
 number_small BadJson = lit< tt
-number_small BadField = lit< tt
-number_small UnknownKind = lit< tt
-number_small NoRoom = lit< tt
-number_small NoSession = lit< tt
-number_small TooManySessions = lit< tt
-number_small BadNumber = lit< tt
-number_small BadVersion = lit< tt
-number_small BadPlace = lit< tt
-number_small BadText = lit< tt
-number_small BadCount = lit< tt
-number_small Full = lit< tt
-number_small HistoryFull = lit< tt
-number_small BadSite = lit< tt
-number_small BadClock = lit< tt
-number_small OwnSite = lit< tt
-number_small Conflict = lit< tt
-number_small HoldFull = lit< tt
-number_small NotRising = lit< tt
-number_small UnknownElement = lit< tt
-number_small NotOlder = lit< tt
-number_small BadHave = lit< tt
-number_small BadRange = lit< tt
-number_small Busy = lit< tt
-number_small Worn = lit< tt
-number_small Memory = lit< tt
-number_small SiteUsed = lit< tt
-number_small BadSnapshot = lit< tt
-number_small TooLong = lit< tt
+number_small other = lit< tt
 
 narrow : (w : ℕ) → w < 2 ^ 8 → w < 2 ^ 64
 narrow w h = omega (arith, h)
@@ -150,14 +120,10 @@ outcomes_shallow (outcomes.Again ∷ os) = omega (arith, outcomes_shallow os)
 outcomes_shallow (outcomes.No why ∷ os) = omega (arith, outcomes_shallow os)
 
 shallow : (r : reply.Reply) → depth (outline (data_of r)) ≤ max_depth
-shallow (Joined s v x) = lit≤ tt
-shallow (Ok «from» to) = lit≤ tt
 shallow (Edits «from» es) = omega (arith, edits_shallow es)
-shallow Left = lit≤ tt
 shallow (Ops «from» ops) = omega (arith, items_shallow (packed_items ops))
 shallow (Put os) = omega (arith, outcomes_shallow os)
-shallow (Text v x) = lit≤ tt
-shallow (No why) = lit≤ tt
+shallow other = lit≤ tt
 
 -- the text reads as one JSON tree, which is the reply's
 back : (r : reply.Reply) → IsInRange r → document (text r) ≡ Some (outline (data_of r))
@@ -181,18 +147,7 @@ one_edit (DelUnits k v) (DelUnits l w) h g e =
     let same_width = decimal_injective v w (narrow v h.1) (narrow w g.1) (cc) in
     cc
 one_edit Nop Nop h g e = refl
-one_edit (Ins k c) (Del l) h g e = cc
-one_edit (Ins k c) (DelUnits l w) h g e = cc
-one_edit (Ins k c) Nop h g e = cc
-one_edit (Del k) (Ins l d) h g e = cc
-one_edit (Del k) (DelUnits l w) h g e = cc
-one_edit (Del k) Nop h g e = cc
-one_edit (DelUnits k v) (Ins l d) h g e = cc
-one_edit (DelUnits k v) (Del l) h g e = cc
-one_edit (DelUnits k v) Nop h g e = cc
-one_edit Nop (Ins l d) h g e = cc
-one_edit Nop (Del l) h g e = cc
-one_edit Nop (DelUnits l w) h g e = cc
+one_edit other another h g e = cc
 
 one_list : {A : Type 0} (P : A → Type 0) (f : A → Data) → ((a b : A) → P a → P b → outline (f a) ≡ outline (f b) → a ≡ b)
     → (xs ys : List A) → AllByRecursion P xs → AllByRecursion P ys
@@ -212,18 +167,7 @@ one_outcome (outcomes.No x) (outcomes.No y) h k e =
     ap outcomes.No (number_of-injective x y (decimal_injective (number_of x) (number_of y) (number_small x) (number_small y) (cc)))
 one_outcome outcomes.Kept outcomes.Kept h k e = refl
 one_outcome outcomes.Again outcomes.Again h k e = refl
-one_outcome (outcomes.Took t d) outcomes.Kept h k e = cc
-one_outcome (outcomes.Took t d) outcomes.Again h k e = cc
-one_outcome (outcomes.Took t d) (outcomes.No y) h k e = cc
-one_outcome outcomes.Kept (outcomes.Took u f) h k e = cc
-one_outcome outcomes.Kept outcomes.Again h k e = cc
-one_outcome outcomes.Kept (outcomes.No y) h k e = cc
-one_outcome outcomes.Again (outcomes.Took u f) h k e = cc
-one_outcome outcomes.Again outcomes.Kept h k e = cc
-one_outcome outcomes.Again (outcomes.No y) h k e = cc
-one_outcome (outcomes.No x) (outcomes.Took u f) h k e = cc
-one_outcome (outcomes.No x) outcomes.Kept h k e = cc
-one_outcome (outcomes.No x) outcomes.Again h k e = cc
+one_outcome other another h k e = cc
 
 one_reply : (a b : reply.Reply) → IsInRange a → IsInRange b → outline (data_of a) ≡ outline (data_of b) → a ≡ b
 one_reply (Joined s v x) (Joined t w y) h k e =
@@ -251,62 +195,7 @@ one_reply (Text v x) (Text w y) h k e =
     cc
 one_reply (No p) (No q) h k e =
     ap No (number_of-injective p q (decimal_injective (number_of p) (number_of q) (number_small p) (number_small q) (cc)))
-one_reply (Joined s v x) (Ok i j) h k e = cc
-one_reply (Joined s v x) (Edits i fs) h k e = cc
-one_reply (Joined s v x) Left h k e = cc
-one_reply (Joined s v x) (Ops i ys) h k e = cc
-one_reply (Joined s v x) (Put ps) h k e = cc
-one_reply (Joined s v x) (Text w y) h k e = cc
-one_reply (Joined s v x) (No q) h k e = cc
-one_reply (Ok m n) (Joined t w y) h k e = cc
-one_reply (Ok m n) (Edits i fs) h k e = cc
-one_reply (Ok m n) Left h k e = cc
-one_reply (Ok m n) (Ops i ys) h k e = cc
-one_reply (Ok m n) (Put ps) h k e = cc
-one_reply (Ok m n) (Text w y) h k e = cc
-one_reply (Ok m n) (No q) h k e = cc
-one_reply (Edits m es) (Joined t w y) h k e = cc
-one_reply (Edits m es) (Ok i j) h k e = cc
-one_reply (Edits m es) Left h k e = cc
-one_reply (Edits m es) (Ops i ys) h k e = cc
-one_reply (Edits m es) (Put ps) h k e = cc
-one_reply (Edits m es) (Text w y) h k e = cc
-one_reply (Edits m es) (No q) h k e = cc
-one_reply Left (Joined t w y) h k e = cc
-one_reply Left (Ok i j) h k e = cc
-one_reply Left (Edits i fs) h k e = cc
-one_reply Left (Ops i ys) h k e = cc
-one_reply Left (Put ps) h k e = cc
-one_reply Left (Text w y) h k e = cc
-one_reply Left (No q) h k e = cc
-one_reply (Ops m xs) (Joined t w y) h k e = cc
-one_reply (Ops m xs) (Ok i j) h k e = cc
-one_reply (Ops m xs) (Edits i fs) h k e = cc
-one_reply (Ops m xs) Left h k e = cc
-one_reply (Ops m xs) (Put ps) h k e = cc
-one_reply (Ops m xs) (Text w y) h k e = cc
-one_reply (Ops m xs) (No q) h k e = cc
-one_reply (Put os) (Joined t w y) h k e = cc
-one_reply (Put os) (Ok i j) h k e = cc
-one_reply (Put os) (Edits i fs) h k e = cc
-one_reply (Put os) Left h k e = cc
-one_reply (Put os) (Ops i ys) h k e = cc
-one_reply (Put os) (Text w y) h k e = cc
-one_reply (Put os) (No q) h k e = cc
-one_reply (Text v x) (Joined t w y) h k e = cc
-one_reply (Text v x) (Ok i j) h k e = cc
-one_reply (Text v x) (Edits i fs) h k e = cc
-one_reply (Text v x) Left h k e = cc
-one_reply (Text v x) (Ops i ys) h k e = cc
-one_reply (Text v x) (Put ps) h k e = cc
-one_reply (Text v x) (No q) h k e = cc
-one_reply (No p) (Joined t w y) h k e = cc
-one_reply (No p) (Ok i j) h k e = cc
-one_reply (No p) (Edits i fs) h k e = cc
-one_reply (No p) Left h k e = cc
-one_reply (No p) (Ops i ys) h k e = cc
-one_reply (No p) (Put ps) h k e = cc
-one_reply (No p) (Text w y) h k e = cc
+one_reply other another h k e = cc
 
 pub different : (a b : reply.Reply) → IsInRange a → IsInRange b → text a ≡ text b → a ≡ b
 different a b h k e = one_reply a b h k (one_tree a b h k e)

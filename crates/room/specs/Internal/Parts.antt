@@ -12,7 +12,7 @@ use Rattle.room.specs.Deliveries.{hand_over}
 use Rattle.session_outbox.specs.declared.submission.Submission.TheVariants.{New, Repeat}
 use Rattle.session_outbox.specs.Sessions.{Outbox, after_accept}
 use Rattle.room_calls.specs.declared.call.Call.{Call}
-use Rattle.room_calls.specs.declared.call.Call.TheVariants.{Join, Ins, Del, Pull, Leave, Ops, Put, Read}
+use Rattle.room_calls.specs.declared.call.Call.TheVariants.{Join, Leave, Ops, Put}
 use Rattle.room_calls.specs.declared.reply.Reply.{Reply}
 use Rattle.room_calls.specs.declared.reply.Reply.TheVariants as replies
 use Rattle.room.specs.Machine.{State, Finding, recorded_answer, recorded_next}
@@ -30,13 +30,10 @@ pub record Does (replica : ReplicaState) (outbox : Outbox) (c : Call) (reply : R
 -- where a call that is recorded may find no memory: a join below 64 sessions, a part that is there, a put of 1 to 64 operations
 abbrev pub MayLackMemory : State → Call → Type 0
 MayLackMemory S (Join units) = length S.outbox.sessions < 64
-MayLackMemory S (Ins s n v k x) = Unit {0}
-MayLackMemory S (Del s n v k c) = Unit {0}
-MayLackMemory S (Pull s have max) = Unit {0}
 MayLackMemory S (Leave s) = ⊥
 MayLackMemory S (Ops after most) = IsOk (part_of S.log after most)
 MayLackMemory S (Put ops) = is_bad_count (length ops) ≡ false
-MayLackMemory S Read = Unit {0}
+MayLackMemory S other = Unit {0}
 
 -- the reply to a submission that isn't the session's next one
 abbrev pub reply_at_once : Finding → Option Reply

@@ -6,7 +6,7 @@ use Rattle.std.proofs.Props.{props}
 use Rattle.opid.specs.Operations.{Operation}
 use Rattle.causal_clock.specs.Kinds.{IsOperation}
 use Rattle.room_calls.specs.declared.call.Call.{Call}
-use Rattle.room_calls.specs.declared.call.Call.TheVariants.{Join, Ins, Del, Pull, Leave, Ops, Put, Read}
+use Rattle.room_calls.specs.declared.call.Call.TheVariants.{Put}
 use Rattle.room.specs.History.{HandsOperations}
 
 -- there is one proof that something is an operation
@@ -15,14 +15,8 @@ IsOperation-prop x = Prim.hlevel props
 
 -- there is one proof that a call hands over operations
 HandsOperations-prop : (c : Call) → IsProp (HandsOperations c)
-HandsOperations-prop (Join units) = Unit-prop
-HandsOperations-prop (Ins s n v k x) = Unit-prop
-HandsOperations-prop (Del s n v k c) = Unit-prop
-HandsOperations-prop (Pull s have max) = Unit-prop
-HandsOperations-prop (Leave s) = Unit-prop
-HandsOperations-prop (Ops after most) = Unit-prop
 HandsOperations-prop (Put ops) = AllByRecursion-prop IsOperation IsOperation-prop ops
-HandsOperations-prop Read = Unit-prop
+HandsOperations-prop other = Unit-prop
 
 -- there is one proof that the calls of a history do
 pub AllHand-prop : (h : List (ℕ × Call)) → IsProp (AllByRecursion (λ e. HandsOperations e.1) h)

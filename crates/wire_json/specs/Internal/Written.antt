@@ -85,11 +85,8 @@ data_of (No why) = no_data why
 
 -- the reply's text is put together token by token, and not piece by piece
 abbrev pub IsByTokens : reply.Reply → Type 0
-IsByTokens (Joined s v x) = Unit {0}
 IsByTokens (Ok «from» to) = ⊥
 IsByTokens (Edits «from» es) = ⊥
-IsByTokens Left = Unit {0}
 IsByTokens (Ops «from» ops) = ⊥
 IsByTokens (Put os) = ⊥
-IsByTokens (Text v x) = Unit {0}
-IsByTokens (No why) = Unit {0}
+IsByTokens other = Unit {0}
