@@ -68,7 +68,7 @@ async function wayWithin(document, room, log, edits) {
   const isBefore = isOlder && ownIn(document, room.roomText) <= 0;
   if (isBefore) return goBack({ kept: memory.joined, isBefore });
   const isAgain = lost?.kept === 0 && first !== null && memory.sites.has(first.last[0].site);
-  if (isAgain && memory.joined === 0 && isOfOther(document, first)) return goBack(lost);
+  if (isAgain && memory.joined === 0 && isOfOther(document, first, before)) return goBack(lost);
   if (first?.isNew && isLike(before.text, first.text)) return () => renew(document, first, before);
   if (isAgain) return goBack(memory.joined > 0 ? { kept: memory.joined, isBefore: true } : lost);
   if (first?.isNew) return null;
@@ -91,8 +91,8 @@ function isShorter({ counts }, room, first) {
  * that, or of a later one, whose site came again. It may begin as a renewed room's does, of a text that was never there: with nothing of
  * the known.
  */
-function isOfOther({ roomText }, first) {
-  return !first.isNew || (roomText.length >= SHORT && inCommon(roomText, first.text) === 0);
+function isOfOther({ roomText }, first, before) {
+  return !first.isNew || (roomText.length >= SHORT && before.text !== first.text && inCommon(roomText, first.text) === 0);
 }
 
 /** How many units more a text has than it lacks of those that were put in here since the room was joined. */

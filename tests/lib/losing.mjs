@@ -342,6 +342,16 @@ async function isRenewedBehindALoss(renew) {
   await endsAs(way, `> ${WHALE}${own}`);
 }
 
+/** A kill loses a paste, and the room, of which few letters are left, is renewed by hand: they are there once. */
+async function isRenewedWithAFewLetters() {
+  const way = await begin("b", true, 0);
+  for (const text of ["a", WHALE]) {
+    way.editor.change(0, 0, text);
+    await way.comesTo("up to date");
+  }
+  await goOn(await renewedRun(way.room, WHALE.length), [way], `${WHALE}ab`);
+}
+
 /** A room without text is renewed, which leaves it no log: what was deleted stays away. */
 async function isRenewedEmpty() {
   const ways = await two("hello ", "world");
@@ -571,6 +581,7 @@ await Promise.all([
   isRenewed("hello ", "world", anewRun),
   isRenewed("a", "b", anewRun),
   isRenewedEmpty(),
+  isRenewedWithAFewLetters(),
   isRenewedWhileMoreComes(),
   isRenewedTwice(),
   losesItsEndBehindAJoin(30),
