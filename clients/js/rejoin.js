@@ -31,10 +31,11 @@ const LONG = 16;
  */
 export async function wayTo(document, room, log, edits) {
   const way = await wayWithin(document, room, log, edits);
-  if (way === null && room.roomText !== document.textToCome) return null;
+  const isSame = room.roomText === document.textToCome;
+  if (way === null && !isSame && document.roomText !== "") return null; // who shows nothing has nothing to choose
   return () => {
     const changes = way === null ? [] : way();
-    if (way === null) document.came(document.version, Infinity);
+    if (way === null) document.came(document.version, isSame ? Infinity : 0);
     changes.push(...document.follow(room));
     if (way === null) document.renew(room.version, room.memory.last(room.version));
     document.counts = room.counts;

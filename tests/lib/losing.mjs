@@ -352,6 +352,19 @@ async function isRenewedWithAFewLetters() {
   await goOn(await renewedRun(way.room, WHALE.length), [way], `${WHALE}ab`);
 }
 
+/** A room without text is renewed, and somebody types there before two come back who show nothing: they aren't asked, and lose nothing. */
+async function isRenewedEmptyAndTypedIn() {
+  const ways = await two("hello ", "world");
+  ways[1].editor.change(0, 11, "");
+  for (const way of ways) await way.comesTo("up to date", "");
+  ways[0].cutOff();
+  await ways[0].comesTo("offline");
+  ways[0].editor.change(0, 0, "mine ");
+  const renewed = await anewRun(ways[0].room);
+  await typedBy(renewed, 0, "again");
+  await goOn(renewed, ways, "mine again");
+}
+
 /** A room without text is renewed, which leaves it no log: what was deleted stays away. */
 async function isRenewedEmpty() {
   const ways = await two("hello ", "world");
@@ -581,6 +594,7 @@ await Promise.all([
   isRenewed("hello ", "world", anewRun),
   isRenewed("a", "b", anewRun),
   isRenewedEmpty(),
+  isRenewedEmptyAndTypedIn(),
   isRenewedWithAFewLetters(),
   isRenewedWhileMoreComes(),
   isRenewedTwice(),
