@@ -42,7 +42,7 @@
   (cond ((plist-get told :closed) (rgatext--ends told))
         (rgatext--over)
         ((plist-get told :state) (rgatext--show told))
-        ((plist-get told :news) (run-with-timer 0 nil #'rgatext--play :take (current-buffer)))
+        ((plist-get told :news) (run-with-timer 0 nil #'rgatext--take (current-buffer)))
         ((plist-get told :refused) (message "rgatext: %s" (plist-get told :refused)))
         ((plist-get told :wrong)
          (message "rgatext: %s" (plist-get told :wrong))
@@ -102,32 +102,45 @@ What is no character of a text becomes U+FFFD."
   "What is changed next isn't of the same command."
   (with-current-buffer (rgatext--room) (setq rgatext--is-more nil)))
 
-(defun rgatext--play (key buffer)
-  "Make the changes that a request by a KEY brings to a room's BUFFER.
+(defun rgatext--play (key)
+  "Make the changes that a request by a KEY brings to the room.
 Point and markers stay where they are in the text. Gives the answer."
+  (with-current-buffer (rgatext--room)
+    (let* ((inhibit-quit t)
+           (inhibit-read-only t)
+           (deactivate-mark nil)
+           (answer (rgatext--ask key t))
+           (rgatext--is-playing t))
+      (save-match-data
+        (save-excursion
+          (save-restriction
+            (widen)
+            (pcase-dolist (`(,at ,removed ,text) (plist-get answer :changes))
+              (goto-char (1+ at))
+              (delete-region (point) (+ (point) removed))
+              (insert text)))))
+      (rgatext--show rgatext--told)
+      answer)))
+
+(defun rgatext--is-busy ()
+  "Whether a command waits for its user: it may know places by their numbers.
+The one that reads a command's name knows none; who chooses of a list of completions does."
+  (or this-command
+      (> (recursion-depth) (if (eq minibuffer-history-variable 'extended-command-history) 1 0))
+      (get-buffer-window "*Completions*" 'visible)))
+
+(defun rgatext--take (buffer)
+  "Take what others did into a room's BUFFER, as soon as Emacs isn't busy."
   (when (buffer-live-p buffer)
-    (with-current-buffer buffer
-      (let* ((inhibit-quit t)
-             (inhibit-read-only t)
-             (deactivate-mark nil)
-             (answer (rgatext--ask key t))
-             (rgatext--is-playing t))
-        (save-match-data
-          (save-excursion
-            (save-restriction
-              (widen)
-              (pcase-dolist (`(,at ,removed ,text) (plist-get answer :changes))
-                (goto-char (1+ at))
-                (delete-region (point) (+ (point) removed))
-                (insert text)))))
-        (rgatext--show rgatext--told)
-        answer))))
+    (if (rgatext--is-busy)
+        (run-with-timer 0.1 nil #'rgatext--take buffer)
+      (with-current-buffer buffer (rgatext--play :take)))))
 
 (defun rgatext--turn (key times)
   "Ask KEY so many TIMES, `:undo' or `:redo', and go where it changes something."
   (barf-if-buffer-read-only)
   (dotimes (_ times)
-    (let ((caret (plist-get (rgatext--play key (current-buffer)) :caret)))
+    (let ((caret (plist-get (rgatext--play key) :caret)))
       (when caret (goto-char (1+ caret))))))
 
 (defun rgatext-undo (times)

@@ -295,6 +295,34 @@ def tries_waiting():
         clear("waiting")
 
 
+def tries_waiting_in_commands():
+    """While a command of Emacs waits for its user, others' changes wait: it may know places by their numbers. A search and M-x know none."""
+    for it in of(Emacs):
+        other = other_than(it)
+        it.put("one two\rone two")
+        same("two lines", "one two\none two")
+        rectangle = ["M-<", *["C-f"] * 4, "C-Space", "C-n", *["C-f"] * 3, "C-x", "r", "t"]
+        query = [["M-<", "M-%"], "two", ["Enter"], "six", ["Enter"]]
+        for begins, ends, wanted, waits in (
+            (query, ["!"], "> one six\none six", True),
+            ([*query, ["C-r"]], [["C-M-c"], "!"], "> one six\none six", True),
+            ([rectangle, "six"], [["Enter"]], "> one six\none six", True),
+            ([["M-<", "M-x"]], [["C-g"]], "> one two\none two", False),
+            ([["M-<", "C-s"], "two"], [["C-g"]], "> one two\none two", False),
+        ):
+            it.keys(*begins)
+            other.put("> ")
+            time.sleep(3)
+            assert it.text.startswith("> ") != waits, f"{begins}: {it.text}"
+            it.keys(*ends)
+            same(f"{begins} and {ends}", wanted)
+            other.undo()
+            if "six" in wanted:
+                it.undo()
+            same("undone", "one two\none two")
+        clear("waiting in commands")
+
+
 def tries_commands():
     """What is unsent is shown, a copy is saved as it is, and a room is opened anew."""
     for it in one_of_each("left"):
@@ -576,7 +604,7 @@ try:
     editors += windows
     until(lambda: all(it.state.startswith("up to date") for it in editors), "all have joined", 60)
     cases = (tries_page, tries_typing, tries_undo, tries_lines, tries_wide, tries_bytes, tries_many_places, tries_random_typing)
-    cases += (tries_waiting, tries_full_room, tries_leaving, tries_commands, tries_server_that_ends)
+    cases += (tries_waiting, tries_waiting_in_commands, tries_full_room, tries_leaving, tries_commands, tries_server_that_ends)
     cases += (tries_program_that_ends, tries_program_that_ends_with_unsent_text, tries_program_that_is_slow, tries_another_text)
     for attempt in cases:
         began = time.monotonic()
