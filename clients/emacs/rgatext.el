@@ -20,7 +20,7 @@
 (defvar-local rgatext--over nil "What the program told at its end, where it carries no changes any more.")
 (defvar-local rgatext--sent 0 "How many changes were sent.")
 (defvar-local rgatext--is-more nil "Whether something was changed since a command began.")
-(defvar-local rgatext--is-playing nil "Whether changes are made that the program knows.")
+(defvar-local rgatext--seen nil "What `rgatext--stamp' gave of the text that the program knows; nil while its changes are made.")
 
 (defun rgatext--send (&rest request)
   "Send a REQUEST, a list of keys and values."
@@ -56,36 +56,40 @@
 (defun rgatext--ask (&rest request)
   "Send a REQUEST and give its answer, or what the program told at its end.
 Nothing is typed meanwhile. Where that is late it is said, and C-g gives it up."
-  (unless rgatext--process (user-error "This is no room"))
-  (with-current-buffer (rgatext--room) (apply #'rgatext--ask-here request)))
-
-(defun rgatext--ask-here (&rest request)
-  "The same for a REQUEST of the current buffer's room."
-  (let ((late (+ (float-time) 2 (/ (or (plist-get request :flush) 0) 1000)))
-        (inhibit-quit t) is-told)
-    (setq rgatext--answer nil)
-    (apply #'rgatext--send request)
-    (while (not (or rgatext--answer rgatext--over))
-      (accept-process-output rgatext--process 0.1 nil 1)
-      (when (and is-told quit-flag) (rgatext--give-up))
-      (setq quit-flag nil)
-      (when (> (float-time) late)
-        (setq is-told t)
-        (message "rgatext: waiting for its program; C-g gives it up")))
-    (when is-told (message nil))
-    (or rgatext--answer rgatext--over)))
+  (with-current-buffer (rgatext--room)
+    (unless rgatext--process (user-error "This is no room"))
+    (rgatext--tell-untold)
+    (let ((late (+ (float-time) 2 (/ (or (plist-get request :flush) 0) 1000)))
+          (inhibit-quit t) is-told)
+      (setq rgatext--answer nil)
+      (apply #'rgatext--send request)
+      (while (not (or rgatext--answer rgatext--over))
+        (accept-process-output rgatext--process 0.1 nil 1)
+        (when (and is-told quit-flag) (rgatext--give-up))
+        (setq quit-flag nil)
+        (when (> (float-time) late)
+          (setq is-told t)
+          (message "rgatext: waiting for its program; C-g gives it up")))
+      (when is-told (message nil))
+      (or rgatext--answer rgatext--over))))
 
 (defun rgatext--give-up ()
   "Go on without the program, which sends what was written to it, and ends."
   (process-send-eof rgatext--process)
   (rgatext--ends (rgatext--unknown "is still ending")))
 
-(defun rgatext--changed (beg end removed)
+(defun rgatext--stamp ()
+  "What differs once the text was changed, and how long it is."
+  (cons (buffer-chars-modified-tick) (buffer-size)))
+
+(defun rgatext--tell (beg end removed)
   "Tell what was put in from BEG to END, for so many REMOVED characters.
 What is no character of a text becomes U+FFFD."
-  (unless rgatext--is-playing
-    (let ((inhibit-quit t)) ; Emacs takes a hook away that a quit ends
-      (with-current-buffer (rgatext--room)
+  (with-current-buffer (rgatext--room)
+    (when rgatext--seen
+      (let ((inhibit-quit t) ; Emacs takes a hook away that a quit ends
+            (inhibit-modification-hooks t)
+            (inhibit-read-only t))
         (setq rgatext--sent (1+ rgatext--sent))
         (save-match-data
           (save-excursion
@@ -96,11 +100,25 @@ What is no character of a text becomes U+FFFD."
                 (replace-match "\ufffd" t t))
               (let ((change (vector (1- beg) removed (buffer-substring-no-properties beg end))))
                 (rgatext--send :replace change :more (or rgatext--is-more :false))))))
-        (setq rgatext--is-more t)))))
+        (setq rgatext--is-more t
+              rgatext--seen (rgatext--stamp))))))
+
+(defun rgatext--tell-untold (&rest _)
+  "Tell the whole text where it was changed and no hook told of it."
+  (with-current-buffer (rgatext--room)
+    (unless (equal rgatext--seen (rgatext--stamp))
+      (rgatext--tell 1 (1+ (buffer-size)) (cdr rgatext--seen)))))
+
+(defun rgatext--rooms ()
+  "The buffers of rooms."
+  (seq-filter (lambda (it) (and (buffer-local-value 'rgatext--process it) (not (buffer-base-buffer it)))) (buffer-list)))
 
 (defun rgatext--command-ends ()
-  "What is changed next isn't of the same command."
-  (with-current-buffer (rgatext--room) (setq rgatext--is-more nil)))
+  "Tell what is untold. What is changed next isn't of the same command."
+  (dolist (it (rgatext--rooms))
+    (with-current-buffer it
+      (if rgatext--seen (rgatext--tell-untold) (rgatext--give-up)) ; (another hook ended in an error while changes were made)
+      (unless (minibufferp (window-buffer)) (setq rgatext--is-more nil)))))
 
 (defun rgatext--play (key)
   "Make the changes that a request by a KEY brings to the room.
@@ -109,8 +127,8 @@ Point and markers stay where they are in the text. Gives the answer."
     (let* ((inhibit-quit t)
            (inhibit-read-only t)
            (deactivate-mark nil)
-           (answer (rgatext--ask key t))
-           (rgatext--is-playing t))
+           (answer (rgatext--ask key t)))
+      (setq rgatext--seen nil)
       (save-match-data
         (save-excursion
           (save-restriction
@@ -119,12 +137,13 @@ Point and markers stay where they are in the text. Gives the answer."
               (goto-char (1+ at))
               (delete-region (point) (+ (point) removed))
               (insert text)))))
+      (setq rgatext--seen (rgatext--stamp))
       (rgatext--show rgatext--told)
       answer)))
 
 (defun rgatext--is-busy ()
   "Whether a command waits for its user: it may know places by their numbers.
-The one that reads a command's name knows none; who chooses of a list of completions does."
+So does a list of completions. Who reads a command's name knows none."
   (or this-command
       (> (recursion-depth) (if (eq minibuffer-history-variable 'extended-command-history) 1 0))
       (get-buffer-window "*Completions*" 'visible)))
@@ -159,10 +178,12 @@ The one that reads a command's name knows none; who chooses of a list of complet
 
 (defun rgatext--show (told)
   "Show how the session stands, as TOLD, in the mode line and by the flags."
-  (setq rgatext--told told
-        buffer-read-only (and (member (plist-get told :state) '("refused" "closed")) t))
+  (setq rgatext--told told)
+  (dolist (it (buffer-list))
+    (when (memq (current-buffer) (list it (buffer-base-buffer it)))
+      (with-current-buffer it (setq buffer-read-only (and (member (plist-get told :state) '("refused" "closed")) t)))))
   (restore-buffer-modified-p (rgatext--is-ahead))
-  (force-mode-line-update))
+  (force-mode-line-update t))
 
 (defun rgatext--ends (last)
   "Nobody carries changes any more. LAST is what the program told."
@@ -188,9 +209,10 @@ The one that reads a command's name knows none; who chooses of a list of complet
 (defun rgatext-flush ()
   "Wait until the room has all that was done here, or say what is wrong."
   (interactive)
-  (if (rgatext--has-all 5)
-      (message "The room has it")
-    (user-error "The room doesn't have all of it: %s" (plist-get rgatext--told :words))))
+  (with-current-buffer (rgatext--room)
+    (if (rgatext--has-all 5)
+        (message "The room has it")
+      (user-error "The room doesn't have all of it: %s" (plist-get rgatext--told :words)))))
 
 (defun rgatext--may-leave ()
   "Whether the room has all, or the user leaves it all the same."
@@ -198,7 +220,7 @@ The one that reads a command's name knows none; who chooses of a list of complet
 
 (defun rgatext--may-leave-all ()
   "Whether Emacs may end."
-  (seq-every-p (lambda (it) (with-current-buffer it (rgatext--may-leave))) (buffer-list)))
+  (seq-every-p (lambda (it) (with-current-buffer it (rgatext--may-leave))) (rgatext--rooms)))
 
 (defun rgatext-unsent ()
   "Show what was done here and the room isn't known to have."
@@ -222,19 +244,20 @@ The one that reads a command's name knows none; who chooses of a list of complet
 
 (define-minor-mode rgatext-mode
   "The buffer is a room of an rgatext server. `rgatext' opens one."
-  :lighter (:eval (concat " " (plist-get rgatext--told :words)))
+  :lighter (:eval (concat " " (plist-get (buffer-local-value 'rgatext--told (rgatext--room)) :words)))
   :keymap '(([remap undo] . rgatext-undo) ([remap undo-only] . rgatext-undo) ([remap undo-redo] . rgatext-redo)
             ([remap save-buffer] . rgatext-flush))
-  (add-hook 'after-change-functions #'rgatext--changed nil t)
-  (add-hook 'post-command-hook #'rgatext--command-ends nil t)
+  (add-hook 'before-change-functions #'rgatext--tell-untold nil t)
+  (add-hook 'after-change-functions #'rgatext--tell nil t)
   (add-hook 'kill-buffer-query-functions #'rgatext--may-leave nil t))
 
 ;; They stay where the major mode is changed.
 (dolist (it '(rgatext-mode rgatext--process rgatext--held rgatext--answer rgatext--told rgatext--over rgatext--sent
-              rgatext--is-more rgatext--is-playing))
+              rgatext--is-more rgatext--seen))
   (put it 'permanent-local t))
-(dolist (it '(rgatext--changed rgatext--command-ends rgatext--may-leave))
+(dolist (it '(rgatext--tell-untold rgatext--tell rgatext--may-leave))
   (put it 'permanent-local-hook t))
+(add-hook 'post-command-hook #'rgatext--command-ends)
 (add-hook 'kill-emacs-query-functions #'rgatext--may-leave-all)
 
 ;;;###autoload
@@ -243,6 +266,7 @@ The one that reads a command's name knows none; who chooses of a list of complet
   (interactive "sServer: \nsRoom: ")
   (switch-to-buffer (generate-new-buffer (concat address "/" room)))
   (setq buffer-undo-list t
+        rgatext--seen (rgatext--stamp)
         rgatext--process
         (make-process :name "rgatext" :buffer (current-buffer) :noquery t :connection-type 'pipe :coding 'utf-8-unix
                       :command `(,@rgatext-node ,rgatext--program ,address ,room "characters")

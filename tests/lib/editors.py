@@ -276,6 +276,46 @@ def tries_bytes():
         clear("bytes")
 
 
+def tries_untold_changes():
+    """What Emacs changes and tells by no hook is in the room all the same, and is one step; so is what is typed in an indirect buffer."""
+    for it in of(Emacs):
+        other = other_than(it)
+        it.put("one é")
+        same("a text", "one é")
+        time.sleep(1)  # (what is typed without a pause is one step)
+        for does, wanted in (
+            ("(encode-coding-region 1 (point-max) 'utf-8)", "one \ufffd\ufffd"),
+            ("(decode-coding-region 1 (point-max) 'utf-8)", "one é"),
+            ("(recode-region 1 (point-max) 'latin-1 'utf-8)", "one Ã©"),
+            ("(let ((inhibit-modification-hooks t)) (insert \"x\"))", "one xé"),
+            ("(let ((inhibit-modification-hooks t)) (subst-char-in-region 1 4 ?n ?N) (delete-char -1))", "oNeé"),
+            ("(progn (let ((inhibit-modification-hooks t)) (upcase-region 1 4)) (insert \"y\"))", "ONE yé"),
+        ):
+            it.keys(["M-<", "C-e", "C-b", "M-:"], does, ["Enter"])
+            same(does, wanted)
+            if wanted != "one é":
+                it.undo()
+                same(f"{does} is undone", "one é")
+        for opens in ("(clone-indirect-buffer \"clone\" t)", "(switch-to-buffer (make-indirect-buffer (current-buffer) \"plain\"))"):
+            it.keys(["M-:"], opens, ["Enter"])
+            it.keys(["C-x", "1"])
+            it.put("typed ")
+            same(opens, "typed one é")
+            other.put("> ")
+            same(f"{opens}, and others", "> typed one é")
+            if "clone" in opens:
+                it.undo()
+                same("typed in a clone and undone", "> one é")
+                it.redo()
+                assert "(Fundamental up to date)" in it.screen, it.screen
+            it.keys(["C-x"], "k", ["Enter"])
+            it.keys(["C-x"], f"b{it.buffer}", ["Enter"])
+            other.undo()
+            it.undo()
+            same("undone", "one é")
+        clear("untold changes")
+
+
 def tries_waiting():
     """While Neovim's user selects, sees what a command would do, searches, or has begun an operator, others' changes wait."""
     for it in of(Neovim):
@@ -603,8 +643,8 @@ try:
         windows[0].name = "a window"
     editors += windows
     until(lambda: all(it.state.startswith("up to date") for it in editors), "all have joined", 60)
-    cases = (tries_page, tries_typing, tries_undo, tries_lines, tries_wide, tries_bytes, tries_many_places, tries_random_typing)
-    cases += (tries_waiting, tries_waiting_in_commands, tries_full_room, tries_leaving, tries_commands, tries_server_that_ends)
+    cases = (tries_page, tries_typing, tries_undo, tries_lines, tries_wide, tries_bytes, tries_untold_changes, tries_many_places)
+    cases += (tries_random_typing, tries_waiting, tries_waiting_in_commands, tries_full_room, tries_leaving, tries_commands, tries_server_that_ends)
     cases += (tries_program_that_ends, tries_program_that_ends_with_unsent_text, tries_program_that_is_slow, tries_another_text)
     for attempt in cases:
         began = time.monotonic()
