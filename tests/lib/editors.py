@@ -332,11 +332,19 @@ def tries_waiting():
             same("it comes", wanted)
             other.undo()
             same("undone", "one two")
+        it.keys("gg0RXY")
+        time.sleep(3)
+        other.keys("gg0aZ", ["Escape"])
+        time.sleep(3)
+        it.keys(["BSpace", "BSpace", "Escape"])
+        same("Backspace in Replace mode leaves what others put in", "oZne two")
+        it.keys("gg0RXY", ["Escape"])
+        same("what was typed over", "XYne two")
         clear("waiting")
 
 
 def tries_waiting_in_commands():
-    """While a command of Emacs waits for its user, others' changes wait: it may know places by their numbers. A search and M-x know none."""
+    """While a command of Emacs waits for its user others' changes wait: it may know places by their numbers. A search and M-x know none."""
     for it in of(Emacs):
         other = other_than(it)
         it.put("one two\rone two")
@@ -378,8 +386,15 @@ def tries_commands():
         until(lambda: "have all of it: offline" in it.screen, "saving waits, and says so")
         if isinstance(it, Neovim):
             it.stay()
-            it.do("bdelete")
-            until(lambda: "E89" in it.screen, "it isn't left")
+            named = ((f"{command} {work}/other", "keeps its name") for command in ("saveas", "file"))
+            for command, refuses in (("bdelete", "E89"), *named):
+                it.do(command)
+                until(lambda: refuses in it.screen, f"{command} is refused")
+                it.stay()
+            it.do(f"w! {work}/copy")
+            it.do("quit")
+            until(lambda: "E37" in it.screen, "it isn't left for a copy")
+            it.stay()
         it.save()
         it.keys(it.gives_up, it.gives_up)
         time.sleep(6)
@@ -387,8 +402,9 @@ def tries_commands():
         server.start()
         until(lambda: room_text("left") == "unsent a\nb\n" and it.state == "up to date", "it is sent", 60)
         if isinstance(it, Neovim):
-            it.do(f"w {work}/copy")
-            until(lambda: (work / "copy").exists() and (work / "copy").read_text() == "unsent a\nb\n", "a copy")
+            assert not (work / "other").exists(), "a room has another name"
+            it.do(f"w! {work}/copy")
+            until(lambda: (work / "copy").read_text() == "unsent a\nb\n", "a copy")
             program = program_of(it)
             os.kill(program, signal.SIGSTOP)
             it.do("edit!")
@@ -644,8 +660,9 @@ try:
     editors += windows
     until(lambda: all(it.state.startswith("up to date") for it in editors), "all have joined", 60)
     cases = (tries_page, tries_typing, tries_undo, tries_lines, tries_wide, tries_bytes, tries_untold_changes, tries_many_places)
-    cases += (tries_random_typing, tries_waiting, tries_waiting_in_commands, tries_full_room, tries_leaving, tries_commands, tries_server_that_ends)
-    cases += (tries_program_that_ends, tries_program_that_ends_with_unsent_text, tries_program_that_is_slow, tries_another_text)
+    cases += (tries_random_typing, tries_waiting, tries_waiting_in_commands, tries_full_room, tries_leaving, tries_commands)
+    cases += (tries_server_that_ends, tries_program_that_ends, tries_program_that_ends_with_unsent_text)
+    cases += (tries_program_that_is_slow, tries_another_text)
     for attempt in cases:
         began = time.monotonic()
         attempt()

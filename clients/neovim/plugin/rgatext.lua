@@ -7,8 +7,9 @@ local carets = api.nvim_create_namespace("rgatext")
 -- Milliseconds: until it is told that the program is waited for, until the room has all, and until a busy editor is looked at again.
 local ANSWER, SENDING, BUSY = 2000, 5000, 50
 
+-- Whether others' text would come between what is done. (Replace mode knows by its place what stood under each letter that was typed.)
 local function is_busy()
-  local is_free = { n = true, niI = true, niR = true, i = true, R = true }
+  local is_free = { n = true, niI = true, i = true }
   return not is_free[api.nvim_get_mode().mode] or fn.pumvisible() == 1
 end
 
@@ -246,4 +247,5 @@ for event, does in pairs({ BufWriteCmd = Room.write, BufUnload = Room.leave }) d
     if rooms[it.buf] then does(rooms[it.buf]) end
   end)
 end
+vim.cmd("autocmd rgatext BufFilePre ws://*,wss://* throw 'rgatext: a room keeps its name; :w FILE saves a copy'") -- (Lua can't stop it)
 on("BufWinEnter", function() vim.wo.statusline = "%<%f  %{get(b:,'rgatext','')} %m%=%l,%c" end)
