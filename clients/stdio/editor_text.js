@@ -2,8 +2,9 @@
  * An editor's text beside the session's: what the session has and the editor hasn't taken yet, and what the editor has and the session
  * hasn't. All places count UTF-16 units here.
  *
- * Both texts are one list of pieces. A piece is of both, of the session's text alone or of the editor's alone. What the editor puts in
- * stands right behind the character that it was put in behind, before what was put in there and isn't taken yet.
+ * Both texts are one list of pieces. A piece is of both, of the session's text alone or of the editor's alone; half a pair of the editor's,
+ * which no room takes, is of both as well, as U+FFFD to the session. What the editor puts in stands right behind the character that it was
+ * put in behind, before what was put in there and isn't taken yet.
  *
  * @typedef {import("./module.js").Change} Change
  * @typedef {import("./count.js").Count} Count
@@ -14,11 +15,17 @@ import { along, difference, differences, joined, runs } from "./module.js";
 class Piece {
   constructor(text, owner) {
     this.text = text;
-    this.owner = owner; // "both", "session" or "editor"
+    this.owner = owner; // "both", "half", "session" or "editor"
   }
 
   isOf(whose) {
-    return this.owner === "both" || this.owner === whose;
+    return this.owner === "both" || this.owner === "half" || this.owner === whose;
+  }
+
+  /** What it is in one of the texts. */
+  textOf(whose) {
+    if (!this.isOf(whose)) return "";
+    return this.owner === "half" && whose === "session" ? "\ufffd".repeat(this.text.length) : this.text;
   }
 
   /** What is between two places, as a piece of its own. */
@@ -38,10 +45,10 @@ class Piece {
 /** How many units of one of the texts a piece is. */
 const unitsOf = (whose) => (piece) => (piece.isOf(whose) ? piece.text.length : 0);
 
-/** The pieces that a text of the editor becomes: half a pair, which no room takes, is U+FFFD to the session. */
+/** The pieces that a text of the editor becomes. */
 function fresh(text) {
-  const parts = text.match(/\p{Surrogate}|\P{Surrogate}+/gu) ?? [];
-  return parts.flatMap((it) => (it.isWellFormed() ? new Piece(it, "both") : [new Piece(it, "editor"), new Piece("\ufffd", "session")]));
+  const parts = text.match(/\p{Surrogate}+|\P{Surrogate}+/gu) ?? [];
+  return parts.map((it) => new Piece(it, it.isWellFormed() ? "both" : "half"));
 }
 
 /**
@@ -64,7 +71,7 @@ export class EditorText {
   }
 
   #textOf(whose, pieces = this.#pieces) {
-    return pieces.map((it) => (it.isOf(whose) ? it.text : "")).join("");
+    return pieces.map((it) => it.textOf(whose)).join("");
   }
 
   /** Whether there is something to take. */
@@ -116,7 +123,7 @@ export class EditorText {
     for (const [change, piece] of along(changes, this.#pieces, unitsOf(whose))) {
       if (piece === null) pieces.push(...puts(change).filter((it) => it.text !== ""));
       else if (change === null || !piece.isOf(whose)) pieces.push(piece);
-      else if (piece.owner === "both" && other !== null) pieces.push(new Piece(piece.text, other));
+      else if (other !== null && piece.isOf(other)) pieces.push(new Piece(piece.textOf(other), other));
     }
     this.#pieces = joined(pieces);
   }
@@ -138,7 +145,7 @@ export class EditorText {
         const goesOn = last !== undefined && last.at + last.removed === place;
         if (!goesOn) found.push({ at: place, removed: 0, text: "", taken: "" });
         found.at(-1).removed += piece.text.length;
-        found.at(-1).taken += piece.text;
+        found.at(-1).taken += piece.textOf("session");
       }
       place += piece.text.length;
     }
@@ -155,9 +162,11 @@ export class EditorText {
     const changes = [];
     let [at, removed, text] = [0, 0, ""];
     for (const piece of [...this.#pieces, new Piece("", "both")]) {
-      if (piece.owner === "editor") removed += size(piece.text, count);
-      if (piece.owner === "session") text += piece.text;
-      if (piece.owner !== "both") continue;
+      if (piece.owner !== "both") {
+        removed += size(piece.textOf("editor"), count);
+        text += piece.textOf("session");
+        continue;
+      }
       if (removed > 0 || text !== "") changes.push([at, removed, text]);
       at += size(text + piece.text, count);
       [removed, text] = [0, ""];

@@ -134,6 +134,10 @@ const text = new EditorText();
 const first = (text, removed = 0, behind = 0) => [{ at: 0, removed, text, behind }];
 text.replace(first("a\udcffb"), (changes) => assert.equal(changes[0].text, "a\ufffdb"));
 assert.deepEqual(text.take(COUNTS.bytes), [[1, 1, "\ufffd"]], "a byte that is no UTF-8 becomes U+FFFD");
+const half = new EditorText();
+half.replace(first("\ud83d"), () => {});
+half.replace(first("😀", 1), (changes) => assert.deepEqual(changes, [{ at: 0, removed: 1, text: "😀", taken: "\ufffd" }]));
+assert.deepEqual(half.take(COUNTS.units), [], "nothing is left of half a pair that is replaced");
 for (const [from, to, caret, wanted] of [
   ["aaa", "aaaa", 1, [[0, 0, "a"]]],
   ["aaa", "aaaa", 3, [[2, 0, "a"]]],
