@@ -188,7 +188,9 @@ So does a list of completions. Who reads a command's name knows none."
 (defun rgatext--ends (last)
   "Nobody carries changes any more. LAST is what the program told."
   (setq rgatext--over last)
-  (rgatext--show (list :state "closed" :words "closed: its program has ended" :ahead (rgatext--is-ahead) :heard rgatext--sent)))
+  (rgatext--show (list :state "closed" :words "closed: its program has ended"
+                       :ahead (if (plist-get last :closed) (not (plist-get last :sent)) (rgatext--is-ahead))
+                       :heard (or (plist-get last :heard) rgatext--sent))))
 
 (defun rgatext--unknown (how)
   "What is known of a program that told nothing. HOW says what became of it."
@@ -203,8 +205,8 @@ So does a list of completions. Who reads a command's name knows none."
 
 (defun rgatext--has-all (seconds)
   "Wait some SECONDS until the room has all that was done here. Whether it has."
-  (let ((answer (rgatext--ask :flush (* 1000 seconds))))
-    (if (plist-get answer :flushed) (plist-get answer :sent) (not (rgatext--is-ahead)))))
+  (rgatext--ask :flush (* 1000 seconds))
+  (not (rgatext--is-ahead)))
 
 (defun rgatext-flush ()
   "Wait until the room has all that was done here, or say what is wrong."

@@ -97,18 +97,18 @@ class Conversation {
     this.#tellState();
   }
 
-  /** What a line asks, by its key: whether the value is right, and what is done. */
+  /** What a line asks, by its key: whether the value is right, and what is done; `answer` tells the answer to it. */
   #asks = {
-    replace: [isChange, (change, isMore, caret) => this.#replace(change, isMore, caret)],
-    take: [isTrue, () => tell({ changes: this.#take() })],
-    undo: [isTrue, () => this.#turn(false)],
-    redo: [isTrue, () => this.#turn(true)],
-    flush: [isTime, (milliseconds) => this.#flush(milliseconds)],
-    unsent: [isTrue, () => tell({ unsent: this.#session.unsent, words: lacking(this.#session) })],
-    text: [isTrue, () => tell({ text: (this.#take(), this.#text.text) })],
-    other: [isTrue, () => this.#tellOther()],
+    replace: [isChange, (change, { more, caret }) => this.#replace(change, more, caret)],
+    take: [isTrue, (_, { answer }) => answer({ changes: this.#take() })],
+    undo: [isTrue, (_, { answer }) => answer(this.#turn(false))],
+    redo: [isTrue, (_, { answer }) => answer(this.#turn(true))],
+    flush: [isTime, (milliseconds, { answer }) => this.#flush(milliseconds, answer)],
+    unsent: [isTrue, (_, { answer }) => answer({ unsent: this.#session.unsent, words: lacking(this.#session) })],
+    text: [isTrue, (_, { answer }) => answer({ text: (this.#take(), this.#text.text) })],
+    other: [isTrue, (_, { answer }) => answer(this.#other())],
     choose: [(it) => it === "mine" || it === "theirs", (whose) => this.#choose(whose)],
-    close: [isTrue, () => this.close()],
+    close: [isTrue, (_, { answer }) => this.close(answer)],
   };
 
   /**
@@ -127,7 +127,7 @@ class Conversation {
   }
 
   #obey(line) {
-    const { more = false, caret = null, ...request } = parsed(line);
+    const { more = false, caret = null, id, ...request } = parsed(line);
     const [[key, value] = [], ...others] = Object.entries(request);
     if (key === undefined || !Object.hasOwn(this.#asks, key)) throw new Wrong(`it asks for nothing that is known: ${key ?? ""}`);
     const [isRight, does] = this.#asks[key];
@@ -137,7 +137,7 @@ class Conversation {
     if (typeof more !== "boolean") throw new Wrong("more is true or false");
     if (caret !== null && !isPlace(caret)) throw new Wrong("a caret is a place");
     if (key !== "replace") this.#makeBatch();
-    does(value, more, caret);
+    does(value, { more, caret, answer: (told, done) => tell(id === undefined ? told : { ...told, id }, done) });
   }
 
   /** The editor has changed its text, where its caret is at a place then. */
@@ -194,7 +194,7 @@ class Conversation {
     };
     this.#change(() => this.#undo.turn(isRedo, this.#session, make));
     const changes = this.#take();
-    tell(caret === null ? { changes } : { changes, caret: size(this.#text.text.slice(0, caret), count) });
+    return caret === null ? { changes } : { changes, caret: size(this.#text.text.slice(0, caret), count) };
   }
 
   #choose(whose) {
@@ -202,15 +202,15 @@ class Conversation {
   }
 
   /** Says whether the room has all that was done here until now: once that is known, in so many milliseconds at most. */
-  #flush(milliseconds) {
+  #flush(milliseconds, answer) {
     const isSent = this.#session.sent().then(() => true, () => false);
     const isLate = pause(inTime("flush", milliseconds), false, { ref: false });
-    Promise.race([isSent, isLate]).then((sent) => tell({ flushed: milliseconds, sent }));
+    Promise.race([isSent, isLate]).then((sent) => answer({ flushed: milliseconds, sent }));
   }
 
-  #tellOther() {
+  #other() {
     const other = this.#session.other?.text ?? null;
-    tell({ other, words: other ?? "the room has no other text" });
+    return { other, words: other ?? "the room has no other text" };
   }
 
   #tellState() {
@@ -231,13 +231,14 @@ class Conversation {
   }
 
   /** Sends what is new, leaves the room, says what it doesn't have, and ends the program. */
-  async close() {
+  async close(answer = tell) {
     if (this.#isClosing) return;
     this.#makeBatch();
     this.#isClosing = true;
-    const sent = await this.#session.close({ flush: ENDING }).catch((fault) => console.error(fault));
-    const ends = () => process.exit(sent === true ? 0 : 1);
-    tell({ closed: true, sent: sent === true, unsent: this.#session.unsent, words: lacking(this.#session) }, ends);
+    await this.#session.close({ flush: ENDING }).catch((fault) => console.error(fault));
+    const { unsent, mayBeLost } = this.#session;
+    const ends = () => process.exit(mayBeLost ? 1 : 0);
+    answer({ closed: true, sent: !mayBeLost, heard: this.#heard, unsent, words: lacking(this.#session) }, ends);
     setTimeout(ends, ENDING); // where nobody reads
   }
 }

@@ -585,6 +585,11 @@ def tries_program_that_is_slow():
         until(lambda: "is still ending" in it.screen, "the program may still tell what is unsent")
         it.stay()
         os.kill(program, signal.SIGCONT)
+        until(lambda: not pathlib.Path(f"/proc/{program}").exists(), "it ends")
+        it.show_unsent()
+        until(lambda: "the room has all" in it.screen, "nothing is unsent")
+        it.ask_to_leave()
+        until(lambda: it.state == "", f"{it.name} is left without a question")
 
 
 def tries_another_text():

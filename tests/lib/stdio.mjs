@@ -142,7 +142,8 @@ class Editor {
   }
 
   async isClosed() {
-    const { closed, ...rest } = await this.hears((it) => it.closed);
+    const { closed, heard, ...rest } = await this.hears((it) => it.closed);
+    this.heard = heard;
     return { ...rest, status: await this.ended };
   }
 }
@@ -181,10 +182,10 @@ async function replacesAtManyPlaces(server) {
   }
 }
 
-/** Steps of changes at random places, in each count, become what a plain list becomes. */
+/** Steps of changes at random places, in each count, become what a plain list becomes; half a pair (the last sign) is U+FFFD. */
 async function stepsAtRandom(server) {
-  const signs = ["a", "\r", "\n", "é", "漢", "😀", "😁"];
-  const counts = { units: (text) => text.length, characters: (text) => [...text].length, bytes: (text) => Buffer.byteLength(text) };
+  const signs = ["a", "\r", "\n", "é", "漢", "😀", "😁", "\ud83d"];
+  const counts = { units: (it) => it.length, characters: () => 1, bytes: (it) => (it === signs.at(-1) ? 1 : Buffer.byteLength(it)) };
   for (const [count, size] of Object.entries(counts)) {
     server.turn(new MemoryRoom());
     const [editor, roll, list] = [new Editor(server, count), dice(7), []];
@@ -192,13 +193,15 @@ async function stepsAtRandom(server) {
       const at = roll(list.length + 1);
       const removed = roll(2) * roll(Math.min(6, list.length - at + 1));
       const put = Array.from({ length: roll(4) }, () => signs[roll(signs.length)]);
-      const places = [list.slice(0, at), list.slice(at, at + removed)].map((it) => size(it.join("")));
+      const places = [list.slice(0, at), list.slice(at, at + removed)].map((it) => it.reduce((sum, sign) => sum + size(sign), 0));
       editor.say({ replace: [...places, put.join("")], more: roll(6) > 0 });
       list.splice(at, removed, ...put);
-      if (roll(40) === 0) assert.equal(await editor.asks({ text: true }, "text"), list.join(""));
+      if (roll(40) > 0) continue;
+      list.splice(0, list.length, ...list.map((it) => it.toWellFormed()));
+      assert.equal(await editor.asks({ text: true }, "text"), list.join(""));
     }
     assert.deepEqual(await editor.closes(), ALL);
-    assert.equal(server.room.text, list.join(""));
+    assert.equal(server.room.text, list.join("").toWellFormed());
     assert.ok(!editor.told.some((it) => "wrong" in it));
     assert.equal(editor.told.findLast(({ heard }) => heard !== undefined).heard, 500);
   }
@@ -214,6 +217,10 @@ async function readsBytesThatAreNoText(server) {
   assert.deepEqual(await editor.asks({ take: true }, "changes"), wanted);
   editor.child.stdin.write(Buffer.from([0x7b, 0xff, 0x7d, 0x0a]));
   assert.deepEqual(await editor.hears((it) => "wrong" in it), { wrong: "line 3: it is no JSON" });
+  for (const [at, removed] of [[1, 1], [2, 1], [2, 0], [8, 0], [7, 1]]) {
+    editor.say({ replace: [at, removed, "x"] });
+    assert.match((await editor.hears((it) => "wrong" in it)).wrong, /inside of a character/, `${at}`);
+  }
   await editor.closes();
   assert.equal(server.room.text, "a\ufffd\ufffdé\ufffd\ufffd\ufffd😀\ufffd\ufffd");
 }
@@ -228,6 +235,7 @@ async function endsWithASignal(server) {
     editor.child.stdin.write(lines.join("")); // more than is read at once
     editor.child.kill(signal);
     assert.deepEqual(await editor.isClosed(), ALL, signal);
+    assert.equal(editor.heard, 600, signal);
     assert.equal(server.room.text, "abc".repeat(200), signal);
   }
 }
@@ -256,6 +264,49 @@ async function flushesWhatWasBefore(server) {
   editor.say({ flush: 0 });
   assert.match((await editor.hears((it) => "wrong" in it)).wrong, /the value of flush/);
   assert.equal((await editor.closes()).status, 0);
+}
+
+/** Where the room takes nothing more `flush` says at once whether it has all: also where it does, or what was typed is refused. */
+async function flushesAtAFullRoom(server) {
+  const flushed = async (editor, ...requests) => {
+    editor.say(...requests, { flush: 60_000 });
+    return (await editor.hears((it) => "flushed" in it)).sent;
+  };
+  server.turn(roomOf("x".repeat(131_068)));
+  const [late, editor] = [new Editor(server), new Editor(server)];
+  for (const it of [late, editor]) await it.comesTo("up to date");
+  server.isSilent = true;
+  late.say({ replace: [0, 0, "late"] });
+  await late.comesTo("no answer");
+  const { s, v } = server.room.answer({ t: "join" });
+  server.room.answer({ t: "ins", s, n: 1, v, k: 0, x: "full" });
+  server.isSilent = false;
+  server.turn(server.room);
+  assert.match((await editor.comesTo("refused")).why, /full/);
+  assert.equal(await flushed(editor), true, "the room has all");
+  assert.equal(await flushed(editor, { replace: [0, 0, "no"] }), true, "what is refused isn't done");
+  assert.match((await late.comesTo("refused")).why, /full/);
+  assert.equal(await flushed(late), false, "it doesn't have what is late");
+  assert.equal((await editor.closes()).sent, true);
+  assert.equal((await late.closes()).sent, false);
+}
+
+/** An answer has the `id` of its request. */
+async function answersById(server) {
+  server.turn(new MemoryRoom());
+  const editor = new Editor(server);
+  await editor.comesTo("up to date");
+  server.isSilent = true;
+  editor.say({ replace: [0, 0, "a"], id: 0 }, { flush: 100, id: 1 }, { flush: 100, id: [2] }, { text: true, id: "3" }, { take: true });
+  assert.deepEqual(await editor.hears((it) => "text" in it), { text: "a", id: "3" });
+  assert.deepEqual(await editor.hears((it) => "changes" in it), { changes: [] });
+  for (const id of [1, [2]]) assert.deepEqual(await editor.hears((it) => "flushed" in it), { flushed: 100, sent: false, id });
+  server.isSilent = false;
+  server.turn(server.room);
+  editor.say({ undo: true, id: null }, { close: true, id: { n: 4 } });
+  assert.deepEqual(await editor.hears((it) => "changes" in it), { changes: [[0, 1, ""]], caret: 0, id: null });
+  const { id, heard, sent } = await editor.hears((it) => it.closed);
+  assert.deepEqual({ id, heard, sent }, { id: { n: 4 }, heard: 1, sent: true });
 }
 
 /** Each state tells how many changes were made or refused before, and what the user is told; so do answers that are shown. */
@@ -330,6 +381,7 @@ async function endsBeforeItIsThere(server) {
 const server = await new Server().listen();
 const attempts = [tellsInWords, flushesWhatWasBefore, givesUpAtAnotherText, endsBeforeItIsThere, endsWithASignal, readsBytesThatAreNoText];
 attempts.push(stepsAtRandom, replacesAtManyPlaces);
+attempts.push(flushesAtAFullRoom, answersById);
 for (const attempt of attempts) await attempt(server);
 server.close();
 console.log("tests/lib/stdio.mjs: many places, signals, flushes, ends, bytes, and another text");

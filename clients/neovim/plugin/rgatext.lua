@@ -34,6 +34,7 @@ function Room:receive(line)
   local told = vim.json.decode(line)
   if told.closed then
     self.closed = told
+    self:ends("has ended")
   elseif told.state or told.news or told.refused or told.wrong then
     vim.schedule(function() self:hear(told) end)
   else
@@ -87,7 +88,9 @@ function Room:ends(how)
   self.over = how
   vim.schedule(function()
     if not self:is_there() then return end
-    self:show({ state = "closed", words = "closed: its program has ended", ahead = vim.bo[self.buffer].modified, heard = self.sent })
+    local last = self.closed or { sent = not vim.bo[self.buffer].modified, heard = self.sent }
+    local ahead = not last.sent or self:whole() ~= self.text
+    self:show({ state = "closed", words = "closed: its program has ended", ahead = ahead, heard = last.heard })
   end)
 end
 
