@@ -117,7 +117,7 @@ What is no character of a text becomes U+FFFD."
   "Tell what is untold. What is changed next isn't of the same command."
   (dolist (it (rgatext--rooms))
     (with-current-buffer it
-      (if rgatext--seen (rgatext--tell-untold) (rgatext--give-up)) ; (another hook ended in an error while changes were made)
+      (if (or rgatext--seen rgatext--over) (rgatext--tell-untold) (rgatext--give-up)) ; (an error ended `rgatext--play')
       (unless (minibufferp (window-buffer)) (setq rgatext--is-more nil)))))
 
 (defun rgatext--play (key)
@@ -137,7 +137,8 @@ Point and markers stay where they are in the text. Gives the answer."
               (goto-char (1+ at))
               (delete-region (point) (+ (point) removed))
               (insert text)))))
-      (setq rgatext--seen (rgatext--stamp))
+      (setq rgatext--seen (rgatext--stamp)
+            last-abbrev-text nil) ; (`unexpand-abbrev' goes by a number)
       (rgatext--show rgatext--told)
       answer)))
 

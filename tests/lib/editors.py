@@ -368,6 +368,14 @@ def tries_waiting_in_commands():
             if "six" in wanted:
                 it.undo()
             same("undone", "one two\none two")
+        it.clear()
+        it.keys(["M-:"], '(progn (define-global-abbrev "foo" "bar") (insert "foo") (expand-abbrev))', ["Enter"])
+        same("an abbreviation", "bar")
+        other.put("> ")
+        same("others' text before it", "> bar")
+        it.do("unexpand-abbrev")
+        it.put("!", is_end=True)
+        same("others' text stays", "> bar!")
         clear("waiting in commands")
 
 
