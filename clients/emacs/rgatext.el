@@ -117,7 +117,7 @@ What is no character of a text becomes U+FFFD."
   "Tell what is untold. What is changed next isn't of the same command."
   (dolist (it (rgatext--rooms))
     (with-current-buffer it
-      (if (or rgatext--seen rgatext--over) (rgatext--tell-untold) (rgatext--give-up)) ; (an error ended `rgatext--play')
+      (rgatext--tell-untold)
       (unless (minibufferp (window-buffer)) (setq rgatext--is-more nil)))))
 
 (defun rgatext--play (key)
@@ -129,16 +129,18 @@ Point and markers stay where they are in the text. Gives the answer."
            (deactivate-mark nil)
            (answer (rgatext--ask key t)))
       (setq rgatext--seen nil)
-      (save-match-data
-        (save-excursion
-          (save-restriction
-            (widen)
-            (pcase-dolist (`(,at ,removed ,text) (plist-get answer :changes))
-              (goto-char (1+ at))
-              (delete-region (point) (+ (point) removed))
-              (insert text)))))
-      (setq rgatext--seen (rgatext--stamp)
-            last-abbrev-text nil) ; (`unexpand-abbrev' goes by a number)
+      (unwind-protect
+          (save-match-data
+            (save-excursion
+              (save-restriction
+                (widen)
+                (pcase-dolist (`(,at ,removed ,text) (plist-get answer :changes))
+                  (goto-char (1+ at))
+                  (delete-region (point) (+ (point) removed))
+                  (insert text))
+                (setq rgatext--seen (rgatext--stamp)
+                      last-abbrev-text nil)))) ; (`unexpand-abbrev' goes by a number)
+        (unless rgatext--seen (rgatext--give-up))) ; (another's hook ended in an error)
       (rgatext--show rgatext--told)
       answer)))
 
