@@ -20,12 +20,13 @@
 (defvar-local rgatext--over nil "What the program told at its end, where it carries no changes any more.")
 (defvar-local rgatext--sent 0 "How many changes were sent.")
 (defvar-local rgatext--is-more nil "Whether something was changed since a command began.")
-(defvar-local rgatext--seen nil "What `rgatext--stamp' gave of the text that the program knows; nil while its changes are made.")
+(defvar-local rgatext--seen nil "The `rgatext--stamp' of the text that the program knows; nil while it changes.")
 
 (defun rgatext--send (&rest request)
   "Send a REQUEST, a list of keys and values."
-  (unless rgatext--over
-    (process-send-string rgatext--process (concat (json-serialize request) "\n"))))
+  (let ((line (concat (json-serialize request) "\n")))
+    (unless rgatext--over
+      (ignore-errors (process-send-string rgatext--process line))))) ; (that the program has ended is told soon)
 
 (defun rgatext--receive (process output)
   "Hear each whole line of the OUTPUT of a PROCESS."
@@ -109,16 +110,13 @@ What is no character of a text becomes U+FFFD."
     (unless (equal rgatext--seen (rgatext--stamp))
       (rgatext--tell 1 (1+ (buffer-size)) (cdr rgatext--seen)))))
 
-(defun rgatext--rooms ()
-  "The buffers of rooms."
-  (seq-filter (lambda (it) (and (buffer-local-value 'rgatext--process it) (not (buffer-base-buffer it)))) (buffer-list)))
-
 (defun rgatext--command-ends ()
   "Tell what is untold. What is changed next isn't of the same command."
-  (dolist (it (rgatext--rooms))
-    (with-current-buffer it
-      (rgatext--tell-untold)
-      (unless (minibufferp (window-buffer)) (setq rgatext--is-more nil)))))
+  (dolist (it (buffer-list))
+    (when (buffer-local-value 'rgatext--process it)
+      (with-current-buffer it
+        (rgatext--tell-untold)
+        (unless (minibufferp (window-buffer)) (setq rgatext--is-more nil))))))
 
 (defun rgatext--play (key)
   "Make the changes that a request by a KEY brings to the room.
@@ -144,19 +142,16 @@ Point and markers stay where they are in the text. Gives the answer."
       (rgatext--show rgatext--told)
       answer)))
 
-(defun rgatext--is-busy ()
-  "Whether a command waits for its user: it may know places by their numbers.
-So does a list of completions. Who reads a command's name knows none."
-  (or this-command
-      (> (recursion-depth) (if (eq minibuffer-history-variable 'extended-command-history) 1 0))
-      (get-buffer-window "*Completions*" 'visible)))
-
 (defun rgatext--take (buffer)
-  "Take what others did into a room's BUFFER, as soon as Emacs isn't busy."
-  (when (buffer-live-p buffer)
-    (if (rgatext--is-busy)
-        (run-with-timer 0.1 nil #'rgatext--take buffer)
-      (with-current-buffer buffer (rgatext--play :take)))))
+  "Take what others did in a room's BUFFER, once no command waits for its user.
+It may know places by their numbers, as a list of completions does.
+That which reads a command's name knows none."
+  (cond ((not (buffer-live-p buffer)))
+        ((or this-command
+             (> (recursion-depth) (if (eq minibuffer-history-variable 'extended-command-history) 1 0))
+             (get-buffer-window "*Completions*" 'visible))
+         (run-with-timer 0.1 nil #'rgatext--take buffer))
+        (t (with-current-buffer buffer (rgatext--play :take)))))
 
 (defun rgatext--turn (key times)
   "Ask KEY so many TIMES, `:undo' or `:redo', and go where it changes something."
@@ -221,11 +216,12 @@ So does a list of completions. Who reads a command's name knows none."
 
 (defun rgatext--may-leave ()
   "Whether the room has all, or the user leaves it all the same."
-  (or (null rgatext--process) (buffer-base-buffer) (rgatext--has-all 2) (yes-or-no-p (format "Some text of %s isn't in the room. Leave it? " (buffer-name)))))
+  (or (null rgatext--process) (buffer-base-buffer) (rgatext--has-all 2)
+      (yes-or-no-p (format "Some text of %s isn't in the room. Leave it? " (buffer-name)))))
 
 (defun rgatext--may-leave-all ()
   "Whether Emacs may end."
-  (seq-every-p (lambda (it) (with-current-buffer it (rgatext--may-leave))) (rgatext--rooms)))
+  (seq-every-p (lambda (it) (with-current-buffer it (rgatext--may-leave))) (buffer-list)))
 
 (defun rgatext-unsent ()
   "Show what was done here and the room isn't known to have."
