@@ -307,7 +307,7 @@ def tries_untold_changes():
                 it.undo()
                 same("typed in a clone and undone", "> one é")
                 it.redo()
-                assert "(Fundamental up to date)" in it.screen, it.screen
+                until(lambda: "(Fundamental up to date)" in it.screen, "a clone's mode line tells the state")
             it.keys(["C-x"], "k", ["Enter"])
             it.keys(["C-x"], f"b{it.buffer}", ["Enter"])
             other.undo()
@@ -399,7 +399,7 @@ def tries_commands():
                 it.do(command)
                 until(lambda: refuses in it.screen, f"{command} is refused")
                 it.stay()
-            it.do(f"w! {work}/copy")
+            it.do(f"set cpoptions+=+ | write! {work}/copy")
             it.do("quit")
             until(lambda: "E37" in it.screen, "it isn't left for a copy")
             it.stay()

@@ -243,12 +243,17 @@ command("Theirs", { choose = "theirs" })
 command("Mine", { choose = "mine" })
 
 local group = api.nvim_create_augroup("rgatext", {})
-local function on(event, does) api.nvim_create_autocmd(event, { group = group, pattern = { "ws://*", "wss://*" }, callback = does }) end
-on("BufReadCmd", function(it) open(it.buf) end)
-for event, does in pairs({ BufWriteCmd = Room.write, BufUnload = Room.leave }) do
-  on(event, function(it)
-    if rooms[it.buf] then does(rooms[it.buf]) end
-  end)
+local function on(event, does, pattern)
+  api.nvim_create_autocmd(event, { group = group, pattern = pattern or { "ws://*", "wss://*" }, callback = does })
 end
-vim.cmd("autocmd rgatext BufFilePre ws://*,wss://* throw 'rgatext: a room keeps its name; :w FILE saves a copy'") -- (Lua can't stop it)
+local function of_room(does)
+  return function(it)
+    if rooms[it.buf] then does(rooms[it.buf]) end
+  end
+end
+on("BufReadCmd", function(it) open(it.buf) end)
+on("BufWriteCmd", of_room(Room.write))
+on("BufWritePost", of_room(Room.keep_in_step), "*") -- (a copy may set 'modified' off)
+on("BufUnload", of_room(Room.leave))
 on("BufWinEnter", function() vim.wo.statusline = "%<%f  %{get(b:,'rgatext','')} %m%=%l,%c" end)
+vim.cmd("autocmd rgatext BufFilePre ws://*,wss://* throw 'rgatext: a room keeps its name; :w FILE saves a copy'") -- (Lua can't stop it)
