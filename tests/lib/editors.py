@@ -368,6 +368,11 @@ def tries_waiting_in_commands():
             if "six" in wanted:
                 it.undo()
             same("undone", "one two\none two")
+        it.keys(["C-u", "C-\\"], "latin-1-prefix", ["Enter"], ["M-<"], "'")
+        other.put(" <", is_end=True)
+        time.sleep(3)
+        it.keys("e", ["C-\\"])
+        same("what an input method composes", "éone two\none two <")
         it.clear()
         it.keys(["M-:"], '(progn (define-global-abbrev "foo" "bar") (insert "foo") (expand-abbrev))', ["Enter"])
         same("an abbreviation", "bar")
