@@ -107,6 +107,7 @@ What is no character of a text becomes U+FFFD."
 (defun rgatext--tell-untold (&rest _)
   "Tell the whole text where it was changed and no hook told of it."
   (with-current-buffer (rgatext--room)
+    (unless enable-multibyte-characters (set-buffer-multibyte t)) ; places are characters
     (unless (equal rgatext--seen (rgatext--stamp))
       (rgatext--tell 1 (1+ (buffer-size)) (cdr rgatext--seen)))))
 

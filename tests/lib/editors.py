@@ -286,6 +286,7 @@ def tries_untold_changes():
         for does, wanted in (
             ("(encode-coding-region 1 (point-max) 'utf-8)", "one \ufffd\ufffd"),
             ("(decode-coding-region 1 (point-max) 'utf-8)", "one é"),
+            ("(set-buffer-multibyte nil)", "one é"),
             ("(recode-region 1 (point-max) 'latin-1 'utf-8)", "one Ã©"),
             ("(let ((inhibit-modification-hooks t)) (insert \"x\"))", "one xé"),
             ("(let ((inhibit-modification-hooks t)) (subst-char-in-region 1 4 ?n ?N) (delete-char -1))", "oNeé"),
