@@ -12,6 +12,9 @@
 import { size } from "./count.js";
 import { along, difference, differences, joined, runs } from "./module.js";
 
+/** What each half of a pair is here: so two of them that come one by one are no pair. */
+const HALF = "\udc00";
+
 class Piece {
   constructor(text, owner) {
     this.text = text;
@@ -48,7 +51,7 @@ const unitsOf = (whose) => (piece) => (piece.isOf(whose) ? piece.text.length : 0
 /** The pieces that a text of the editor becomes. */
 function fresh(text) {
   const parts = text.match(/\p{Surrogate}+|\P{Surrogate}+/gu) ?? [];
-  return parts.map((it) => new Piece(it, it.isWellFormed() ? "both" : "half"));
+  return parts.map((it) => new Piece(it, it.startsWith(HALF) ? "half" : "both"));
 }
 
 /**
@@ -106,7 +109,7 @@ export class EditorText {
   replace(edits, make) {
     const { text: whole } = this;
     const changes = edits.flatMap(({ at, removed, text, behind }) =>
-      differing(whole.slice(at, at + removed), text, behind).map((it) => ({ ...it, at: at + it.at })),
+      differing(whole.slice(at, at + removed), text.replace(/\p{Surrogate}/gu, HALF), behind).map((it) => ({ ...it, at: at + it.at })),
     );
     try {
       make(this.#inSession(changes));

@@ -138,6 +138,9 @@ const half = new EditorText();
 half.replace(first("\ud83d"), () => {});
 half.replace(first("😀", 1), (changes) => assert.deepEqual(changes, [{ at: 0, removed: 1, text: "😀", taken: "\ufffd" }]));
 assert.deepEqual(half.take(COUNTS.units), [], "nothing is left of half a pair that is replaced");
+half.replace(first("\ud83d", 2), () => {});
+half.replace([{ at: 1, removed: 0, text: "\ude00", behind: 0 }], () => {});
+assert.deepEqual(half.take(COUNTS.bytes), [[0, 2, "\ufffd\ufffd"]], "halves that came one by one are no pair");
 for (const [from, to, caret, wanted] of [
   ["aaa", "aaaa", 1, [[0, 0, "a"]]],
   ["aaa", "aaaa", 3, [[2, 0, "a"]]],
