@@ -341,6 +341,14 @@ def tries_waiting():
         same("Backspace in Replace mode leaves what others put in", "oZne two")
         it.keys("gg0RXY", ["Escape"])
         same("what was typed over", "XYne two")
+        it.keys("gg0aab")
+        same("what is typed", "XabYne two")
+        other.put(">> ")
+        same("others' text before it", ">> XabYne two")
+        it.keys(["C-u"], "c", ["Escape"])
+        same("CTRL-U deletes what was typed", ">> XcYne two")
+        it.keys("gg$a!", ["C-u", "C-u"], "d", ["Escape"])
+        same("and then the line before it", "d")
         clear("waiting")
 
 

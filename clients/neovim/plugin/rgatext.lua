@@ -2,7 +2,7 @@
 local api, fn, uv = vim.api, vim.fn, vim.loop
 local folder = fn.fnamemodify(debug.getinfo(1, "S").source:sub(2), ":p:h:h:h")
 local program = { "--experimental-websocket", "--no-warnings", folder .. "/stdio/rgatext-stdio.mjs" }
-local carets = api.nvim_create_namespace("rgatext")
+local carets, began = api.nvim_create_namespace("rgatext"), api.nvim_create_namespace("rgatext began")
 
 -- Milliseconds: until it is told that the program is waited for, until the room has all, and until a busy editor is looked at again.
 local ANSWER, SENDING, BUSY = 2000, 5000, 50
@@ -180,6 +180,20 @@ function Room:turn(does)
   end
 end
 
+-- Insert mode begins.
+function Room:begin()
+  api.nvim_buf_set_extmark(self.buffer, began, fn.line(".") - 1, fn.col(".") - 1, { id = 1, right_gravity = false })
+end
+
+-- Deletes back to where Insert mode began, or else the line before the caret: CTRL-U knows that place by its column.
+function Room:erase()
+  local row, column = fn.line(".") - 1, fn.col(".") - 1
+  local at = api.nvim_buf_get_extmark_by_id(self.buffer, began, 1, {})
+  local start = at[1] == row and at[2] < column and at[2] or 0
+  api.nvim_buf_set_text(self.buffer, row, start, row, column, { "" })
+  fn.cursor(row + 1, start + 1)
+end
+
 -- Waits until the room has all that was done here, or says what is wrong.
 function Room:write()
   self:step()
@@ -225,6 +239,7 @@ local function open(buffer)
   for key, does in pairs({ u = "undo", U = "undo", ["<C-r>"] = "redo" }) do
     vim.keymap.set("n", key, function() self:turn(does) end, { buffer = buffer })
   end
+  vim.keymap.set("i", "<C-u>", function() self:erase() end, { buffer = buffer })
 end
 
 -- A command for the room of the current buffer.
@@ -255,5 +270,6 @@ on("BufReadCmd", function(it) open(it.buf) end)
 on("BufWriteCmd", of_room(Room.write))
 on("BufWritePost", of_room(Room.keep_in_step), "*") -- (a copy may set 'modified' off)
 on("BufUnload", of_room(Room.leave))
+on("InsertEnter", of_room(Room.begin))
 on("BufWinEnter", function() vim.wo.statusline = "%<%f  %{get(b:,'rgatext','')} %m%=%l,%c" end)
 vim.cmd("autocmd rgatext BufFilePre ws://*,wss://* throw 'rgatext: a room keeps its name; :w FILE saves a copy'") -- (Lua can't stop it)
