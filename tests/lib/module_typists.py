@@ -1,4 +1,4 @@
-"""Editors of the module of clients/js that type, all in one Node, for bin/soak_clients."""
+"""Editors of the module of clients/js that type, for bin/soak_clients and bin/soak_renewing."""
 import json
 import pathlib
 import subprocess
@@ -14,6 +14,11 @@ def has_node():
         return int(subprocess.run(["node", "--version"], capture_output=True, text=True).stdout[1:].split(".")[0]) >= 20
     except (OSError, ValueError):
         return False
+
+
+def module_typists(texts, processes, *further):
+    """Such editors in groups, a Node process for each, so that one doesn't wait for another's work."""
+    return [ModuleTypists(texts[n::processes], *further) for n in range(min(processes, len(texts)))]
 
 
 class ModuleTypists:
