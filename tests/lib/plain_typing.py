@@ -1,4 +1,5 @@
-"""Editors of clients/python/client.py that type, a thread for each, for bin/soak_clients."""
+"""Editors of clients/python/client.py that type, a thread for each, for bin/soak_clients. The arguments are the port, and whether they
+type words; a line of input tells what to do, and each line of output is what one did."""
 import json
 import pathlib
 import random
@@ -38,20 +39,24 @@ class Line:
 class PlainTypist(threading.Thread):
     """Types and deletes at random. In another run of the server it puts in what that lacks of its own."""
 
-    def __init__(self, who, text, port, tally, is_of_words, quick=0):
+    def __init__(self, port, is_of_words, who, text, quick=0, answer=None):
         super().__init__(daemon=True)
-        self.who, self.text, self.port, self.tally, self.is_of_words, self.quick = who, text, port, tally, is_of_words, quick
+        self.port, self.is_of_words, self.who, self.text, self.quick = port, is_of_words, who, text, quick
         self.dice, self.used = random.Random(who), 0
-        self.is_typing, self.is_open, self.fault = True, True, ""
-        self.state, self.asked = "joining", 0
-        self.left, self.away = None, []  # since when it can't type; until when, and for how many seconds, it couldn't
+        self.is_typing, self.is_open = True, True
+        self.state = "joining"
+        self.left = None  # since when it can't type
         self.start()
+
+    def tell(self, **what):
+        sys.stdout.write(json.dumps({"who": self.who, **what}) + "\n")
+        sys.stdout.flush()
 
     def run(self):
         try:
             self.serve(Line(self.port))
-        except Exception:  # (the soak tells it at the end)
-            self.fault = traceback.format_exc()
+        except Exception:
+            self.tell(fault=traceback.format_exc())
 
     def serve(self, line):
         while True:
@@ -72,7 +77,7 @@ class PlainTypist(threading.Thread):
         if self.state != "up to date":
             self.left = self.left or begun
         elif self.left or time.monotonic() > begun + 1:
-            self.away.append((time.monotonic(), time.monotonic() - (self.left or begun)))
+            self.tell(away=1_000 * (time.monotonic() - (self.left or begun)))
             self.left = None
 
     def try_to(self, does):
@@ -119,7 +124,7 @@ class PlainTypist(threading.Thread):
             raise
         finally:
             if not is_full:
-                self.tally.note(self.who, put=put, taken="".join(taken), left="".join(left), right="".join(right))
+                self.tell(put=put, taken="".join(taken), left="".join(left), right="".join(right))
 
     def report(self):
         session = getattr(self, "session", None)
@@ -127,37 +132,30 @@ class PlainTypist(threading.Thread):
         text = "".join(session.text) if session else ""
         return {"state": self.state, "text": text, "isAhead": is_ahead, "asked": 0, "differs": 0}
 
+    def go_on(self, text):
+        """Types again, another text."""
+        self.text, self.used, self.is_typing = text, 0, True
 
-class PlainTypists:
-    """Some of them."""
 
-    ended = 0
+def listen(port, is_of_words):
+    """Does what the input tells, and ends with it."""
+    typists = {}
+    for line in sys.stdin:
+        told = json.loads(line)
+        for it in told.get("begin", ()):
+            typists[it["who"]] = PlainTypist(port, is_of_words, **it)
+        for it in told.get("further", ()):
+            typists[it["who"]].go_on(it["text"])
+        for it in typists.values():
+            it.is_typing = it.is_typing and "end" not in told
+            it.is_open = "close" not in told
+            if "report" in told:
+                it.tell(report=it.report())
+        if "close" in told:
+            break
+    for it in typists.values():
+        it.join(5)
 
-    def __init__(self, texts, port, tally, is_of_words):
-        self.who = [it["who"] for it in texts]
-        self.typists = [PlainTypist(it["who"], it["text"], port, tally, is_of_words, it.get("quick", 0)) for it in texts]
 
-    @property
-    def faults(self):
-        return [(it.who, it.fault) for it in self.typists if it.fault]
-
-    @property
-    def away(self):
-        return [told for it in self.typists for told in it.away]
-
-    def report(self):
-        self.reports = {it.who: it.report() for it in self.typists}
-        return self.reports
-
-    def go_on(self, texts):
-        """Each types again, another text."""
-        for typist, it in zip(self.typists, texts):
-            typist.text, typist.used, typist.is_typing = it["text"], 0, True
-
-    def end(self):
-        for it in self.typists:
-            it.is_typing = False
-
-    def close(self):
-        for it in self.typists:
-            it.is_open = False
+if __name__ == "__main__":
+    listen(int(sys.argv[1]), sys.argv[2] == "words")

@@ -1,11 +1,12 @@
-"""Editors of the module of clients/js that type, for bin/soak_clients and bin/soak_renewing."""
+"""Editors that type, each some of them in a process of its own, for bin/soak_clients and bin/soak_renewing."""
 import json
 import pathlib
 import subprocess
+import sys
 import threading
 import time
 
-TOP = pathlib.Path(__file__).resolve().parents[2]
+HERE = pathlib.Path(__file__).resolve().parent
 
 
 def has_node():
@@ -16,21 +17,33 @@ def has_node():
         return False
 
 
-def module_typists(texts, processes, *further):
-    """Such editors in groups, a Node process for each, so that one doesn't wait for another's work."""
-    return [ModuleTypists(texts[n::processes], *further) for n in range(min(processes, len(texts)))]
+def module_typists(texts, processes, port, tally, module, is_of_words):
+    """Editors of a module like clients/js, in so many processes."""
+    has_socket = "--experimental-websocket" in subprocess.run(["node", "--help"], capture_output=True, text=True).stdout
+    words = ["node", *["--experimental-websocket"] * has_socket, "--no-warnings", str(HERE / "typing.mjs"), module]
+    return apart(texts, processes, [*words, f"ws://127.0.0.1:{port}", kind(is_of_words)], tally)
 
 
-class ModuleTypists:
-    """Editors of the module, all in one Node."""
+def plain_typists(texts, processes, port, tally, is_of_words):
+    """Editors of clients/python/client.py, in so many processes."""
+    return apart(texts, processes, [sys.executable, "-B", str(HERE / "plain_typing.py"), str(port), kind(is_of_words)], tally)
 
-    def __init__(self, texts, port, tally, module, is_of_words):
+
+def apart(texts, processes, words, tally):
+    return [Typists(texts[n::processes], words, tally) for n in range(min(processes, len(texts)))]
+
+
+def kind(is_of_words):
+    return "words" if is_of_words else "unique"
+
+
+class Typists:
+    """Editors that a program has. It is told by a line of input what to do, and tells by one of output what one of them did."""
+
+    def __init__(self, texts, words, tally):
         self.tally, self.reports, self.faults, self.ended = tally, {}, [], 0
         self.away = []  # until when, and how many seconds, each was away that is quick
         self.who = [it["who"] for it in texts]
-        has_socket = "--experimental-websocket" in subprocess.run(["node", "--help"], capture_output=True, text=True).stdout
-        words = ["node", *["--experimental-websocket"] * has_socket, "--no-warnings", str(TOP / "tests" / "lib" / "typing.mjs")]
-        words += [module, f"ws://127.0.0.1:{port}", "words" if is_of_words else "unique"]
         self.run = subprocess.Popen(words, stdin=subprocess.PIPE, stdout=subprocess.PIPE, text=True, encoding="utf-8")
         threading.Thread(target=self.listen, daemon=True).start()
         self.say(begin=texts)
