@@ -13,6 +13,7 @@ from client import Full, JoinAnew, Lost, Refused, Session  # noqa: E402
 from serving import WebSocket  # noqa: E402
 
 SILENT = 3  # seconds until an answer is missed
+telling = threading.Lock()  # so that lines of output stay whole
 
 
 class Line:
@@ -49,8 +50,8 @@ class PlainTypist(threading.Thread):
         self.start()
 
     def tell(self, **what):
-        sys.stdout.write(json.dumps({"who": self.who, **what}) + "\n")
-        sys.stdout.flush()
+        with telling:
+            print(json.dumps({"who": self.who, **what}), flush=True)
 
     def run(self):
         try:
