@@ -7,6 +7,7 @@ import difflib
 MOST = 64  # characters of a submission, edits of a pull, operations of a reply
 REMEMBERED = 8_192  # edits, at least
 PENDING = 1 << 32  # a version above all others
+PIECE = 16  # characters that two don't put in at one time
 COMPARED = 100_000  # pairs of characters, where two texts differ, that are looked at one by one, at most
 
 Operation = collections.namedtuple("Operation", "stamp char place")  # no character where it deletes; the stamp that it stands behind or deletes
@@ -269,9 +270,10 @@ class Past:
         if kept is None:
             now = [it for it in order if it.is_at(PENDING - 1)]
             set_places(now, text)
-            own = [it.place is not None for it in now if it.is_own]
+            sure = last_in_a_piece(now, self.version)
+            own = [it.place is not None for it in now if it.is_own and it.put > sure]
             if 2 * sum(own) < len(own):
-                until = self.version  # the room was written of a text before those that are remembered
+                until = sure  # the room was written of a text before what was put in last, or before those that are remembered
                 for it in order:
                     it.place = None
             else:
@@ -314,6 +316,20 @@ def set_pending(order, text):
         for one in pending:
             one.place = None if one.place is None else start + one.place
         pending, start = [], end + 1
+
+
+def last_in_a_piece(elements, version):
+    """Which version put in the last of what oneself did behind one that is surely in the text in which these elements are placed: in a piece
+    there. That one, where nothing is."""
+    piece = []
+    for it in (*elements, None):
+        is_there = it is not None and it.is_own and it.place is not None
+        if not (is_there and piece and it.place == piece[-1].place + 1):
+            if len(piece) >= PIECE:
+                version = max(version, *(one.put for one in piece))
+            piece = []
+        piece += [it] * is_there
+    return version
 
 
 def lacking(order, version):
