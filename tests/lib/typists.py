@@ -89,8 +89,8 @@ class Typists:
         self.say(end=True)
 
     def close(self):
-        self.say(close=True)
         try:
+            self.say(close=True)
             self.run.wait(10)
-        except subprocess.TimeoutExpired:
+        except (OSError, subprocess.TimeoutExpired):  # (it may have ended)
             self.run.kill()
