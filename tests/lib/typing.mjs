@@ -20,7 +20,7 @@ createInterface({ input: process.stdin })
     const { begin, further, clear, end, report, close: isOver } = JSON.parse(line);
     for (const it of begin ?? []) typists.push(new Typist({ module, open, tell, isOfWords: words === "words" }, it));
     for (const { who, text } of further ?? []) typists.find((it) => it.who === who).goOn(text);
-    if (clear) typists[0].change(0, typists[0].outside(Math.min(clear, typists[0].shown.length)), "");
+    if (clear) typists[0].clear(...clear);
     for (const it of typists) {
       if (end) it.isTyping = false;
       if (report) it.tell({ report: it.report });

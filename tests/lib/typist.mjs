@@ -95,6 +95,12 @@ export class Typist {
     return isInside(this.shown, at) ? at - 1 : at;
   }
 
+  /** Takes so many units out from a place on, where there are as many. */
+  clear(at, count) {
+    const [start, end] = [at, at + count].map((it) => this.outside(Math.min(it, this.shown.length)));
+    if (end > start) this.change(start, end - start, "");
+  }
+
   async put() {
     if (roll(10) < 3) this.caret = this.outside(roll(this.shown.length + 1));
     const count = this.quick ? 1 + roll(2 * this.quick) : roll(50) === 0 ? 65 + roll(70) : 1 + roll(5);

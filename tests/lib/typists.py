@@ -81,9 +81,9 @@ class Typists:
         """Each types again, another text."""
         self.say(further=texts)
 
-    def clear(self, count):
-        """The first one takes so many units out."""
-        self.say(clear=count)
+    def clear(self, at, count):
+        """The first one takes so many units out, from a place on."""
+        self.say(clear=[at, count])
 
     def end(self):
         self.say(end=True)
