@@ -137,9 +137,10 @@ export class Typist {
     this.isTaken(() => this.undo.turn(isRedo, this.session, make));
   }
 
-  /** Types again, a text in place of what was left. */
+  /** Types again, a text in place of what was left. What was done before isn't undone any more. */
   goOn(text) {
-    Object.assign(this, { supply: [...text], used: 0, isTyping: true });
+    Object.assign(this, { supply: [...text], used: 0, isTyping: true, undo: new this.module.Undo() });
+    this.undo.follow([{ at: 0, removed: 0, text: this.shown }]);
     this.type().catch((fault) => this.tell({ fault: `${fault.stack}` }));
   }
 
