@@ -50,11 +50,18 @@ export class Typist {
     if (session.other === null) return;
     try {
       if (this.answer === "mine") session.putMine();
-      else session.takeTheirs();
+      else this.takeTheirs(session);
     } catch (fault) {
       if (!this.isRefusal(fault)) throw fault;
     }
     setTimeout(() => this.choose(session), 1_000); // where the room has changed in the meantime
+  }
+
+  /** What the user lets go of is told as taken out. */
+  takeTheirs(session) {
+    const dropped = session.unsent.map(({ kind, text }) => (kind === "put in" ? text : "")).join("");
+    session.takeTheirs();
+    this.tell({ put: "", taken: dropped, left: "", right: "", undone: false });
   }
 
   isRefusal(fault) {
