@@ -268,8 +268,9 @@ class Past:
         goes_on = common == self.first + len(self.log)
         until = len(log) if goes_on else kept
         if kept is None:
+            first = written(log)  # what came behind it the log tells
             now = [it for it in order if it.is_at(PENDING - 1)]
-            set_places(now, text)
+            set_places(now, first)
             sure = last_in_a_piece(now, self.version)
             own = [it.place is not None for it in now if it.is_own and it.put > sure]
             if 2 * sum(own) < len(own):
@@ -277,14 +278,17 @@ class Past:
                 for it in order:
                     it.place = None
             else:
-                set_pending(order, text)
+                set_pending(order, first)
         there = [] if until is None else [it for it in order if it.is_at(until)]
-        if begin is None:
+        if kept is None:
+            set_places(there, first)
+            carry_places(order, log)
+        elif begin is None:
             set_places(there, text)
         else:
             for it, stamp in zip([it for it in order if it.is_at(kept)], shown(log, begin)):
                 it.stamp = stamp
-            places = {stamp: at for at, stamp in enumerate(shown(log, len(log)))}
+            places = places_of(log)
             for it in there:
                 it.place = places.get(it.stamp)
         lost = lacking(order, PENDING - 1 if until is None else until)
@@ -302,6 +306,20 @@ class Past:
 def set_places(elements, text):
     for at, place in in_common([it.char for it in elements], text):
         elements[at].place = place
+
+
+def places_of(log):
+    """Where each stamp of a log's text stands."""
+    return {stamp: at for at, stamp in enumerate(shown(log, len(log)))}
+
+
+def carry_places(elements, log):
+    """Takes places in the text that a renewed room's log begins with over to its text of now. What was deleted between is gone."""
+    places = places_of(log)
+    for it in elements:
+        if it.place is not None:
+            it.place = places.get(log[it.place].stamp)
+            it.gone = PENDING if it.place is None and it.gone is None else it.gone
 
 
 def set_pending(order, text):
