@@ -147,7 +147,8 @@ class Session:
     def _pauses(self):
         """So many tries, with pauses between that grow."""
         for at in range(self.tries):
-            time.sleep(min(self.pause * 2 ** (at - 1), LONGEST) if at else 0)
+            if at:
+                time.sleep(min(self.pause * 2 ** (at - 1), LONGEST))
             yield
 
     def _ask(self, request):
