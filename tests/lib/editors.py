@@ -347,8 +347,25 @@ def tries_waiting():
         same("others' text before it", ">> XabYne two")
         it.keys(["C-u"], "c", ["Escape"])
         same("CTRL-U deletes what was typed", ">> XcYne two")
+        it.keys("gg0iy")
+        same("typed at the beginning", "y>> XcYne two")
+        other.put("! ")
+        same("others' text where one began", "! y>> XcYne two")
+        it.keys("z", ["C-u", "Escape"])
+        same("CTRL-U leaves it", "! >> XcYne two")
+        other.undo()
+        same("undone", ">> XcYne two")
         it.keys("gg$a!", ["C-u", "C-u"], "d", ["Escape"])
         same("and then the line before it", "d")
+        for keys, wanted in (
+            (["0Cab", ["C-u"], "c", ["Escape"], "."], "c"),
+            (["0Cone", ["Escape"], "0RXY", ["C-u", "Escape"]], "one"),
+            (["A", ["C-u", "C-u"], "  a", ["Enter"], "b", ["C-u"], "c", ["Escape"]], "  a\n  c"),
+        ):
+            it.keys(*keys)
+            same(f"CTRL-U as ever: {keys}", wanted)
+            it.keys("ggdG")
+            same("none", "")
         clear("waiting")
 
 

@@ -154,6 +154,9 @@ function Room:play(told)
     views[window] = view
   end
   vim.bo[self.buffer].modifiable = true
+  local row, column = self:began()
+  local caret = api.nvim_win_get_cursor(0)
+  self:mark_began(row, column, caret[1] ~= row + 1 or caret[2] ~= column) -- (what comes there stands before what was typed)
   for _, it in ipairs(told.changes or {}) do -- (none where the program is over)
     local at, removed, text = unpack(it)
     local row, column = self:position(at)
@@ -168,7 +171,9 @@ function Room:play(told)
     api.nvim_win_call(window, function() fn.winrestview(view) end)
   end
   api.nvim_buf_clear_namespace(self.buffer, carets, 0, -1)
-  self.text = self:whole()
+  row, column = self:began()
+  self:mark_began(row, column, false)
+  self.text, self.has_moved = self:whole(), true
   self:show(self.told)
 end
 
@@ -180,16 +185,27 @@ function Room:turn(does)
   end
 end
 
--- Insert mode begins.
-function Room:begin()
-  api.nvim_buf_set_extmark(self.buffer, began, fn.line(".") - 1, fn.col(".") - 1, { id = 1, right_gravity = false })
+-- Where Insert mode began: a row and a column.
+function Room:began() return unpack(api.nvim_buf_get_extmark_by_id(self.buffer, began, 1, {})) end
+
+function Room:mark_began(row, column, right_gravity)
+  api.nvim_buf_del_extmark(self.buffer, began, 1) -- (one that stays at its place would keep its gravity)
+  api.nvim_buf_set_extmark(self.buffer, began, row, column, { id = 1, right_gravity = right_gravity })
 end
 
--- Deletes back to where Insert mode began, or else the line before the caret: CTRL-U knows that place by its column.
+-- Insert mode begins.
+function Room:begin()
+  self.has_moved = false
+  self:mark_began(fn.line(".") - 1, fn.col(".") - 1, false)
+end
+
+-- Deletes back to where Insert mode began, or else the line before the caret. Neovim's own CTRL-U knows that place by a column: it does until
+-- others' changes come.
 function Room:erase()
+  if not self.has_moved then return api.nvim_feedkeys("\7u\21", "ni", false) end -- (CTRL-G u CTRL-U, as Neovim maps it)
   local row, column = fn.line(".") - 1, fn.col(".") - 1
-  local at = api.nvim_buf_get_extmark_by_id(self.buffer, began, 1, {})
-  local start = at[1] == row and at[2] < column and at[2] or 0
+  local began_row, began_column = self:began()
+  local start = began_row == row and began_column < column and began_column or 0
   api.nvim_buf_set_text(self.buffer, row, start, row, column, { "" })
   fn.cursor(row + 1, start + 1)
 end
@@ -231,6 +247,7 @@ local function open(buffer)
     end
   end)
   rooms[buffer] = self
+  self:mark_began(0, 0, false)
   for option, value in pairs({ swapfile = false, undolevels = -1, fileformat = "unix", fixendofline = false, endofline = false }) do
     vim.bo[buffer][option] = value
   end
