@@ -366,6 +366,15 @@ def tries_waiting():
             same(f"CTRL-U as ever: {keys}", wanted)
             it.keys("ggdG")
             same("none", "")
+        it.keys("ione\rtwo", ["Escape"])
+        same("two lines", "one\ntwo")
+        it.keys("ggd")
+        other.put("> \r")
+        until(lambda: room_text() == "> \none\ntwo", "others' line")
+        time.sleep(1)
+        it.ask("execute('write')")  # as other plugins do when the terminal is left
+        it.keys("d")
+        same("what is written while an operator is begun takes nothing", "> \ntwo")
         clear("waiting")
 
 

@@ -210,9 +210,9 @@ function Room:erase()
   fn.cursor(row + 1, start + 1)
 end
 
--- Waits until the room has all that was done here, or says what is wrong.
+-- Waits until the room has all that was done here, or says what is wrong. Others' changes aren't taken: an event may write at any time.
 function Room:write()
-  self:step()
+  self:flush()
   local answer = self:ask({ flush = SENDING })
   if answer.flushed and answer.sent then
     self.told.ahead, self.told.heard = false, self.sent
