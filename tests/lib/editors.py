@@ -435,7 +435,8 @@ def tries_commands():
         if isinstance(it, Neovim):
             it.stay()
             named = ((f"{command} {work}/other", "keeps its name") for command in ("saveas", "file"))
-            for command, refuses in (("bdelete", "E89"), *named):
+            away = f"write ws://127.0.0.1:{server.port}/many"
+            for command, refuses in (("bdelete", "E89"), *named, (away, "only by its own buffer")):
                 it.do(command)
                 until(lambda: refuses in it.screen, f"{command} is refused")
                 it.stay()

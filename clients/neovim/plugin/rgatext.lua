@@ -284,7 +284,11 @@ local function of_room(does)
   end
 end
 on("BufReadCmd", function(it) open(it.buf) end)
-on("BufWriteCmd", of_room(Room.write))
+on("BufWriteCmd", function(it)
+  local room = rooms[it.buf]
+  if not room or it.match ~= api.nvim_buf_get_name(it.buf) then return api.nvim_err_writeln("rgatext: a room is written only by its own buffer") end
+  room:write()
+end)
 on("BufWritePost", of_room(Room.keep_in_step), "*") -- (a copy may set 'modified' off)
 on("BufUnload", of_room(Room.leave))
 on("InsertEnter", of_room(Room.begin))
