@@ -375,6 +375,14 @@ def tries_waiting():
         it.ask("execute('write')")  # as other plugins do when the terminal is left
         it.keys("d")
         same("what is written while an operator is begun takes nothing", "> \ntwo")
+        it.do("split | terminal")
+        it.keys("i")
+        other.put("in a terminal ")
+        until(lambda: it.ask("getbufline(1, 1)[0]") == "in a terminal >", "others' text is seen beside a terminal")
+        it.keys(["C-\\", "C-n"])
+        other.put("Still ")
+        until(lambda: it.ask("getbufline(1, 1)[0]") == "Still in a terminal >", "and beside its output")
+        it.do("bwipeout! %")
         clear("waiting")
 
 

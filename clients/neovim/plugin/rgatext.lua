@@ -9,7 +9,7 @@ local ANSWER, SENDING, BUSY = 2000, 5000, 50
 
 -- Whether others' text would come between what is done. (Replace mode knows by its place what stood under each letter that was typed.)
 local function is_busy()
-  local is_free = { n = true, niI = true, i = true }
+  local is_free = { n = true, niI = true, i = true, t = true, nt = true }
   return not is_free[api.nvim_get_mode().mode] or fn.pumvisible() == 1
 end
 
