@@ -54,11 +54,16 @@
   "The buffer of the room: that which an indirect one is made of."
   (or (buffer-base-buffer) (current-buffer)))
 
+(defun rgatext--checked-room ()
+  "The buffer of the room, where this is one."
+  (let ((room (rgatext--room)))
+    (unless (buffer-local-value 'rgatext--process room) (user-error "This is no room"))
+    room))
+
 (defun rgatext--ask (&rest request)
   "Send a REQUEST and give its answer, or what the program told at its end.
 Nothing is typed meanwhile. Where that is late it is said, and C-g gives it up."
-  (with-current-buffer (rgatext--room)
-    (unless rgatext--process (user-error "This is no room"))
+  (with-current-buffer (rgatext--checked-room)
     (rgatext--tell-untold)
     (let ((late (+ (float-time) 2 (/ (or (plist-get request :flush) 0) 1000)))
           (inhibit-quit t) is-told)
@@ -234,15 +239,20 @@ That which reads a command's name knows none."
   (interactive)
   (message "%s" (plist-get (rgatext--ask :other t) :words)))
 
+(defun rgatext--choose (whose)
+  "Have the text of the room be that which is WHOSE."
+  (with-current-buffer (rgatext--checked-room)
+    (rgatext--send :choose whose)))
+
 (defun rgatext-take-theirs ()
   "Take the text of the room in place of what is shown."
   (interactive)
-  (rgatext--send :choose "theirs"))
+  (rgatext--choose "theirs"))
 
 (defun rgatext-put-mine ()
   "Put what is shown into the room in place of its text."
   (interactive)
-  (rgatext--send :choose "mine"))
+  (rgatext--choose "mine"))
 
 (define-minor-mode rgatext-mode
   "The buffer is a room of an rgatext server. `rgatext' opens one."
