@@ -263,6 +263,18 @@ That which reads a command's name knows none."
   (add-hook 'after-change-functions #'rgatext--tell nil t)
   (add-hook 'kill-buffer-query-functions #'rgatext--may-leave nil t))
 
+(defun rgatext--is-copied ()
+  "A copy of a room by `clone-buffer' is an ordinary buffer, and what was started for it ends."
+  (when rgatext--process
+    (let ((copy (get-buffer-process (current-buffer))))
+      (when copy
+        (set-process-buffer copy nil)
+        (process-send-eof copy)))
+    (setq rgatext--process nil
+          rgatext--seen nil
+          rgatext-mode nil
+          buffer-undo-list nil)))
+
 ;; They stay where the major mode is changed.
 (dolist (it '(rgatext-mode rgatext--process rgatext--held rgatext--answer rgatext--told rgatext--over rgatext--sent
               rgatext--is-more rgatext--seen))
@@ -270,6 +282,7 @@ That which reads a command's name knows none."
 (dolist (it '(rgatext--tell-untold rgatext--tell rgatext--may-leave))
   (put it 'permanent-local-hook t))
 (add-hook 'post-command-hook #'rgatext--command-ends)
+(add-hook 'clone-buffer-hook #'rgatext--is-copied)
 (add-hook 'kill-emacs-query-functions #'rgatext--may-leave-all)
 
 ;;;###autoload

@@ -314,6 +314,14 @@ def tries_untold_changes():
             other.undo()
             it.undo()
             same("undone", "one é")
+        it.do("clone-buffer")
+        it.put("copied ")
+        it.undo()
+        it.put("again ")
+        it.keys(["C-x"], "k", ["Enter"])
+        it.keys(["C-x"], f"b{it.buffer}", ["Enter"], ["C-x", "1"])
+        it.put("typed ")
+        same("a copy is no room, and the room goes on", "typed one é")
         clear("untold changes")
 
 
