@@ -318,6 +318,8 @@ def tries_untold_changes():
         it.put("copied ")
         it.undo()
         it.put("again ")
+        it.choose("mine")
+        until(lambda: "This is no room" in it.screen, "nothing is chosen where there is no room")
         it.keys(["C-x"], "k", ["Enter"])
         it.keys(["C-x"], f"b{it.buffer}", ["Enter"], ["C-x", "1"])
         it.put("typed ")
