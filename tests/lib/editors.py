@@ -490,6 +490,7 @@ def tries_commands():
             assert room_text("left") == "typed unsent a\nb\n", "another major mode"
         it.clear()
         until(lambda: room_text("left") == "", "none")
+        time.sleep(2)  # it is kept: who has left puts nothing in again that a kill loses
 
 
 WORDS = ("alpha", "Beta", "γάμμα", "世界", "😀", "e\u0301")
