@@ -10,7 +10,7 @@ export const OPERATIONS = 131_072;
  * @property {number} [silence] until the state says that no answer comes
  * @property {number} [retry] until a line is tried again, at first; each time twice as long
  * @property {number} [longest] until a line is tried again, at most
- * @property {number} [shut] until a room is asked again that took nothing more
+ * @property {number} [shut] until a room is asked again that took nothing more, at most; each time twice as long
  * @property {number} [closing] until a session that is closed has ended, at most
  * @property {number} [typing] between two rounds of a typist
  * @property {number} [idle] between two pulls that bring nothing

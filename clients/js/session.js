@@ -24,6 +24,9 @@ import { turn } from "./turn.js";
 
 const ANOTHER = "the room has another text by now";
 
+/** Milliseconds until a full room is asked again, at first. */
+const SOON = 1_000;
+
 /**
  * A session. It tells of itself by events: `changes`, whose `detail` is a list of changes of the shown text, made by others or by the room;
  * and `state`, when `state`, `why` or `number` has become another, or the other text that the user is to choose of.
@@ -420,10 +423,10 @@ export class Session extends /** @type {{new (): Tells & EventTarget}} */ (Event
     if (isFault) throw fault;
   }
 
-  /** Asks now and then whether the room takes calls again, and what is pending. */
+  /** Asks now and then whether the room takes calls again, and what is pending: soon at first, since a room may begin anew at once. */
   async #awaitRoom() {
-    while (!(await this.#seat.takes(Math.max(1, this.document.pending)))) {
-      for (let until = Date.now() + this.#options.shut; Date.now() < until; await this.#sleep(1_000)) {
+    for (let pause = SOON; !(await this.#seat.takes(Math.max(1, this.document.pending))); pause *= 2) {
+      for (let until = Date.now() + Math.min(pause, this.#options.shut); Date.now() < until; await this.#sleep(SOON)) {
         if (!this.#seat.line.isOpen || this.#isOver) throw new Lost();
       }
     }

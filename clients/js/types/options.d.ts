@@ -16,7 +16,7 @@ export const OPERATIONS: 131072;
  * @property {number} [silence] until the state says that no answer comes
  * @property {number} [retry] until a line is tried again, at first; each time twice as long
  * @property {number} [longest] until a line is tried again, at most
- * @property {number} [shut] until a room is asked again that took nothing more
+ * @property {number} [shut] until a room is asked again that took nothing more, at most; each time twice as long
  * @property {number} [closing] until a session that is closed has ended, at most
  * @property {number} [typing] between two rounds of a typist
  * @property {number} [idle] between two pulls that bring nothing
@@ -49,7 +49,7 @@ export type Options = {
      */
     longest?: number | undefined;
     /**
-     * until a room is asked again that took nothing more
+     * until a room is asked again that took nothing more, at most; each time twice as long
      */
     shut?: number | undefined;
     /**
