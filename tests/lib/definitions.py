@@ -53,11 +53,11 @@ def specs(module):
 
 @functools.cache
 def declared(crate, *path):
-    """A type of a source file, with what is told of it."""
+    """A type or a constant of a source file, with what is told of it."""
     *path, name = path
     file = TOP / "crates" / crate / "src" / ("/".join(path) + ".rt")
     lines = file.read_text(encoding="utf-8").splitlines()
-    at = next((n for n, it in enumerate(lines) if re.match(rf"pub (?:enum|struct) {name}\b", it)), None)
+    at = next((n for n, it in enumerate(lines) if re.match(rf"pub (?:enum|struct|const) {name}\b", it)), None)
     if at is None:
         return None
     end = at if lines[at].endswith(";") else next(n for n in range(at, len(lines)) if lines[n] == "}")
@@ -71,7 +71,8 @@ def definition(module, name):
     if not (TOP / "crates" / module[0]).is_dir():
         return None
     if "declared" in module:
-        it = declared(module[0], *(it for it in module[2:] if it != "TheVariants"))
+        path = [it for it in module[2:] if it not in ("TheVariants", "TheConstants")]
+        it = declared(module[0], *path, *[name] * ("TheConstants" in module))
         return it and (it, None)
     found, imported = specs(module)
     if name in found:

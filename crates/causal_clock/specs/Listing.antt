@@ -2,6 +2,7 @@
 -- the server's own.
 use Rattle.std.specs.Prelude.{ℕ, ◌==◌, nat_lt, nat_le, Bool, true, ◌&&◌, if◌then◌else◌, Result, Ok, Err, List, [], ◌∷◌, map}
 use Rattle.std.specs.List.{list_all, sum_by}
+use Rattle.opid.specs.declared.limits.TheConstants.{MAX_OPERATIONS}
 use Rattle.opid.specs.declared.refusal.Refusal.{Refusal}
 use Rattle.opid.specs.declared.refusal.Refusal.TheVariants.{BadClock}
 use Rattle.opid.specs.Clocks.{sites}
@@ -22,7 +23,7 @@ rises (p ∷ ps) = list_all (λ q. nat_lt p.0 q.0) ps && rises ps
 
 -- pairs that tell a clock: their sites strictly rise, no count is 0, and the sum is at most 131,072
 abbrev pub tells_clock : List (ℕ × ℕ) → Bool
-tells_clock pairs = rises pairs && list_all (λ p. nat_lt 0 p.1) pairs && nat_le (sum_by (λ p. p.1) pairs) 131072
+tells_clock pairs = rises pairs && list_all (λ p. nat_lt 0 p.1) pairs && nat_le (sum_by (λ p. p.1) pairs) MAX_OPERATIONS
 
 -- the clock that pairs tell, if they tell one
 abbrev pub clock_told : List (ℕ × ℕ) → Result (List ℕ) Refusal

@@ -19,7 +19,7 @@ use std::alloc::Global;
 use std::marker::Model;
 use std::sync::ledger::Ledger;
 
-/// All sites have made at most so many operations since those that have their last marks.
+// All sites have made at most so many operations since those that have their last marks.
 const SINCE: usize = SITES * (MARK as usize - 1);
 
 /// A log of operations. Of each operation it keeps the entries of its clock that differ from those of its site's
@@ -186,8 +186,8 @@ impl OpLog {
     }
 }
 
-/// Reserves memory for `n` more operations. So that no site's operations are counted for it, its marks' part is for as many more as
-/// all sites can have made since their last marks.
+// Reserves memory for `n` more operations. So that no site's operations are counted for it, its marks' part is for as many more as
+// all sites can have made since their last marks.
 fn reserve_each(
     rows: &mut Vec<Row>,
     entries: &mut Vec<Changed>,
@@ -236,7 +236,7 @@ pub(crate) fn counts_before<L: Ledger>(
     counts
 }
 
-/// Puts these counts over zeros. In place, since a row may go back over 7 others.
+// Puts these counts over zeros. In place, since a row may go back over 7 others.
 fn put_before<L: Ledger>(
     rows: &[Row],
     entries: &[Changed],
@@ -261,7 +261,7 @@ fn put_before<L: Ledger>(
     put_in(counts, changes);
 }
 
-/// The entries of a row's mark: none, where it has no mark.
+// The entries of a row's mark: none, where it has no mark.
 fn mark_of<'a>(marks: &'a [Changed], row: &Row) -> &'a [Changed]
     requires { 0 < row.now.mark → row.now.prev + row.now.mark ≤ length marks.now }
     ensures { result.now ≡ mark_of marks.now row.now }
@@ -273,7 +273,7 @@ fn mark_of<'a>(marks: &'a [Changed], row: &Row) -> &'a [Changed]
     &marks[from..from + usize::from(row.mark)]
 }
 
-/// Puts in each of the entries.
+// Puts in each of the entries.
 fn put_in(counts: &mut [u32; SITES], entries: &[Changed])
     ensures { counts.new ≡ fill counts.old entries.now }
 {

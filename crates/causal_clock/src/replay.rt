@@ -22,13 +22,13 @@ pub struct Replay<'a> {
     entries: &'a [Changed],
     marks: &'a [Changed],
 
-    /// Where the walk began.
+    // Where the walk began.
     start: usize,
 
-    /// Where it is.
+    // Where it is.
     place: usize,
 
-    /// The clock of each site's last operation that was passed.
+    // The clock of each site's last operation that was passed.
     seen: [Option<[u32; SITES]>; SITES],
 }
 
@@ -124,7 +124,7 @@ impl<'a> Iterator for Replay<'a> {
     }
 }
 
-/// The next operation. Nobody counts the steps.
+// The next operation. Nobody counts the steps.
 fn next_over<L: Ledger>(rest: &mut Replay<'_>, blank: Blank) -> Op
     requires left { 0 < length rest.old.left }
     requires name { blank.name ≡ L.name }
@@ -136,7 +136,7 @@ fn next_over<L: Ledger>(rest: &mut Replay<'_>, blank: Blank) -> Op
     rest.read_next(&mut Reads::<L>::new(blank))
 }
 
-/// The operation at the place, which becomes its site's last.
+// The operation at the place, which becomes its site's last.
 fn op_after<L: Ledger>(
     seen: &mut [Option<[u32; SITES]>; SITES],
     rows: &[Row],
@@ -164,7 +164,7 @@ fn op_after<L: Ledger>(
     Op::told(row.site, Clock::of_counts(counts), row.kind.kind())
 }
 
-/// The counts into which a row's entries are put, where those of its site's last operation may be kept.
+// The counts into which a row's entries are put, where those of its site's last operation may be kept.
 fn counts_after<L: Ledger>(
     kept: Option<[u32; SITES]>,
     rows: &[Row],

@@ -15,7 +15,7 @@ use opid::SITES;
 /// No log is longer: its entries have places of 32 bits.
 pub(crate) const MAX_ROWS: usize = 67_108_864;
 
-/// Each operation of a site that has a number of this multiple keeps its whole clock as entries.
+// Each operation of a site that has a number of this multiple keeps its whole clock as entries.
 const WHOLE: u32 = 64;
 
 /// Each operation of a site that has a number of this multiple has a mark, where it needs one.
@@ -24,8 +24,8 @@ pub(crate) const MARK: u32 = 8;
 /// So many entries of a mark each of these operations has for its part.
 pub(crate) const PART: usize = SITES / MARK as usize;
 
-/// Keeps the counts, those of 0 apart, as the mark of an operation that has one, and tells where it begins, or else the place that is
-/// given; and how many they are.
+// Keeps the counts, those of 0 apart, as the mark of an operation that has one, and tells where it begins, or else the place that is
+// given; and how many they are.
 fn push_mark(marks: &mut Vec<Changed>, marked: bool, before: &Clock, last: u32) -> (u32, u8)
     requires room { marked ≡ true → vec_len marks.old + 32 ≤ vec_capacity marks.old }
     requires few { vec_len marks.old ≤ PART * MAX_ROWS }
@@ -41,7 +41,7 @@ fn push_mark(marks: &mut Vec<Changed>, marked: bool, before: &Clock, last: u32) 
     (place, push_changes(marks, false, &[0; SITES], before))
 }
 
-/// How many operations of its site a site's operation of this number has to go back to one that is to have a mark, or is its first.
+// How many operations of its site a site's operation of this number has to go back to one that is to have a mark, or is its first.
 fn back_of(rows: &[Row], marked: bool, number: u32, last: u32) -> u8
     requires { marked ≡ false → 1 < number → (last < length rows.now) × ((row_at rows.now last).back < 8) }
     ensures marked { marked ≡ true → result ≡ 0 }

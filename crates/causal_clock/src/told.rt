@@ -10,7 +10,7 @@ use crate::clock::{Clock, differing};
 use crate::packed_kind::site_of;
 use opid::SITES;
 
-/// Which entries are stored, a bit for each site from the lowest on: all are, or those that differ from the ones before.
+// Which entries are stored, a bit for each site from the lowest on: all are, or those that differ from the ones before.
 fn told_sites(whole: bool, before: &[u32; SITES], counts: &[u32; SITES]) -> u64
     ensures { AreTold whole before.now counts.now result }
 {

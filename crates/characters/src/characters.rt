@@ -7,10 +7,10 @@ use arrayvec::ArrayString;
 use std::alloc::{AllocError, Global};
 use std::marker::Model;
 
-/// A text as it is kept.
+// A text as it is kept.
 #[derive(Debug, Drop)]
 enum KeptText {
-    /// In place, as what one types is.
+    // In place, as what one types is.
     Short(ArrayString<16>),
     Long(String),
 }

@@ -16,7 +16,7 @@ use crate::packed_row::PackedRow;
 use crate::side::Side;
 use crate::steps::Steps;
 
-/// Whether each entry of a part of the newest tree has a greater key. At most one step.
+// Whether each entry of a part of the newest tree has a greater key. At most one step.
 fn are_greater(
     nodes: &Nodes,
     table: &[PackedRow],
@@ -84,7 +84,7 @@ pub fn passed_in(
     }
 }
 
-/// The last element that one passes in the tree before one stops there, if one does.
+// The last element that one passes in the tree before one stops there, if one does.
 fn stop_in(
     nodes: &Nodes,
     table: &[PackedRow],

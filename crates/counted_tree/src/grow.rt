@@ -17,7 +17,7 @@ ghost use Rattle.counted_tree.specs.Internal.Counter.{CountsOn};
 use crate::above::Above;
 use crate::branch::{Branch, branch_of};
 use crate::build::{copy_left, copy_right, look};
-use crate::entry::Entry;
+use crate::entry::{Entry, MAX_ELEMENTS};
 use crate::grown::Grown;
 use crate::hang::hang;
 use crate::node::Node;
@@ -29,8 +29,8 @@ use crate::side::Side;
 use crate::size::Size;
 use crate::steps::Steps;
 
-/// A tree that is as high as this row says, which is that of its top before it had the entry: the row is right still, unless the new
-/// key is less than all others.
+// A tree that is as high as this row says, which is that of its top before it had the entry: the row is right still, unless the new
+// key is less than all others.
 fn settle(number: u32, elem: u32, row: Row, entry: &Entry) -> Grown
     ensures link { grown_link result ≡ Some number }
     ensures settled { row.least ≤ entry.now.key → result ≡ Settled number }
@@ -48,8 +48,8 @@ fn settle(number: u32, elem: u32, row: Row, entry: &Entry) -> Grown
     })
 }
 
-/// The tree of a node whose left side has grown by an entry and isn't settled. The other side is looked at only where the left
-/// one is now as high as the whole was: else the whole stays as high as it was, and only the left side has to be hung.
+// The tree of a node whose left side has grown by an entry and isn't settled. The other side is looked at only where the left
+// one is now as high as the whole was: else the whole stays as high as it was, and only the left side has to be hung.
 #[inline(always)]
 fn grow_left(
     nodes: &mut Nodes,
@@ -69,7 +69,7 @@ fn grow_left(
     requires size { IsSizeOf left_size (entries (tree_in nodes.old left.link)) }
     requires gains { Gains entry.now (entries (tree_in nodes.old node.left)) (entries (tree_in nodes.old left.link)) }
     requires rises { MayRise (tree_in nodes.old node.left) (tree_in nodes.old left.link) }
-    requires few { length (entries (tree_in nodes.old left.link)) + length (entries (tree_in nodes.old node.right)) < 131072 }
+    requires few { length (entries (tree_in nodes.old left.link)) + length (entries (tree_in nodes.old node.right)) < MAX_ELEMENTS }
     requires row { HasRow table.old (tree_of (trees nodes.old.nodes) node) }
     requires other { PointsTo table.old (tree_in nodes.old node.right) (Some (record { elem = node.entry.elem; side = Right })) }
     requires ready { IsReady table.old (tree_in nodes.old left.link) node.entry (tree_in nodes.old node.right) }
@@ -103,8 +103,8 @@ fn grow_left(
     settle(number, node.entry.elem, row, entry)
 }
 
-/// The tree of a node whose right side has grown by an entry and isn't settled. The other side is looked at only where the right
-/// one is now as high as the whole was: else the whole stays as high as it was, and only the right side has to be hung.
+// The tree of a node whose right side has grown by an entry and isn't settled. The other side is looked at only where the right
+// one is now as high as the whole was: else the whole stays as high as it was, and only the right side has to be hung.
 #[inline(always)]
 fn grow_right(
     nodes: &mut Nodes,
@@ -122,7 +122,7 @@ fn grow_right(
     requires right { IsBranch nodes.old right }
     requires gains { Gains entry.now (entries (tree_in nodes.old node.right)) (entries (tree_in nodes.old right.link)) }
     requires rises { MayRise (tree_in nodes.old node.right) (tree_in nodes.old right.link) }
-    requires few { length (entries (tree_in nodes.old node.left)) + length (entries (tree_in nodes.old right.link)) < 131072 }
+    requires few { length (entries (tree_in nodes.old node.left)) + length (entries (tree_in nodes.old right.link)) < MAX_ELEMENTS }
     requires row { HasRow table.old (tree_of (trees nodes.old.nodes) node) }
     requires other { PointsTo table.old (tree_in nodes.old node.left) (Some (record { elem = node.entry.elem; side = Left })) }
     requires ready { IsReady table.old (tree_in nodes.old node.left) node.entry (tree_in nodes.old right.link) }
@@ -177,7 +177,7 @@ pub fn lift_left(
         (tree_in nodes.old node.left) left }
     requires gains { Gains entry.now (entries (tree_in nodes.old node.left)) (entries (tree_in nodes.old (grown_link left))) }
     requires rises { MayRise (tree_in nodes.old node.left) (tree_in nodes.old (grown_link left)) }
-    requires few { length (entries (tree_in nodes.old (grown_link left))) + length (entries (tree_in nodes.old node.right)) < 131072 }
+    requires few { length (entries (tree_in nodes.old (grown_link left))) + length (entries (tree_in nodes.old node.right)) < MAX_ELEMENTS }
     requires row { HasRow table.old (tree_of (trees nodes.old.nodes) node) }
     requires other { PointsTo table.old (tree_in nodes.old node.right) (Some (record { elem = node.entry.elem; side = Right })) }
     requires ready { IsReady table.old (tree_in nodes.old (grown_link left)) node.entry (tree_in nodes.old node.right) }
@@ -224,7 +224,7 @@ pub fn lift_right(
         (tree_in nodes.old node.right) right }
     requires gains { Gains entry.now (entries (tree_in nodes.old node.right)) (entries (tree_in nodes.old (grown_link right))) }
     requires rises { MayRise (tree_in nodes.old node.right) (tree_in nodes.old (grown_link right)) }
-    requires few { length (entries (tree_in nodes.old node.left)) + length (entries (tree_in nodes.old (grown_link right))) < 131072 }
+    requires few { length (entries (tree_in nodes.old node.left)) + length (entries (tree_in nodes.old (grown_link right))) < MAX_ELEMENTS }
     requires row { HasRow table.old (tree_of (trees nodes.old.nodes) node) }
     requires other { PointsTo table.old (tree_in nodes.old node.left) (Some (record { elem = node.entry.elem; side = Left })) }
     requires ready { IsReady table.old (tree_in nodes.old node.left) node.entry (tree_in nodes.old (grown_link right)) }

@@ -7,10 +7,10 @@ use crate::root::Root;
 use crate::size::Size;
 use std::marker::Model;
 
-/// Each kept link is below this: 2^22.
+// Each kept link is below this: 2^22.
 const LINKS: u64 = 4_194_304;
 
-/// A tree shows fewer elements than this: 2^18.
+// A tree shows fewer elements than this: 2^18.
 const SHOWN: u64 = 262_144;
 
 /// A root in one number: its link, how many elements are shown, and how many units those have.

@@ -7,15 +7,15 @@ use crate::row::Row;
 use crate::side::Side;
 use std::marker::Model;
 
-/// Each height is below this: 2^6.
+// Each height is below this: 2^6.
 const HEIGHTS: u32 = 64;
 
 /// What an element hangs from, and the least key and the height of its subtree, side by side in one number.
 #[derive(Drop)]
 pub struct PackedRow {
-    /// 0 where it hangs from nothing, else twice the number of the element above, and 1 on its left side, 2 on its right one.
+    // 0 where it hangs from nothing, else twice the number of the element above, and 1 on its left side, 2 on its right one.
     above: u32,
-    /// The least key, and the height.
+    // The least key, and the height.
     least_and_height: u32,
 }
 
@@ -57,7 +57,7 @@ impl PackedRow {
     }
 }
 
-/// The number that what one hangs from is kept as.
+// The number that what one hangs from is kept as.
 fn kept_of(above: Option<Above>) -> u32
     requires { IfSome above (λ a. a.elem < 2 ^ 17) }
     ensures { above_of result ≡ above }
@@ -71,7 +71,7 @@ fn kept_of(above: Option<Above>) -> u32
     }
 }
 
-/// What is kept as a number that one hangs from.
+// What is kept as a number that one hangs from.
 fn above_of(kept: u32) -> Option<Above>
     ensures { result ≡ above_of kept }
 {

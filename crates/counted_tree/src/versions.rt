@@ -11,7 +11,7 @@ ghost use Rattle.counted_tree.specs.Greater.{last_greater};
 ghost use Rattle.counted_tree.specs.Steps.{IsCounted};
 
 use crate::change::{hide, insert, last_greater_in, rank_in};
-use crate::entry::Entry;
+use crate::entry::{Entry, MAX_ELEMENTS};
 use crate::nodes::Nodes;
 use crate::packed_root::PackedRoot;
 use crate::packed_row::PackedRow;
@@ -79,7 +79,7 @@ impl VersionTree {
     pub fn newest(&self) -> usize
         ensures value { result ≡ newest self.now }
         ensures last { result + 1 ≡ length self.now.lists }
-        ensures within { result + self.now.room ≤ 131072 }
+        ensures within { result + self.now.room ≤ MAX_ELEMENTS }
     {
         self.roots.len()
     }
@@ -94,7 +94,7 @@ impl VersionTree {
     /// How many elements the newest version has, shown or not: the number of the next one. Constant time.
     pub fn elements(&self) -> usize
         ensures value { result ≡ length (newest_list self.now) }
-        ensures within { result ≤ 131072 }
+        ensures within { result ≤ MAX_ELEMENTS }
         ensures all { (e : ℕ) → e < result → Lists e (newest_list self.now) }
     {
         self.table.len()
@@ -172,7 +172,7 @@ impl VersionTree {
         requires { Lists elem (newest_list self.now) }
         ensures shown { result.shown ≡ length (visible (entries_before elem (newest_list self.now))) }
         ensures units { result.units ≡ length (units (entries_before elem (newest_list self.now))) }
-        ensures few { (result.shown ≤ 131072) × (result.units ≤ 2 * 131072) }
+        ensures few { (result.shown ≤ MAX_ELEMENTS) × (result.units ≤ 2 * MAX_ELEMENTS) }
         ensures cost { steps.new ≤ steps.old + 2 * digits (length (newest_list self.now)) }
         ensures counted { IsCounted steps.old steps.new }
     {
@@ -184,7 +184,7 @@ impl VersionTree {
     pub fn rank(&self, elem: u32, steps: &mut Steps) -> usize
         requires { Lists elem (newest_list self.now) }
         ensures rank { result ≡ length (visible (entries_before elem (newest_list self.now))) }
-        ensures few { result ≤ 131072 }
+        ensures few { result ≤ MAX_ELEMENTS }
         ensures cost { steps.new ≤ steps.old + 2 * digits (length (newest_list self.now)) }
         ensures counted { IsCounted steps.old steps.new }
     {
@@ -195,7 +195,7 @@ impl VersionTree {
     pub fn rank_units(&self, elem: u32, steps: &mut Steps) -> usize
         requires { Lists elem (newest_list self.now) }
         ensures rank { result ≡ length (units (entries_before elem (newest_list self.now))) }
-        ensures few { result ≤ 2 * 131072 }
+        ensures few { result ≤ 2 * MAX_ELEMENTS }
         ensures cost { steps.new ≤ steps.old + 2 * digits (length (newest_list self.now)) }
         ensures counted { IsCounted steps.old steps.new }
     {
@@ -227,7 +227,7 @@ impl VersionTree {
     /// the element's key and width, 392 bytes of which only what is written comes into memory. Constant time; nothing grows where so
     /// many are reserved already. Refused memory changes nothing.
     pub fn reserve(&mut self, n: usize) -> Result<(), AllocError>
-        requires { length self.old.lists + n ≤ 131073 }
+        requires { length self.old.lists + n ≤ MAX_ELEMENTS + 1 }
         ensures lists { self.new.lists ≡ self.old.lists }
         ensures nodes { self.new.nodes ≡ self.old.nodes }
         ensures ok { OnOk result (self.new.room ≡ max self.old.room n) }
@@ -267,7 +267,7 @@ impl VersionTree {
         ensures room { self.new.room + 1 ≡ self.old.room }
         ensures shown { result.shown ≡ length (visible (entries_before elem (newest_list self.new))) }
         ensures units { result.units ≡ length (units (entries_before elem (newest_list self.new))) }
-        ensures few { (result.shown ≤ 131072) × (result.units ≤ 2 * 131072) }
+        ensures few { (result.shown ≤ MAX_ELEMENTS) × (result.units ≤ 2 * MAX_ELEMENTS) }
         ensures cost { steps.new ≤ steps.old + (8 * digits (length (newest_list self.new)) + 16) }
         ensures each { steps.new + 4 * self.old.nodes ≤ steps.old + 4 * self.new.nodes }
         ensures counted { 0 < length (newest_list self.old) → IsCounted steps.old steps.new }
@@ -319,7 +319,7 @@ impl VersionTree {
         ensures room { self.new.room + 1 ≡ self.old.room }
         ensures shown { result.shown ≡ length (visible (entries_before elem (newest_list self.old))) }
         ensures units { result.units ≡ length (units (entries_before elem (newest_list self.old))) }
-        ensures few { (result.shown ≤ 131072) × (result.units ≤ 2 * 131072) }
+        ensures few { (result.shown ≤ MAX_ELEMENTS) × (result.units ≤ 2 * MAX_ELEMENTS) }
         ensures cost { steps.new ≤ steps.old + 2 * digits (length (newest_list self.old)) }
         ensures each { steps.new + self.old.nodes ≤ steps.old + self.new.nodes }
         ensures counted { IsCounted steps.old steps.new }
@@ -353,7 +353,7 @@ impl VersionTree {
     }
 }
 
-/// A version's root, for version 0 that of the empty tree.
+// A version's root, for version 0 that of the empty tree.
 fn root_of(roots: &[PackedRoot], version: usize) -> Root
     requires { version ≤ length roots.now }
     ensures { result ≡ root_at roots.now version }
@@ -365,7 +365,7 @@ fn root_of(roots: &[PackedRoot], version: usize) -> Root
     }
 }
 
-/// The newest root.
+// The newest root.
 fn last_root(roots: &[PackedRoot]) -> Root
     ensures { result ≡ newest_root roots.now }
 {
@@ -375,7 +375,7 @@ fn last_root(roots: &[PackedRoot]) -> Root
     }
 }
 
-/// The root of the empty tree.
+// The root of the empty tree.
 fn empty() -> Root
     ensures { result ≡ no_root }
 {

@@ -82,7 +82,7 @@ impl Editor {
     }
 }
 
-/// Plays edits one after another, and counts them.
+// Plays edits one after another, and counts them.
 fn play_each(text: &mut Text, version: &mut u64, es: &[Edit]) -> Result<(), Refusal>
     requires { version.old < 2 ^ 32 }
     ensures ok { OnOk result ((play text.old es.now ≡ Some text.new) × (version.new ≡ version.old + length es.now)) }

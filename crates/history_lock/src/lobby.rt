@@ -28,7 +28,7 @@ impl Lobby {
         }
     }
 
-    /// Has the next turn that ends with no ticket open wake one.
+    // Has the next turn that ends with no ticket open wake one.
     fn want(&self) {
         self.wanted.store(1, SeqCst);
     }

@@ -2,6 +2,7 @@
 -- operations are numbered, and what comes again is told by its number).
 use Rattle.std.specs.Prelude.{ℕ, Bool, true, false, ◌==◌, ◌&&◌, nat_lt, if◌then◌else◌, Option, Some, None, Result, Ok, Err, List, [], ◌∷◌}
 use Rattle.std.specs.Prelude.{◌++◌, find, length}
+use Rattle.opid.specs.declared.limits.TheConstants.{MAX_HELD}
 use Rattle.opid.specs.declared.refusal.Refusal.{Refusal}
 use Rattle.opid.specs.declared.refusal.Refusal.TheVariants.{Conflict, HoldFull}
 use Rattle.opid.specs.Operations.{Operation, number_of}
@@ -35,7 +36,7 @@ look_for x ops = compared x (with_number (number_of x) ops)
 abbrev pub arrival_of : Result Bool Refusal → ℕ → Result Arrival Refusal
 arrival_of (Err e) count = Err e
 arrival_of (Ok true) count = Ok Again
-arrival_of (Ok false) count = if nat_lt count 1024 then Ok Kept else Err HoldFull
+arrival_of (Ok false) count = if nat_lt count MAX_HELD then Ok Kept else Err HoldFull
 
 -- what becomes of an operation that is not ready, beside those that are held
 abbrev pub offered : Operation → List Operation → Result Arrival Refusal

@@ -14,15 +14,12 @@ ghost use Rattle.holdback.specs.Ready.{first_ready, without_first_ready};
 
 use crate::in_order::InOrder;
 use causal_clock::{Clock, Op};
-use opid::{Refusal, SITES, Site};
+use opid::{MAX_HELD, Refusal, SITES, Site};
 use std::alloc::Global;
 use std::marker::Model;
 use std::simd::prelude::*;
 
-/// At most so many operations are held back.
-pub const MAX_HELD: usize = 1024;
-
-/// So many numbers are looked at together.
+// So many numbers are looked at together.
 const BLOCK: usize = 16;
 
 /// How an operation arrived.
@@ -38,12 +35,13 @@ pub enum Arrival {
 #[derive(Drop)]
 pub struct Held {
     kept: InOrder,
-    /// The number of each, packed into one, so that those which can't be meant are passed without a look at the operation.
+    // The number of each, packed into one, so that those which can't be meant are passed without a look at the operation.
     numbers: Vec<u32>,
 }
 
 impl Model for Held {
     ghost use Rattle.std.specs.Prelude.{◌≡◌, ◌≤◌, map, length, vec_capacity};
+    ghost use Rattle.opid.specs.declared.limits.TheConstants.{MAX_HELD};
     ghost use Rattle.opid.specs.Operations.{number_of};
     ghost use Rattle.holdback.specs.Offered.{HeldOperations};
     ghost use Rattle.holdback.specs.Internal.Packed.{unpacked};
@@ -52,7 +50,7 @@ impl Model for Held {
 
     ghost view = { λ h. h.kept };
 
-    ghost invariant = { λ h. (length h.kept.ops ≤ 1024) × (h.kept.room ≤ vec_capacity h.numbers)
+    ghost invariant = { λ h. (length h.kept.ops ≤ MAX_HELD) × (h.kept.room ≤ vec_capacity h.numbers)
         × (map unpacked h.numbers.items ≡ map number_of h.kept.ops) };
 }
 
@@ -151,14 +149,14 @@ impl Held {
     }
 }
 
-/// Whether the two are one and the same operation.
+// Whether the two are one and the same operation.
 fn is_same(a: &Op, b: &Op) -> bool
     ensures { result ≡ is_same_operation a.now b.now }
 {
     a == b
 }
 
-/// The operation's number, its site and its count, as one: the site, and 32 times the count.
+// The operation's number, its site and its count, as one: the site, and 32 times the count.
 fn packed(op: &Op) -> u32
     ensures { unpacked result ≡ number_of op.now }
 {
@@ -167,8 +165,8 @@ fn packed(op: &Op) -> u32
     u32::from(site) + count * 32
 }
 
-/// The place of the first number that is this one. The numbers of a whole block are compared with it at once, and those behind the
-/// last one by one.
+// The place of the first number that is this one. The numbers of a whole block are compared with it at once, and those behind the
+// last one by one.
 fn place_of(numbers: &[u32], number: u32) -> Option<usize>
     ensures { result ≡ position (λ n. n == number) numbers.now }
 {
@@ -187,7 +185,7 @@ fn place_of(numbers: &[u32], number: u32) -> Option<usize>
     None
 }
 
-/// How many numbers of the block that starts here stand before the first that is this one: all, where none is.
+// How many numbers of the block that starts here stand before the first that is this one: all, where none is.
 fn others_before(numbers: &[u32], start: usize, number: u32) -> usize
     requires { start + BLOCK ≤ length numbers.now }
     ensures { result ≡ prefix_len (λ n. not (n == number)) (chunk start BLOCK numbers.now) }
@@ -202,8 +200,8 @@ fn others_before(numbers: &[u32], start: usize, number: u32) -> usize
     }
 }
 
-/// The place of the first operation that is ready where just the operations are that the clock counts. A whole block is passed
-/// by its numbers where none of them is its site's next one; a table of these isn't made where fewer are held than a block.
+// The place of the first operation that is ready where just the operations are that the clock counts. A whole block is passed
+// by its numbers where none of them is its site's next one; a table of these isn't made where fewer are held than a block.
 fn first_ready(ops: &InOrder, numbers: &[u32], clock: &Clock) -> Option<usize>
     requires { map unpacked numbers.now ≡ map number_of ops.now.ops }
     ensures { result ≡ position (λ x. is_next x.site x.clock clock.now) ops.now.ops }
@@ -225,7 +223,7 @@ fn first_ready(ops: &InOrder, numbers: &[u32], clock: &Clock) -> Option<usize>
     first_ready_of(ops, count / BLOCK * BLOCK, count, clock)
 }
 
-/// The number of each site's next operation after those that the clock counts, packed. Takes a step for each site.
+// The number of each site's next operation after those that the clock counts, packed. Takes a step for each site.
 fn due_numbers(clock: &Clock) -> [u32; SITES]
     ensures { AreDue clock.now result }
 {
@@ -238,8 +236,8 @@ fn due_numbers(clock: &Clock) -> [u32; SITES]
     due
 }
 
-/// Whether one of the block of numbers that starts here is its site's next one. All are looked at, so that no step waits for the
-/// one before it.
+// Whether one of the block of numbers that starts here is its site's next one. All are looked at, so that no step waits for the
+// one before it.
 fn has_due(numbers: &[u32], start: usize, due: &[u32; SITES]) -> bool
     requires { start + BLOCK ≤ length numbers.now }
     ensures { IsFalse result → NoneDue due.now numbers.now start (start + BLOCK) }
@@ -252,8 +250,8 @@ fn has_due(numbers: &[u32], start: usize, due: &[u32; SITES]) -> bool
     found
 }
 
-/// The place of the first of these operations that is ready where just the operations are that the clock counts. Of those whose
-/// number isn't its site's next one nothing else is looked at.
+// The place of the first of these operations that is ready where just the operations are that the clock counts. Of those whose
+// number isn't its site's next one nothing else is looked at.
 fn first_ready_of(ops: &InOrder, start: usize, end: usize, clock: &Clock) -> Option<usize>
     requires { (start ≤ end) × (end ≤ length ops.now.ops) }
     ensures { MatchOption result (NoneReadyIn clock.now ops.now.ops start end) (IsFirstReadyIn clock.now ops.now.ops start end) }
@@ -266,7 +264,7 @@ fn first_ready_of(ops: &InOrder, start: usize, end: usize, clock: &Clock) -> Opt
     None
 }
 
-/// Whether the number is its site's next one after the operations that the clock counts.
+// Whether the number is its site's next one after the operations that the clock counts.
 fn is_due(number: (Site, u32), clock: &Clock) -> bool
     ensures { result ≡ (number.1 == entry clock.now number.0 + 1) }
 {

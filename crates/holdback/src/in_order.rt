@@ -5,7 +5,7 @@ ghost use Rattle.std.specs.List.{remove};
 ghost use Rattle.opid.specs.declared.refusal.Refusal.TheVariants.{Memory};
 
 use causal_clock::Op;
-use opid::Refusal;
+use opid::{MAX_HELD, Refusal};
 use std::alloc::Global;
 use std::marker::Model;
 
@@ -13,7 +13,7 @@ use std::marker::Model;
 #[derive(Drop)]
 pub(crate) struct InOrder {
     slots: Vec<Op>,
-    /// The slots of the operations, in order, and behind them those that are free.
+    // The slots of the operations, in order, and behind them those that are free.
     order: Vec<u16>,
     len: usize,
     room: usize,
@@ -21,6 +21,7 @@ pub(crate) struct InOrder {
 
 impl Model for InOrder {
     ghost use Rattle.std.specs.Prelude.{◌≡◌, ◌≤◌, vec_len, vec_capacity};
+    ghost use Rattle.opid.specs.declared.limits.TheConstants.{MAX_HELD};
     ghost use Rattle.holdback.specs.Offered.{HeldOperations};
     ghost use Rattle.holdback.specs.Internal.Slots.{arranged, AreSlots};
 
@@ -28,7 +29,7 @@ impl Model for InOrder {
 
     ghost view = { λ h. record { ops = arranged h.slots.items h.order.items h.len; room = h.room } };
 
-    ghost invariant = { λ h. (vec_len h.slots ≤ 1024) × (h.room ≤ vec_capacity h.slots) × (h.room ≤ vec_capacity h.order)
+    ghost invariant = { λ h. (vec_len h.slots ≤ MAX_HELD) × (h.room ≤ vec_capacity h.slots) × (h.room ≤ vec_capacity h.order)
         × (vec_len h.order ≡ vec_len h.slots) × (h.len ≤ vec_len h.slots) × AreSlots (vec_len h.slots) h.order.items };
 }
 
@@ -49,7 +50,7 @@ impl InOrder {
     #[tactic(auto, using(crate::proofs::Slotted::arranged_length))]
     pub fn len(&self) -> usize
         ensures value { result ≡ length self.now.ops }
-        ensures within { result ≤ 1024 }
+        ensures within { result ≤ MAX_HELD }
     {
         self.len
     }
@@ -65,7 +66,7 @@ impl InOrder {
     /// Puts an operation behind the others, into a free slot where there is one. Constant time. Refused with `Memory`, only
     /// where nothing is reserved.
     pub fn push(&mut self, op: Op) -> Result<(), Refusal>
-        requires { length self.old.ops < 1024 }
+        requires { length self.old.ops < MAX_HELD }
         ensures ok { OnOk result (self.new ≡ record self.old { ops = self.old.ops ++ op ∷ [] }) }
         ensures err { OnErr result (self.new ≡ self.old) }
         ensures memory { IfErr result (λ e. (e ≡ Memory) × (self.old.room ≤ length self.old.ops)) }

@@ -34,9 +34,9 @@ const SITES: usize = 32;
 #[derive(Drop)]
 pub(crate) struct LogText {
     text: String,
-    /// Where each item begins, and where the last one ends.
+    // Where each item begins, and where the last one ends.
     bounds: Vec<usize>,
-    /// How many operations each item stands for.
+    // How many operations each item stands for.
     counts: Vec<u32>,
     known: Vec<Known>,
     // Of each site the counts that it knows, site after site.

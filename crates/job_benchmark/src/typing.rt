@@ -146,7 +146,7 @@ impl Script {
         Ok(())
     }
 
-    /// A pull of at most 64 edits.
+    // A pull of at most 64 edits.
     fn pull(&mut self, who: u32, session: &mut Session) -> Result<(), AllocError> {
         self.push("{\"t\":\"pull\",\"s\":", who.saturating_add(1))?;
         self.push(",\"have\":", session.have)?;

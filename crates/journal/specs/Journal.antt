@@ -3,6 +3,7 @@
 use Rattle.std.specs.Prelude.{◌≡◌, ◌≤◌, ◌+◌, ◌-◌, ◌==◌, ◌⊎◌, ℕ, if◌then◌else◌, Result, Ok, Err, List, [], ◌∷◌, ◌++◌, length, take, drop}
 use Rattle.std.specs.Prelude.{codes, bytes_eq}
 use Rattle.std.specs.List.{AllByRecursion}
+use Rattle.opid.specs.declared.limits.TheConstants.{MAX_COUNT, MAX_OPERATIONS}
 use Rattle.hex.specs.Hex.{encode_lower}
 use Rattle.sha2.specs.Sha256.{sha256}
 use Rattle.opid.specs.declared.refusal.Refusal.{Refusal}
@@ -75,7 +76,7 @@ log_told before n (line ∷ lines) = do
 pub record TellLog (lines : List (List ℕ)) (log : List Operation) : Type 0 where
   pub told : log_told [] 0 lines ≡ Ok log
   pub lawful : IsLawful log
-  pub few : length log ≤ 131072
+  pub few : length log ≤ MAX_OPERATIONS
 
 -- the lines tell no log
 abbrev pub TellNone : List (List ℕ) → Type 0
@@ -116,7 +117,7 @@ lines_of before n (part ∷ parts) =
 -- 1 to 64 operations, which are within their ranges
 pub record FitsLine (ops : List Operation) : Type 0 where
   pub some : 1 ≤ length ops
-  pub few : length ops ≤ 64
+  pub few : length ops ≤ MAX_COUNT
   pub in_range : AllByRecursion IsOperationInRange ops
 
 -- the bytes are the lines of these operations in parts, behind bytes that were before them, and the first has this number

@@ -5,6 +5,8 @@ ghost use Rattle.opid.specs.Lawful.{IsLawful};
 ghost use Rattle.wire_json.specs.Line.{IsLine};
 ghost use Rattle.journal.specs.Journal.{IsEnded, EndsLines, StandsFor, AreLinesOf};
 
+use opid::MAX_OPERATIONS;
+
 /// No bytes stand for the empty log. What bytes stand for, their whole lines stand for. Where the lines of operations that follow a
 /// log are appended to whole lines that stand for it, all are whole lines, and stand for the log with these operations.
 pub fn journals_grow()
@@ -12,7 +14,7 @@ pub fn journals_grow()
     ensures whole { (n : ℕ) (bytes : List ℕ) (log : List Operation) → EndsLines n bytes → StandsFor bytes log
         → StandsFor (take n bytes) log }
     ensures grown { (bytes more : List ℕ) (log ops : List Operation) → IsEnded bytes → StandsFor bytes log
-        → AreLinesOf bytes (length log) ops more → IsLawful (log ++ ops) → length (log ++ ops) ≤ 131072
+        → AreLinesOf bytes (length log) ops more → IsLawful (log ++ ops) → length (log ++ ops) ≤ MAX_OPERATIONS
         → StandsFor (bytes ++ more) (log ++ ops) }
     ensures ended { (n : ℕ) (bytes more : List ℕ) (ops : List Operation) → IsEnded bytes → AreLinesOf bytes n ops more
         → IsEnded (bytes ++ more) }

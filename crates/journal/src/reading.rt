@@ -11,7 +11,7 @@ ghost use Rattle.journal.specs.Journal.{EndsLines, StandsFor, StandsForNone, IsF
 use crate::digest::{START, digest_line};
 use crate::fault::JournalFault;
 use memchr::memchr;
-use opid::Refusal;
+use opid::{MAX_OPERATIONS, Refusal};
 use sha2::{Digest, Sha256};
 use snapshot::append_operations;
 use std::alloc::Global;
@@ -78,11 +78,11 @@ fn append_line(alloc: Global, doc: &mut Doc, before: &Sha256, line: &[u8]) -> Re
     ensures grown { OnOk result ((bytes : List ℕ) → Holds256 before.now bytes → (ops : List Operation)
         × (line_told bytes (length doc.old.log) line.now ≡ Ok ops) × (doc.new.log ≡ doc.old.log ++ ops)) }
     ensures lawful { OnOk result (IsLawful doc.old.log → IsLawful doc.new.log) }
-    ensures few { OnOk result (length doc.old.log ≤ 131072 → length doc.new.log ≤ 131072) }
+    ensures few { OnOk result (length doc.old.log ≤ MAX_OPERATIONS → length doc.new.log ≤ MAX_OPERATIONS) }
     ensures unreserved { OnOk result (doc.old.room ≡ 0 → doc.new.room ≡ 0) }
     ensures cause { IfErr result (λ e. (e ≡ refusals.Memory) ⊎ ((bytes : List ℕ) → Holds256 before.now bytes → (ops : List Operation)
         → line_told bytes (length doc.old.log) line.now ≡ Ok ops
-        → GoesOn doc.old.log ops → length doc.old.log + length ops ≤ 131072 → ⊥)) }
+        → GoesOn doc.old.log ops → length doc.old.log + length ops ≤ MAX_OPERATIONS → ⊥)) }
 {
     if line.starts_with(START.as_bytes()) {
         return match digest_line(alloc, before) {
@@ -99,17 +99,17 @@ fn append_part(alloc: Global, doc: &mut Doc, line: &[u8]) -> Result<(), Refusal>
     ensures grown { OnOk result ((ops : List Operation) × (next_part (length doc.old.log) line.now ≡ Ok ops)
         × (doc.new.log ≡ doc.old.log ++ ops)) }
     ensures lawful { OnOk result (IsLawful doc.new.log) }
-    ensures few { OnOk result (length doc.new.log ≤ 131072) }
+    ensures few { OnOk result (length doc.new.log ≤ MAX_OPERATIONS) }
     ensures unreserved { OnOk result (doc.old.room ≡ 0 → doc.new.room ≡ 0) }
     ensures cause { IfErr result (λ e. (e ≡ refusals.Memory) ⊎ ((ops : List Operation)
         → next_part (length doc.old.log) line.now ≡ Ok ops
-        → GoesOn doc.old.log ops → length doc.old.log + length ops ≤ 131072 → ⊥)) }
+        → GoesOn doc.old.log ops → length doc.old.log + length ops ≤ MAX_OPERATIONS → ⊥)) }
 {
     let (from, ops) = read_part(alloc, line)?;
     if from != doc.version() {
         return Err(Refusal::BadField);
     }
     append_operations(doc, ops.as_slice())?;
-    prove!(doc.version() <= 131_072);
+    prove!(doc.version() as usize <= MAX_OPERATIONS);
     Ok(())
 }

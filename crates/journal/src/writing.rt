@@ -8,7 +8,7 @@ ghost use Rattle.journal.specs.Journal.{AreLinesOf, part_lines, with_end};
 
 use crate::digest::digest_line;
 use causal_clock::Op;
-use opid::{MAX_COUNT, Refusal};
+use opid::{MAX_COUNT, MAX_OPERATIONS, Refusal};
 use room_calls::{Operations, Reply};
 use sha2::{Digest, Sha256};
 use std::alloc::{AllocError, Global};
@@ -33,7 +33,7 @@ pub struct Lines {
 ///
 /// Refused with `Memory`. Takes time and memory in proportion to the lines.
 pub fn write_lines(alloc: Global, before: &Sha256, from: u32, ops: &[Op]) -> Result<Lines, Refusal>
-    requires { from + length ops.now ≤ 131072 }
+    requires { from + length ops.now ≤ MAX_OPERATIONS }
     ensures lines { IfOk result (λ it. (bytes : List ℕ) → Holds256 before.now bytes
         → AreLinesOf bytes from ops.now (string_bytes it.text)) }
     ensures digest { IfOk result (λ it. (bytes : List ℕ) → Holds256 before.now bytes

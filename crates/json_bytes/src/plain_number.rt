@@ -4,7 +4,7 @@ ghost use Rattle.std.specs.Str.Parse.{AllDigits, digits_value};
 ghost use Rattle.json.specs.Word.{ends_word};
 ghost use Rattle.json_bytes.specs.Internal.Places.{WritesNumber};
 
-/// So many digits write a number that fits 32 bits.
+// So many digits write a number that fits 32 bits.
 const MOST_DIGITS: usize = 9;
 
 // Whether a word ends at the place.

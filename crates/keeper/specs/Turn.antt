@@ -1,5 +1,6 @@
 -- What a file may stand for when a crash left it, and what turns of keeping do to that: the server's own rule.
 use Rattle.std.specs.Prelude.{ℕ, ◌≤◌, List, ◌++◌, length, take, drop}
+use Rattle.opid.specs.declared.limits.TheConstants.{MAX_OPERATIONS}
 use Rattle.opid.specs.Operations.{Operation}
 use Rattle.opid.specs.Lawful.{IsLawful}
 use Rattle.journal.specs.Journal.{IsEnded, StandsFor, AreLinesOf}
@@ -15,7 +16,7 @@ pub record OpensAs (least : ℕ) (log : List Operation) (bytes : List ℕ) : Typ
 -- the bytes are whole lines, which stand for the log's first operations; of it these are so many
 pub record IsFront (file : List ℕ) (version : ℕ) (log : List Operation) : Type 0 where
   pub lawful : IsLawful log
-  pub few : length log ≤ 131072
+  pub few : length log ≤ MAX_OPERATIONS
   pub begins : version ≤ length log
   pub ended : IsEnded file
   pub stands : StandsFor file (take version log)

@@ -128,7 +128,7 @@ impl<D: Disk> KeptFile<D> {
             × (self.new ≡ self.old) }
 
         // It doesn't give up by itself.
-        ensures full { result ≡ Err KeepFault.Full → 131072 < self.old.mark.version + length ops.now }
+        ensures full { result ≡ Err KeepFault.Full → MAX_OPERATIONS < self.old.mark.version + length ops.now }
         ensures strayed { (e : Error) → result ≡ Err (KeepFault.Strayed e) → D.honest self.old.disk → ⊥ }
         ensures file { (e : Error) → result ≡ Err (KeepFault.File e) → D.honest self.old.disk
             → D.faults self.old.disk < D.faults self.new.disk }
@@ -178,7 +178,7 @@ impl<D: Disk> KeptFile<D> {
         ensures written { OnOk result (self.old.is_clean ≡ true → (log : List Operation)
             → Keeps D.honest D.seen D.may_leave D.fresh self.old log → HasWritten D.seen self.old self.new ops.now) }
         ensures failed { OnErr result (self.new.mark ≡ self.old.mark) }
-        ensures full { result ≡ Err KeepFault.Full → 131072 < self.old.mark.version + length ops.now }
+        ensures full { result ≡ Err KeepFault.Full → MAX_OPERATIONS < self.old.mark.version + length ops.now }
         ensures strayed { (e : Error) → result ≡ Err (KeepFault.Strayed e) → ⊥ }
         ensures file { (e : Error) → result ≡ Err (KeepFault.File e) → D.honest self.old.disk
             → D.faults self.old.disk < D.faults self.new.disk }

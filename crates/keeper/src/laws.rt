@@ -9,6 +9,7 @@ ghost use Rattle.keeper.specs.Kept.{Keeps};
 ghost use Rattle.keeper.specs.declared.kept.KeptFile.{KeptFile};
 
 use crate::disk::Disk;
+use opid::MAX_OPERATIONS;
 
 /// Whole lines stand for the first operations of a log, and the lines of the others are appended to them: then all stand for the log, and
 /// are whole lines. Where a crash tears that, or a cut, what is left opens as a beginning of the log with the first operations.
@@ -27,7 +28,7 @@ pub fn opened_again()
 /// Where a log has grown, what was kept of it is kept of the longer one: so each turn can begin where the one before ended.
 pub fn grows_with_its_log<D: Disk>()
     ensures { (file : KeptFile D) (log more : List Operation) → Keeps D.honest D.seen D.may_leave D.fresh file log → IsLawful (log ++ more)
-        → length (log ++ more) ≤ 131072 → Keeps D.honest D.seen D.may_leave D.fresh file (log ++ more) }
+        → length (log ++ more) ≤ MAX_OPERATIONS → Keeps D.honest D.seen D.may_leave D.fresh file (log ++ more) }
 {}
 
 /// A crash at any moment of turns that follow one another leaves a beginning of the log that has grown meanwhile, with what was kept before

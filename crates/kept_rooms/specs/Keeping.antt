@@ -1,5 +1,7 @@
 -- What a turn of keeping does to a room's file. The rules are the server's own.
 use Rattle.std.specs.Prelude.{◌≡◌, ◌<◌, ◌≤◌, ◌⊎◌, ℕ, List, length, Some, slice_get}
+use Rattle.opid.specs.declared.limits.TheConstants.{MAX_OPERATIONS}
+use Rattle.opid.specs.declared.site.TheConstants.{SITES}
 use Rattle.opid.specs.Operations.{Operation}
 use Rattle.opid.specs.Lawful.{IsLawful}
 use Rattle.room.specs.Machine.{room_over}
@@ -20,10 +22,10 @@ pub record IsOverLog (hall : Hall) (at : ℕ) : Type 0 where
   pub there : slice_get (rooms_of hall) at ≡ Some room
   pub site : ℕ
   pub log : List Operation
-  pub one : site < 32
+  pub one : site < SITES
   pub opened : opening room ≡ room_over site log
   pub lawful : IsLawful log
-  pub few : length log ≤ 131072
+  pub few : length log ≤ MAX_OPERATIONS
 
 -- The file's room is one of the hall's, which was opened over a log, and the file keeps the log that the pass has seen of it.
 pub record IsFileOf {D : Type 0} (honest : D → Type 0) (seen : D → List ℕ) (may_leave : D → List ℕ → Type 0) (fresh : D → ℕ)

@@ -14,7 +14,7 @@ fn site(number: u8) -> Result<Site, Refusal> {
     Site::new(number)
 }
 
-/// Whether the pairs tell no clock.
+// Whether the pairs tell no clock.
 fn tells_none(pairs: &[(Site, u32)]) -> bool {
     Clock::from_pairs(pairs).err() == Some(Refusal::BadClock)
 }
@@ -33,14 +33,14 @@ fn pairs_that_tell_no_clock(rt: HostRuntime) -> Result<(), Fail> {
     Ok(())
 }
 
-/// Whether these pairs tell a clock of these counts of the first and the last site.
+// Whether these pairs tell a clock of these counts of the first and the last site.
 fn tells(pairs: &[(Site, u32)], counts: (u32, u32)) -> Result<bool, Refusal> {
     let clock = Clock::from_pairs(pairs)?;
     let (first, last) = (clock.entry(site(0)?), clock.entry(site(31)?));
     Ok((first, last) == counts && clock.sum() == first.saturating_add(last))
 }
 
-/// The clock with one more of the site, where there may be more.
+// The clock with one more of the site, where there may be more.
 fn raised(clock: Clock, site: Site) -> Result<Clock, Refusal> {
     if clock.sum() >= 131_072 {
         return Err(Refusal::Full);
@@ -63,7 +63,7 @@ fn pairs_that_tell_a_clock(rt: HostRuntime) -> Result<(), Fail> {
     Ok(())
 }
 
-/// The insertion that a site makes next where a clock is known, where there may be more.
+// The insertion that a site makes next where a clock is known, where there may be more.
 fn next(site: Site, known: &Clock) -> Result<Op, Refusal> {
     if known.sum() >= 131_072 {
         return Err(Refusal::Full);
@@ -71,7 +71,7 @@ fn next(site: Site, known: &Clock) -> Result<Op, Refusal> {
     Ok(Op::next(site, known, TYPED))
 }
 
-/// Whether the second clock is the first one raised at the last site, and neither another one nor raised elsewhere.
+// Whether the second clock is the first one raised at the last site, and neither another one nor raised elsewhere.
 fn is_raised_at_the_last(zero: Site, last: Site) -> Result<bool, Refusal> {
     let before = Clock::from_pairs(&[(zero, 1), (last, 2)])?;
     let after = Clock::from_pairs(&[(zero, 1), (last, 3)])?;
@@ -89,7 +89,7 @@ fn a_clock_is_raised_at_one_site(rt: HostRuntime) -> Result<(), Fail> {
     Ok(())
 }
 
-/// The first operation of site 0, and that of site 1 which knows of it.
+// The first operation of site 0, and that of site 1 which knows of it.
 fn become_ready_in_turn(zero: Site, one: Site) -> Result<bool, Refusal> {
     let empty = Clock::zero();
     let first = typed(zero, Clock::from_pairs(&[(zero, 1)])?)?;
@@ -109,7 +109,7 @@ fn an_operation_is_ready_after_its_past(rt: HostRuntime) -> Result<(), Fail> {
     Ok(())
 }
 
-/// Whether an operation of site 1 is printed for debugging as a derived `Debug` prints its fields: site, clock and kind.
+// Whether an operation of site 1 is printed for debugging as a derived `Debug` prints its fields: site, clock and kind.
 fn is_printed_in_order(alloc: Global) -> Result<bool, Refusal> {
     let one = site(1)?;
     let op = typed(one, Clock::from_pairs(&[(one, 1)])?)?;
@@ -128,18 +128,18 @@ fn an_operation_is_printed_by_its_fields(rt: HostRuntime) -> Result<(), Fail> {
     Ok(())
 }
 
-/// The insertion of a character at the head.
+// The insertion of a character at the head.
 const TYPED: OpKind = OpKind::Ins {
     parent: None,
     ch: 'a',
 };
 
-/// The operation of the site that inserts at the head, with this clock.
+// The operation of the site that inserts at the head, with this clock.
 fn typed(site: Site, clock: Clock) -> Result<Op, Refusal> {
     Op::new(site, clock, TYPED)
 }
 
-/// Whether the log stores as many entries as the first and the last of 128 operations of a site, and their 64ths, tell.
+// Whether the log stores as many entries as the first and the last of 128 operations of a site, and their 64ths, tell.
 fn stores_190(log: &mut OpLog) -> Result<bool, Refusal> {
     let zero = site(0)?;
     for n in 1..129u32 {
@@ -154,7 +154,7 @@ fn one_site_types_128_characters(rt: HostRuntime) -> Result<(), Fail> {
     Ok(())
 }
 
-/// Four operations, the last of which knows less of site 0 than the one of its site before it.
+// Four operations, the last of which knows less of site 0 than the one of its site before it.
 fn falling() -> Result<[Op; 4], Refusal> {
     let (zero, one, two) = (site(0)?, site(1)?, site(2)?);
     Ok([
@@ -182,7 +182,7 @@ fn an_entry_that_fell_is_stored(rt: HostRuntime) -> Result<(), Fail> {
     Ok(())
 }
 
-/// The operation at the place, where nobody counts the steps.
+// The operation at the place, where nobody counts the steps.
 fn get_at<L: Ledger>(log: &OpLog, place: usize, blank: Blank) -> Op
     requires place { place < length log.now.ops }
     requires name { blank.name ≡ L.name }
@@ -192,7 +192,7 @@ fn get_at<L: Ledger>(log: &OpLog, place: usize, blank: Blank) -> Op
     log.get(place, &mut Reads::<L>::new(blank))
 }
 
-/// Whether the log has these operations: each by its place, and all that follow in order.
+// Whether the log has these operations: each by its place, and all that follow in order.
 fn is_log_of(log: &OpLog, ops: &[Op]) -> bool {
     if log.len() != ops.len() {
         return false;
@@ -209,7 +209,7 @@ fn is_log_of(log: &OpLog, ops: &[Op]) -> bool {
     all
 }
 
-/// Whether these are the log's operations from the place on.
+// Whether these are the log's operations from the place on.
 fn is_rest(log: &OpLog, place: usize, ops: &[Op]) -> bool {
     if place > log.len() {
         return false;
@@ -223,7 +223,7 @@ fn is_rest(log: &OpLog, place: usize, ops: &[Op]) -> bool {
     rest.next().is_none()
 }
 
-/// A clock that counts one of a site, and at most ten more of five sites.
+// A clock that counts one of a site, and at most ten more of five sites.
 fn any_clock(own: Site, dice: &mut Dice) -> Result<Clock, Refusal> {
     let mut clock = raised(Clock::zero(), own)?;
     for _ in 0..dice.roll(11) {
@@ -232,7 +232,7 @@ fn any_clock(own: Site, dice: &mut Dice) -> Result<Clock, Refusal> {
     Ok(clock)
 }
 
-/// An operation of one of five sites, whose clock has nothing to do with those before it.
+// An operation of one of five sites, whose clock has nothing to do with those before it.
 fn any_op(dice: &mut Dice) -> Result<Op, Refusal> {
     let own = site(dice.roll(5) as u8)?;
     let clock = any_clock(own, dice)?;
@@ -254,7 +254,7 @@ fn any_op(dice: &mut Dice) -> Result<Op, Refusal> {
     Op::new(own, clock, kind)
 }
 
-/// Pushes 2,000 operations, and notes them.
+// Pushes 2,000 operations, and notes them.
 fn push_many(log: &mut OpLog, noted: &mut Vec<Op>, dice: &mut Dice) -> Result<(), Refusal> {
     for k in 0..2_000usize {
         if k % 64 == 0 {

@@ -5,14 +5,14 @@ use holdback::Held;
 use opid::{OpKind, Refusal, Site};
 use std::test::Fail;
 
-/// The insertion of the character at the head by site 1, with this own entry.
+// The insertion of the character at the head by site 1, with this own entry.
 fn insertion(own: u32, ch: char) -> Result<Op, Refusal> {
     let one = Site::new(1)?;
     let clock = Clock::from_pairs(&[(one, own)])?;
     Op::new(one, clock, OpKind::Ins { parent: None, ch })
 }
 
-/// The third and the second operation of a site, and one that stays.
+// The third and the second operation of a site, and one that stays.
 fn leave_in_turn(held: &mut Held) -> Result<bool, Refusal> {
     held.reserve(3)?;
     let (third, second) = (insertion(3, 'c')?, insertion(2, 'b')?);

@@ -17,7 +17,7 @@ fn stamp(sum: u32, site: u8) -> Result<Stamp, Refusal> {
     })
 }
 
-/// A stamp of the site that may be inserted, from this sum on.
+// A stamp of the site that may be inserted, from this sum on.
 fn fresh(rga: &Rga, least: u32, site: Site) -> Option<Stamp>
     ensures { IfSome result (λ s. IsAboveItsSite rga.now.entries s) }
 {
@@ -34,7 +34,7 @@ fn fresh(rga: &Rga, least: u32, site: Site) -> Option<Stamp>
     }
 }
 
-/// Inserts with this stamp, or the site's next one.
+// Inserts with this stamp, or the site's next one.
 fn insert(
     rga: &mut Rga,
     sum: u32,
@@ -48,7 +48,7 @@ fn insert(
     }
 }
 
-/// Whether the list has these characters, each of which is shown or not.
+// Whether the list has these characters, each of which is shown or not.
 fn lists(rga: &Rga, characters: &[(char, bool)]) -> bool {
     let mut at = None;
     for want in characters {
@@ -66,7 +66,7 @@ fn lists(rga: &Rga, characters: &[(char, bool)]) -> bool {
     rga.next(at).is_none()
 }
 
-/// Whether the list is these elements of the plain program.
+// Whether the list is these elements of the plain program.
 fn is_same(rga: &Rga, plain: &Plain, order: &[Insertion]) -> bool {
     let mut at = None;
     for x in order {
@@ -88,10 +88,10 @@ fn is_same(rga: &Rga, plain: &Plain, order: &[Insertion]) -> bool {
     rga.next(at).is_none() && rga.len() == order.len()
 }
 
-/// The text of the worked list, all of which is shown.
+// The text of the worked list, all of which is shown.
 const XZWY: [(char, bool); 4] = [('x', true), ('z', true), ('w', true), ('y', true)];
 
-/// `x`, and behind it first `y` and then the run `zw` of another site.
+// `x`, and behind it first `y` and then the run `zw` of another site.
 fn takes_the_run_last(rga: &mut Rga) -> Result<bool, Refusal> {
     let (x, z) = (stamp(1, 0)?, stamp(2, 1)?);
     insert(rga, 1, 0, None, 'x')?;
@@ -101,7 +101,7 @@ fn takes_the_run_last(rga: &mut Rga) -> Result<bool, Refusal> {
     Ok(lists(rga, &XZWY))
 }
 
-/// The same, where `y` arrives last.
+// The same, where `y` arrives last.
 fn takes_the_run_first(rga: &mut Rga) -> Result<bool, Refusal> {
     let (x, z) = (stamp(1, 0)?, stamp(2, 1)?);
     insert(rga, 1, 0, None, 'x')?;
@@ -121,12 +121,12 @@ fn either_order_of_arrival_gives_one_list(rt: HostRuntime) -> Result<(), Fail> {
     Ok(())
 }
 
-/// Whether the insertion of `b` as (2,1) behind this element is refused so.
+// Whether the insertion of `b` as (2,1) behind this element is refused so.
 fn refuses_behind(rga: &mut Rga, parent: Stamp, why: Refusal) -> bool {
     insert(rga, 2, 1, Some(parent), 'b').err() == Some(why)
 }
 
-/// In a list of one element, which is deleted twice.
+// In a list of one element, which is deleted twice.
 fn deletes_the_only_one(rga: &mut Rga) -> Result<bool, Refusal> {
     let (only, unknown) = (stamp(3, 0)?, stamp(9, 0)?);
     let mut all = rga.last_of(only.site).is_none();
@@ -148,7 +148,7 @@ fn refused_and_deleted(rt: HostRuntime) -> Result<(), Fail> {
     Ok(())
 }
 
-/// What stands at the first places.
+// What stands at the first places.
 fn picture(rga: &Rga) -> [(Elem, u32, char, bool); 16] {
     let mut places = [(0, 0, ' ', false); 16];
     let mut at = None;
@@ -165,7 +165,7 @@ fn picture(rga: &Rga) -> [(Elem, u32, char, bool); 16] {
     places
 }
 
-/// Whether an insertion that lacks memory leaves the list as it was, so that it can be asked for again.
+// Whether an insertion that lacks memory leaves the list as it was, so that it can be asked for again.
 fn grows(rga: &mut Rga, n: u8) -> Result<bool, Refusal> {
     let before = picture(rga);
     let sum = u32::from(n) + 1;
@@ -191,7 +191,7 @@ fn a_refused_growth_changes_nothing(rt: HostRuntime) -> Result<(), Fail> {
     Ok(())
 }
 
-/// Reserves in a list of one element, once more where memory was refused.
+// Reserves in a list of one element, once more where memory was refused.
 fn reserves(rga: &mut Rga) -> Result<bool, Refusal> {
     let Err(refusal) = rga.reserve(40) else {
         return Ok(true);
@@ -219,8 +219,8 @@ fn a_reserve_is_enough(rt: HostRuntime) -> Result<(), Fail> {
     Ok(())
 }
 
-/// One deletion, or one insertion of one of five sites, in the list and in the plain program. Says whether
-/// both answered the same.
+// One deletion, or one insertion of one of five sites, in the list and in the plain program. Says whether
+// both answered the same.
 fn step(alloc: Global, rga: &mut Rga, plain: &mut Plain, dice: &mut Dice) -> Result<bool, Refusal> {
     let kind = dice.roll(10);
     let site = Site::new(dice.roll(5) as u8)?;
@@ -252,12 +252,12 @@ fn step(alloc: Global, rga: &mut Rga, plain: &mut Plain, dice: &mut Dice) -> Res
     }
 }
 
-/// Whether the list is what the plain program has.
+// Whether the list is what the plain program has.
 fn is_as_defined(alloc: Global, rga: &Rga, plain: &Plain) -> Result<bool, AllocError> {
     Ok(is_same(rga, plain, &plain.all(alloc)?))
 }
 
-/// Whether both answer the same, and have the same list, in 2,000 steps.
+// Whether both answer the same, and have the same list, in 2,000 steps.
 fn run_alike(
     alloc: Global,
     rga: &mut Rga,

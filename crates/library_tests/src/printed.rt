@@ -4,7 +4,7 @@ use opid::{OpKind, Refusal, Site, Stamp};
 use std::alloc::Global;
 use std::test::Fail;
 
-/// The fields of an operation in the order in which they are printed.
+// The fields of an operation in the order in which they are printed.
 #[derive(Clone, Copy, Debug)]
 struct Op {
     site: Site,
@@ -12,14 +12,14 @@ struct Op {
     kind: OpKind,
 }
 
-/// Whether the two are printed alike, on one line and on many.
+// Whether the two are printed alike, on one line and on many.
 fn are_alike(alloc: Global, op: &causal_clock::Op, derived: &Op) -> Result<bool, Refusal> {
     let on_one_line = format!(in alloc; "{op:?}")? == format!(in alloc; "{derived:?}")?;
     let on_many = format!(in alloc; "{op:#?}")? == format!(in alloc; "{derived:#?}")?;
     Ok(on_one_line && on_many)
 }
 
-/// Whether an operation of the site is printed as its fields are.
+// Whether an operation of the site is printed as its fields are.
 fn is_printed_so(alloc: Global, site: Site, kind: OpKind) -> Result<bool, Refusal> {
     let count = 4_096 * u32::from(site.number()) + 1;
     let clock = Clock::from_pairs(&[(site, count)])?;
@@ -32,7 +32,7 @@ fn is_printed_so(alloc: Global, site: Site, kind: OpKind) -> Result<bool, Refusa
     are_alike(alloc, &op, &derived)
 }
 
-/// Whether each kind of operation of the site is.
+// Whether each kind of operation of the site is.
 fn are_printed_so(alloc: Global, site: Site) -> Result<bool, Refusal> {
     let stamp = Stamp { sum: 70_000, site };
     let (first, behind) = (None, Some(stamp));
@@ -56,7 +56,7 @@ fn are_printed_so(alloc: Global, site: Site) -> Result<bool, Refusal> {
     Ok(all)
 }
 
-/// Whether they are of all sites.
+// Whether they are of all sites.
 fn are_printed_by_all(alloc: Global) -> Result<bool, Refusal> {
     let mut all = true;
     for number in 0..32 {

@@ -7,7 +7,7 @@ fn is(text: &Text, characters: &[char]) -> bool {
     text.characters() == characters
 }
 
-/// `abc`, of which `b` is replaced, and a character of two units at the end.
+// `abc`, of which `b` is replaced, and a character of two units at the end.
 fn splices_each(text: &mut Text) -> Result<bool, Refusal> {
     text.apply(&Edit::Del(1))?;
     text.apply(&Edit::Ins(1, 'X'))?;
@@ -50,7 +50,7 @@ fn refuses_what_lies_outside(rt: HostRuntime) -> Result<(), Fail> {
     Ok(())
 }
 
-/// A pair and `a`, of which the pair and then the last are deleted.
+// A pair and `a`, of which the pair and then the last are deleted.
 fn splices_units(text: &mut UnitText) -> Result<bool, Refusal> {
     text.apply_units(&Edit::Ins(2, 'b'))?;
     text.apply_units(&Edit::Nop)?;
@@ -68,7 +68,7 @@ fn splices_in_units(rt: HostRuntime) -> Result<(), Fail> {
     Ok(())
 }
 
-/// Whether the text has just these units.
+// Whether the text has just these units.
 fn are_units(text: &UnitText, units: &[u16]) -> bool {
     text.len() == units.len() && text.units() == units
 }
@@ -84,7 +84,7 @@ fn refuses(text: &mut UnitText, edit: Edit) -> bool {
     text.apply_units(&edit) == Err(Refusal::BadPlace)
 }
 
-/// In a pair and `a`.
+// In a pair and `a`.
 fn refuses_each(text: &mut UnitText) -> bool {
     let mut all = refuses(text, Edit::Ins(1, 'b'));
     all &= refuses(text, Edit::Ins(4, 'b'));

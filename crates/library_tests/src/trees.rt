@@ -19,7 +19,7 @@ const OPERATIONS: usize = 120;
 
 const ELEMENTS: usize = 400;
 
-/// An empty tree, with memory for so many versions.
+// An empty tree, with memory for so many versions.
 fn empty(alloc: Global, versions: usize) -> Result<VersionTree, AllocError>
     requires { versions ≤ 131072 }
 {
@@ -28,7 +28,7 @@ fn empty(alloc: Global, versions: usize) -> Result<VersionTree, AllocError>
     Ok(tree)
 }
 
-/// Asks something of an empty tree and a scan of no elements.
+// Asks something of an empty tree and a scan of no elements.
 fn of_empty_ones<F: Fn(&mut VersionTree, &mut Plain) -> Result<bool, AllocError>>(
     alloc: Global,
     versions: usize,
@@ -41,7 +41,7 @@ fn of_empty_ones<F: Fn(&mut VersionTree, &mut Plain) -> Result<bool, AllocError>
     asked(&mut tree, &mut Plain::new(alloc))
 }
 
-/// A number below this one, or 0 where there is none.
+// A number below this one, or 0 where there is none.
 fn below(dice: &mut Dice, n: u32) -> u32 {
     if n == 0 {
         0
@@ -50,7 +50,7 @@ fn below(dice: &mut Dice, n: u32) -> u32 {
     }
 }
 
-/// The element that a version shows at the place, if there are both.
+// The element that a version shows at the place, if there are both.
 fn found(tree: &VersionTree, version: usize, k: usize) -> Option<u32> {
     if version > tree.newest() {
         return None;
@@ -58,7 +58,7 @@ fn found(tree: &VersionTree, version: usize, k: usize) -> Option<u32> {
     tree.find(version, k, &mut Steps::new())
 }
 
-/// The element that has a unit of what a version shows, if there are both, and which of its units that is.
+// The element that has a unit of what a version shows, if there are both, and which of its units that is.
 fn found_unit(tree: &VersionTree, version: usize, k: usize) -> Option<(u32, u8)> {
     if version > tree.newest() {
         return None;
@@ -66,7 +66,7 @@ fn found_unit(tree: &VersionTree, version: usize, k: usize) -> Option<(u32, u8)>
     tree.find_units(version, k, &mut Steps::new())
 }
 
-/// How many elements, and how many units, stand before an element in the newest version, if it is there.
+// How many elements, and how many units, stand before an element in the newest version, if it is there.
 fn ranks(tree: &VersionTree, elem: u32) -> Option<(usize, usize)> {
     if elem as usize >= tree.elements() {
         return None;
@@ -75,7 +75,7 @@ fn ranks(tree: &VersionTree, elem: u32) -> Option<(usize, usize)> {
     Some((rank, tree.rank_units(elem, &mut Steps::new())))
 }
 
-/// How many elements, and how many units, a version shows, if it is there.
+// How many elements, and how many units, a version shows, if it is there.
 fn lengths(tree: &VersionTree, version: usize) -> Option<(usize, usize)> {
     if version > tree.newest() {
         return None;
@@ -83,7 +83,7 @@ fn lengths(tree: &VersionTree, version: usize) -> Option<(usize, usize)> {
     Some((tree.shown(version), tree.units(version)))
 }
 
-/// The last element that one passes from one on, if it is there, or from before all others, as long as the keys are greater.
+// The last element that one passes from one on, if it is there, or from before all others, as long as the keys are greater.
 fn last_greater(tree: &VersionTree, before: Option<u32>, key: u32) -> Option<u32> {
     if let Some(e) = before {
         if e as usize >= tree.elements() {
@@ -95,7 +95,7 @@ fn last_greater(tree: &VersionTree, before: Option<u32>, key: u32) -> Option<u32
     }
 }
 
-/// Puts the next element in, before all others or after one that is there. Whether it did.
+// Puts the next element in, before all others or after one that is there. Whether it did.
 fn put(tree: &mut VersionTree, before: Option<u32>, key: u32, wide: bool) -> bool
     requires { key < 2 ^ 23 }
 {
@@ -114,7 +114,7 @@ fn put(tree: &mut VersionTree, before: Option<u32>, key: u32, wide: bool) -> boo
     true
 }
 
-/// Hides the element at the place of the newest version, if there is one, and tells which.
+// Hides the element at the place of the newest version, if there is one, and tells which.
 fn hide(tree: &mut VersionTree, k: usize) -> Option<u32> {
     if tree.room() == 0 {
         return None;
@@ -127,14 +127,14 @@ fn hide(tree: &mut VersionTree, k: usize) -> Option<u32> {
     None
 }
 
-/// Makes a version like the one before.
+// Makes a version like the one before.
 fn mark(tree: &mut VersionTree) {
     if tree.room() > 0 {
         tree.mark();
     }
 }
 
-/// The same in the tree and in the scan.
+// The same in the tree and in the scan.
 fn put_in_both(
     tree: &mut VersionTree,
     plain: &mut Plain,
@@ -151,7 +151,7 @@ fn put_in_both(
     plain.insert_after(before, n, key, wide, tree.newest())
 }
 
-/// The same in the tree and in the scan.
+// The same in the tree and in the scan.
 fn hide_in_both(tree: &mut VersionTree, plain: &mut Plain, k: usize) {
     if let Some(e) = hide(tree, k) {
         plain.hide(e, tree.newest());
@@ -177,7 +177,7 @@ fn step(tree: &mut VersionTree, plain: &mut Plain, dice: &mut Dice) -> Result<()
     }
 }
 
-/// Whether the tree and the scan find the same at so many places of a version, in either count.
+// Whether the tree and the scan find the same at so many places of a version, in either count.
 fn find_the_same(tree: &VersionTree, plain: &Plain, version: usize, places: usize) -> bool {
     let mut all = true;
     for k in 0..places {
@@ -187,7 +187,7 @@ fn find_the_same(tree: &VersionTree, plain: &Plain, version: usize, places: usiz
     all
 }
 
-/// Whether each element has the same ranks in the tree and in the scan.
+// Whether each element has the same ranks in the tree and in the scan.
 fn rank_the_same(tree: &VersionTree, plain: &Plain) -> bool {
     let mut all = true;
     for elem in 0..tree.elements() as u32 {
@@ -196,7 +196,7 @@ fn rank_the_same(tree: &VersionTree, plain: &Plain) -> bool {
     all
 }
 
-/// Whether one passes as far in the tree as in the scan, past the elements with a greater key than this.
+// Whether one passes as far in the tree as in the scan, past the elements with a greater key than this.
 fn pass_the_same(tree: &VersionTree, plain: &Plain, key: u32) -> bool {
     let mut all = last_greater(tree, None, key) == plain.last_greater(None, key);
     for elem in 0..tree.elements() as u32 {
@@ -205,7 +205,7 @@ fn pass_the_same(tree: &VersionTree, plain: &Plain, key: u32) -> bool {
     all
 }
 
-/// Random steps, of which each version is kept.
+// Random steps, of which each version is kept.
 fn grow(tree: &mut VersionTree, plain: &mut Plain, dice: &mut Dice) -> Result<(), AllocError> {
     for _ in 0..OPERATIONS {
         step(tree, plain, dice)?;
@@ -213,7 +213,7 @@ fn grow(tree: &mut VersionTree, plain: &mut Plain, dice: &mut Dice) -> Result<()
     Ok(())
 }
 
-/// Whether a random tree and a scan tell the same.
+// Whether a random tree and a scan tell the same.
 fn agrees(tree: &mut VersionTree, plain: &mut Plain) -> Result<bool, AllocError> {
     grow(tree, plain, &mut Dice::new(11))?;
     let mut all = tree.newest() > 90;
@@ -232,7 +232,7 @@ fn agrees_with_a_scan(rt: HostRuntime) -> Result<(), Fail> {
     Ok(())
 }
 
-/// Elements of which few have keys below the greatest ones, so that ways are long.
+// Elements of which few have keys below the greatest ones, so that ways are long.
 fn grow_long_ways(
     tree: &mut VersionTree,
     plain: &mut Plain,
@@ -251,7 +251,7 @@ fn grow_long_ways(
     Ok(())
 }
 
-/// Whether long ways are the same in the tree and in a scan, and the places of the newest version.
+// Whether long ways are the same in the tree and in a scan, and the places of the newest version.
 fn agrees_on_long_ways(tree: &mut VersionTree, plain: &mut Plain) -> Result<bool, AllocError> {
     grow_long_ways(tree, plain, &mut Dice::new(5))?;
     let mut all = tree.elements() == ELEMENTS;
@@ -268,7 +268,7 @@ fn long_ways_agree_with_a_scan(rt: HostRuntime) -> Result<(), Fail> {
     Ok(())
 }
 
-/// Whether the version has an element at the place, which is found in 1 to 36 steps.
+// Whether the version has an element at the place, which is found in 1 to 36 steps.
 fn is_found_soon(tree: &VersionTree, version: usize, k: usize) -> bool {
     if version > tree.newest() {
         return false;
@@ -277,7 +277,7 @@ fn is_found_soon(tree: &VersionTree, version: usize, k: usize) -> bool {
     tree.find(version, k, &mut steps).is_some() && (1..=36).contains(&steps.count())
 }
 
-/// Runs of 64 elements, each run before all others; the last two are one of their own. Keys rise to near 2^23.
+// Runs of 64 elements, each run before all others; the last two are one of their own. Keys rise to near 2^23.
 fn grow_longest(tree: &mut VersionTree) {
     for n in 0..131_072u32 {
         let before = if n % 64 == 0 || n == 131_070 {
@@ -289,7 +289,7 @@ fn grow_longest(tree: &mut VersionTree) {
     }
 }
 
-/// Whether a place of each version is found soon.
+// Whether a place of each version is found soon.
 fn finds_soon(tree: &VersionTree, dice: &mut Dice) -> bool {
     let mut all = true;
     for version in 1..131_073usize {

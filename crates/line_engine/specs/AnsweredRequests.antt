@@ -1,6 +1,7 @@
 -- The answer to a line that is a request, over a desk's own steps. That a request has a limit is a case of `request`. The rules
 -- are the server's own.
 use Rattle.std.specs.Prelude.{◌≡◌, ◌⊎◌, ℕ, ◌≤◌, List, length, Result, Ok, Err}
+use Rattle.opid.specs.declared.limits.TheConstants.{MAX_REQUEST_BYTES}
 use Rattle.opid.specs.declared.refusal.Refusal.{Refusal}
 use Rattle.opid.specs.declared.refusal.Refusal.TheVariants as Why
 use Rattle.room_calls.specs.declared.call.Call.{Call}
@@ -30,4 +31,4 @@ abbrev pub AnswersRequest : {S : Type 0} → (S → Call → Reply → S → Typ
     → Type 0
 AnswersRequest step fault old line answer new =
     AnswersAsked step fault old (request line) answer new
-    ⊎ ((length line ≤ 65536) × (answer ≡ text (No Why.Memory)) × (new ≡ old))
+    ⊎ ((length line ≤ MAX_REQUEST_BYTES) × (answer ≡ text (No Why.Memory)) × (new ≡ old))

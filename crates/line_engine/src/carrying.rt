@@ -5,7 +5,7 @@ ghost use Rattle.room.specs.declared.desk.DeskFault.{DeskFault};
 ghost use Rattle.room_calls.specs.declared.call.Call.TheVariants as calls;
 ghost use Rattle.line_engine.specs.Carrying.{Calls, Hands, HandsTold, carried, is_refused_for_room};
 
-use opid::{MAX_COUNT, Refusal};
+use opid::{MAX_COUNT, MAX_OPERATIONS, Refusal};
 use room::{Call, Desk, DeskFault, Operations, Outcome, Outcomes, Reply};
 
 // Whether an operation is to be handed over again.
@@ -30,7 +30,7 @@ fn carried_by(outcomes: &Outcomes) -> usize
 // Puts the operations in one call, if there are any.
 fn hand<B: Desk>(b: &mut B, after: u32, ops: Operations) -> Result<u32, DeskFault>
     requires ready { B.ready b.old }
-    requires place { 0 < length ops → after ≤ 131072 }
+    requires place { 0 < length ops → after ≤ MAX_OPERATIONS }
     ensures ready { B.ready b.new }
     ensures hands { Hands B.step B.fault b.old after ops result b.new }
 {

@@ -17,12 +17,13 @@ impl<D: Desk> Protocol for Requests<D> {
     ghost use Rattle.line_engine.specs.AnsweredRequests.{AnswersRequest};
     ghost use Rattle.line_engine.specs.Internal.AnswerLaws.{AnswersRequest-long};
     ghost use Rattle.std.proofs.Common.{rules};
+    ghost use Rattle.opid.specs.declared.limits.TheConstants.{MAX_REQUEST_BYTES};
 
     type State = D;
 
     type Scratch = RequestReader;
 
-    ghost LIMIT = { 65536 };
+    ghost LIMIT = { MAX_REQUEST_BYTES };
 
     ghost ready = { D.ready };
 

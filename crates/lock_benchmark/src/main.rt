@@ -26,7 +26,7 @@ const USAGE: &str =
 
 const LOCKS: [What; 3] = [What::Tickets, What::TicketsWhenFree, What::Mutex];
 
-/// A value with no trail.
+// A value with no trail.
 #[derive(Drop)]
 struct Count {
     turns: u64,
@@ -141,7 +141,7 @@ fn by_mutex<R: Threads + Wait + Sync>(
     );
 }
 
-/// What the threads of a run do.
+// What the threads of a run do.
 #[derive(Clone, Copy)]
 enum What {
     Tickets,

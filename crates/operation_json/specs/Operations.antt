@@ -11,6 +11,7 @@ use Rattle.opid.specs.declared.refusal.Refusal.TheVariants.{BadField, BadSite, B
 use Rattle.opid.specs.declared.stamp.Stamp.{Stamp}
 use Rattle.opid.specs.declared.kind.OpKind.{OpKind}
 use Rattle.opid.specs.declared.kind.OpKind.TheVariants.{Ins, Del}
+use Rattle.opid.specs.declared.site.TheConstants.{SITES}
 use Rattle.opid.specs.Clocks.{entry}
 use Rattle.opid.specs.Operations.{Operation}
 use Rattle.causal_clock.specs.Listing.{clock_told}
@@ -114,7 +115,7 @@ offer_of d = do
 
 -- the number of a site is at most 31
 abbrev pub site_of : ℕ → Result ℕ Refusal
-site_of n = or_refuse BadSite (below 32 n)
+site_of n = or_refuse BadSite (below SITES n)
 
 -- a pair whose first number is a site
 abbrev pub sited_pair : ℕ × ℕ → Result (ℕ × ℕ) Refusal

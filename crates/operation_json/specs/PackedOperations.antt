@@ -8,6 +8,7 @@ use Rattle.serde_json.specs.Find.{get}
 use Rattle.opid.specs.declared.refusal.Refusal.{Refusal}
 use Rattle.opid.specs.declared.refusal.Refusal.TheVariants.{BadField, BadClock}
 use Rattle.opid.specs.declared.kind.OpKind.TheVariants.{Ins}
+use Rattle.opid.specs.declared.limits.TheConstants.{MAX_OPERATIONS}
 use Rattle.opid.specs.Operations.{Operation}
 use Rattle.operation_json.specs.Members.{◌>>=◌, only_keys, number_at, text_at}
 use Rattle.operation_json.specs.Operations.{Offer, each, list_at, pair_of, present, parent_of, offer_named, sited, operation}
@@ -63,7 +64,7 @@ item_sited o = do
 
 -- an operation and those that follow it: none has a clock with a sum above 131,072
 abbrev pub unfolded_if_counted : Operation → List ℕ → Result (List Operation) Refusal
-unfolded_if_counted x cs = if nat_le (sum x.clock + length cs) 131072 then Ok (x ∷ typed_behind x cs) else Err BadClock
+unfolded_if_counted x cs = if nat_le (sum x.clock + length cs) MAX_OPERATIONS then Ok (x ∷ typed_behind x cs) else Err BadClock
 
 -- the operations that an offer tells, whose sites are sites
 abbrev pub item_operations : ItemOffer → Result (List Operation) Refusal

@@ -7,6 +7,7 @@ use Rattle.std.specs.List.{flat_map}
 use Rattle.opid.specs.declared.stamp.Stamp.{Stamp}
 use Rattle.opid.specs.declared.kind.OpKind.{OpKind}
 use Rattle.opid.specs.declared.kind.OpKind.TheVariants.{Ins, Del}
+use Rattle.opid.specs.declared.limits.TheConstants.{MAX_RUN}
 use Rattle.opid.specs.Clocks.{raised}
 use Rattle.opid.specs.Stamps.{is_same}
 use Rattle.opid.specs.Operations.{Operation, stamp_of}
@@ -65,7 +66,7 @@ is_typed_next x y =
 
 -- the item has fewer than 64 operations, and y is the next one after its last
 abbrev pub joins : Item → Operation → Bool
-joins i y = nat_lt (length i.more + 1) 64 && is_typed_next (last_typed i.first i.more) y
+joins i y = nat_lt (length i.more + 1) MAX_RUN && is_typed_next (last_typed i.first i.more) y
 
 -- an operation by itself
 abbrev pub alone : Operation → Item

@@ -5,6 +5,7 @@ use Rattle.std.specs.Str.{all_scalars}
 use Rattle.opid.specs.declared.stamp.Stamp.{Stamp}
 use Rattle.opid.specs.declared.kind.OpKind as kind
 use Rattle.opid.specs.declared.kind.OpKind.TheVariants as kinds
+use Rattle.opid.specs.declared.site.TheConstants.{SITES}
 use Rattle.opid.specs.Clocks.{sites, entry}
 use Rattle.opid.specs.Operations.{Operation}
 use Rattle.causal_clock.specs.Kinds.{IsOperation}
@@ -13,7 +14,7 @@ use Rattle.json_bytes.specs.Quote.{quote}
 
 -- the stamp's sum fits 32 bits, and its site is one of 32
 abbrev pub IsStampInRange : Stamp → Type 0
-IsStampInRange s = (s.sum < 2 ^ 32) × (s.site < 32)
+IsStampInRange s = (s.sum < 2 ^ 32) × (s.site < SITES)
 
 -- the stamp that the operation names is one, and its character is a Unicode scalar value
 abbrev pub IsKindInRange : kind.OpKind → Type 0

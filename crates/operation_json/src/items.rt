@@ -15,9 +15,8 @@ ghost use Rattle.operation_json.specs.Given.{Gives};
 use crate::members::{check_keys, read_list, read_member, read_number, read_text};
 use crate::offer::{ItemOffer, Offer, OfferedKind, SitedItem};
 use crate::operations::{check_clock, check_pairs, check_sites, read_offer, read_parent};
-use crate::packing::MAX_RUN;
 use causal_clock::{MAX_SUM, Op};
-use opid::{MAX_COUNT, OpKind, Refusal, count_characters};
+use opid::{MAX_COUNT, MAX_RUN, OpKind, Refusal, count_characters};
 use serde_json::Value;
 use std::alloc::Global;
 
@@ -90,7 +89,7 @@ fn unfold_all(alloc: Global, offers: &[SitedItem<'_>]) -> Result<Vec<Op>, Refusa
 
 fn read_item<'v>(value: &'v Value) -> Result<ItemOffer<'v>, Refusal>
     ensures told { result ≡ item_offer_of (view value.now) }
-    ensures few { IfOk result (λ o. length o.more < 64) }
+    ensures few { IfOk result (λ o. length o.more < MAX_RUN) }
 {
     match read_text(value, "k")? {
         "r" => read_run(value),
@@ -111,7 +110,7 @@ fn no_text() -> &'static str
 
 fn read_run<'v>(value: &'v Value) -> Result<ItemOffer<'v>, Refusal>
     ensures told { result ≡ run_of (view value.now) }
-    ensures few { IfOk result (λ o. length o.more < 64) }
+    ensures few { IfOk result (λ o. length o.more < MAX_RUN) }
 {
     check_keys(value, &["c", "k", "p", "s", "x"])?;
     let pairs = read_list(value, "c")?;
@@ -131,7 +130,7 @@ fn read_run<'v>(value: &'v Value) -> Result<ItemOffer<'v>, Refusal>
 pub(crate) fn split_run<'v>(text: &'v str) -> Option<(char, &'v str)>
     ensures told { or_refuse BadField (option_map (λ p. (p.0, chars p.1.now)) result) ≡ run_chars (chars text.now) }
     ensures behind { IfSome result (λ p. chars p.1.now ≡ drop 1 (chars text.now)) }
-    ensures few { IfSome result (λ p. length (chars p.1.now) < 64) }
+    ensures few { IfSome result (λ p. length (chars p.1.now) < MAX_RUN) }
 {
     let count = count_characters(text);
     if count < 2 || count > MAX_RUN {

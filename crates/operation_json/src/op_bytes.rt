@@ -11,8 +11,8 @@ use json_bytes::{push_quoted, put, put_all, put_small};
 use opid::{SITES, Site, Stamp};
 use std::alloc::AllocError;
 
-/// Room for the text of any operation but its characters: 32 pairs of at most 24 bytes take 770 bytes with their brackets, and the
-/// rest no more than 80.
+// Room for the text of any operation but its characters: 32 pairs of at most 24 bytes take 770 bytes with their brackets, and the
+// rest no more than 80.
 const MOST: usize = 896;
 
 /// Appends an insertion, the letter `i` and its character, or a run, the letter `r` and its characters.

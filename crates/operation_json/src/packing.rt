@@ -11,14 +11,11 @@ use crate::operation_writing::check_op;
 use arrayvec::ArrayVec;
 use causal_clock::Op;
 use json_bytes::text_of_bytes;
-use opid::{MAX_COUNT, OpKind, Refusal, Stamp};
+use opid::{MAX_RUN, OpKind, Refusal, Stamp};
 use std::alloc::{AllocError, Global};
 use std::marker::Model;
 
-/// A run has at most so many insertions.
-pub(crate) const MAX_RUN: usize = MAX_COUNT as usize;
-
-/// Most operations' texts take no more, with a line feed behind them.
+// Most operations' texts take no more, with a line feed behind them.
 const LIKELY_LEN: usize = 128;
 
 /// An operation, and the characters of the insertions that follow it.
@@ -74,7 +71,7 @@ impl Item {
 // Whether a run of an insertion and those of these characters, the last of which is given, goes on with the operation.
 #[inline(always)]
 fn is_next_of_run(more: &[char], last: &Op, op: &Op) -> bool
-    ensures { result ≡ (nat_lt (length more.now + 1) 64 && is_typed_next last.now op.now) }
+    ensures { result ≡ (nat_lt (length more.now + 1) MAX_RUN && is_typed_next last.now op.now) }
 {
     more.len() + 1 < MAX_RUN && is_typed_next(last, op)
 }

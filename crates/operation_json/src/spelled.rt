@@ -16,7 +16,7 @@ use crate::operations::{check_site, only_char};
 use arrayvec::ArrayString;
 use causal_clock::{Clock, MAX_SUM, Op};
 use json_bytes::{MAX_TEXT, PlainReader};
-use opid::{OpKind, SITES, Site, Stamp, count_characters};
+use opid::{MAX_OPERATIONS, OpKind, SITES, Site, Stamp, count_characters};
 
 // Whether the two are one text.
 fn is_one(a: &str, b: &str) -> bool
@@ -225,7 +225,7 @@ pub fn rest_of_item(
 ) -> Option<SpelledItem>
     ensures told { IfSome result (λ i. ReadsItem reader.old i.first (drop 1 (chars into.new.bytes)) i.is_run reader.new) }
     ensures alone { IfSome result (λ i. i.is_run ≡ false → drop 1 (chars into.new.bytes) ≡ []) }
-    ensures counted { IfSome result (λ i. sum i.first.clock + length (drop 1 (chars into.new.bytes)) ≤ 131072) }
+    ensures counted { IfSome result (λ i. sum i.first.clock + length (drop 1 (chars into.new.bytes)) ≤ MAX_OPERATIONS) }
 {
     let clock = next_clock(reader)?;
     if !reader.take_key("k") || !reader.next_text(into) {

@@ -1,10 +1,11 @@
 -- Vector clocks: a count for each of 32 sites (Roh, Jeon, Kim and Lee 2011; causal delivery).
 use Rattle.std.specs.Prelude.{ℕ, ◌+◌, Bool, ◌&&◌, ◌||◌, ◌==◌, nat_le, List, slice_index, slice_set}
 use Rattle.std.specs.List.{range_with_len, list_all}
+use Rattle.opid.specs.declared.site.TheConstants.{SITES}
 
 -- the sites
 unfoldable pub sites : List ℕ
-sites = range_with_len 0 32
+sites = range_with_len 0 SITES
 
 -- a site's count
 abbrev pub entry : List ℕ → ℕ → ℕ

@@ -7,6 +7,7 @@ use Rattle.opid.specs.declared.kind.OpKind.{OpKind}
 use Rattle.opid.specs.declared.kind.OpKind.TheVariants.{Ins, Del}
 use Rattle.opid.specs.declared.refusal.Refusal.{Refusal}
 use Rattle.opid.specs.declared.refusal.Refusal.TheVariants.{UnknownElement, NotOlder}
+use Rattle.opid.specs.declared.site.TheConstants.{SITES}
 use Rattle.opid.specs.Stamps.{is_before, is_same}
 use Rattle.opid.specs.Operations.{Operation, Insertion, stamp_of, insertions, has_element}
 use Rattle.opid.specs.Delivery.{is_ready}
@@ -28,8 +29,8 @@ IsRisingAt ops x = AllByRecursion (λ y. y.site ≡ x.site → sum y.clock < sum
 
 -- x may follow these operations in a log
 pub record MayFollow (ops : List Operation) (x : Operation) : Type 0 where
-  pub site : x.site < 32
-  pub width : length x.clock ≡ 32
+  pub site : x.site < SITES
+  pub width : length x.clock ≡ SITES
   pub ready : is_ready ops x ≡ true
   pub rising : IsRisingAt ops x
   pub allowed : IsAllowed ops (stamp_of x) x.kind

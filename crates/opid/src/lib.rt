@@ -13,7 +13,10 @@ pub mod worked;
 
 pub use edit::Edit;
 pub use kind::OpKind;
-pub use limits::{MAX_COUNT, count_characters, is_bad_count};
+pub use limits::{
+    MAX_CALLS, MAX_COUNT, MAX_HELD, MAX_OPERATIONS, MAX_REQUEST_BYTES, MAX_RUN, MAX_SESSIONS,
+    count_characters, is_bad_count,
+};
 pub use refusal::Refusal;
 pub use site::{SITES, Site};
 pub use stamp::Stamp;

@@ -2,6 +2,7 @@
 -- causes, in this order. A place counts characters, as in Attiya and others 2016, or UTF-16 code units; the limits are the
 -- server's own.
 use Rattle.std.specs.Prelude.{ℕ, ◌+◌, Bool, true, false, ◌||◌, nat_lt, if◌then◌else◌, Option, Some, None, List, length, take, drop}
+use Rattle.opid.specs.declared.limits.TheConstants.{MAX_OPERATIONS}
 use Rattle.opid.specs.declared.refusal.Refusal.{Refusal}
 use Rattle.opid.specs.declared.refusal.Refusal.TheVariants.{BadVersion, BadPlace, BadText, BadCount, Full}
 use Rattle.opid.specs.Limits.{is_bad_count}
@@ -21,7 +22,7 @@ insertion_refusal_in units log v k chars =
     if nat_lt (length log) v then Some BadVersion
     else if is_bad_count (length chars) then Some BadText
     else if is_bad_place units log v k then Some BadPlace
-    else if nat_lt 131072 (length log + length chars) then Some Full
+    else if nat_lt MAX_OPERATIONS (length log + length chars) then Some Full
     else None
 
 -- how many elements stand at the c places from place k of version v on
@@ -35,7 +36,7 @@ deletion_refusal_in units log v k c =
     if nat_lt (length log) v then Some BadVersion
     else if is_bad_count c then Some BadCount
     else if is_inside units (reading_in_at units log v) k || is_bad_place units log v (k + c) then Some BadPlace
-    else if nat_lt 131072 (length log + element_count units log v k c) then Some Full
+    else if nat_lt MAX_OPERATIONS (length log + element_count units log v k c) then Some Full
     else None
 
 -- the same where characters are counted

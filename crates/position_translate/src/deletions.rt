@@ -66,7 +66,7 @@ pub fn delete_ops_units(
     deletions_at(alloc, doc, true, site, version, place, count)
 }
 
-/// The deletions that are asked for from the place of the version on, as places are counted.
+// The deletions that are asked for from the place of the version on, as places are counted.
 fn deletions_at(
     alloc: Global,
     doc: &Doc,
@@ -107,7 +107,7 @@ fn deletions_at(
     Ok(run(alloc, doc, units, site, doc.clock(), version, first, end)?)
 }
 
-/// How many elements stand at the places from `first` to before `end` of the version, none of which ends is inside a pair.
+// How many elements stand at the places from `first` to before `end` of the version, none of which ends is inside a pair.
 fn elements_in(doc: &Doc, units: bool, version: u32, first: usize, end: usize) -> usize
     requires known { version ≤ length doc.now.log }
     requires places { first ≤ end }
@@ -123,7 +123,7 @@ fn elements_in(doc: &Doc, units: bool, version: u32, first: usize, end: usize) -
     elements
 }
 
-/// Deletions of a site, one for each of the elements at the places from `first` to before `end` of the version.
+// Deletions of a site, one for each of the elements at the places from `first` to before `end` of the version.
 fn run(
     alloc: Global,
     doc: &Doc,

@@ -67,7 +67,7 @@ pub fn insert_ops_units(
     insertions_at(alloc, doc, true, site, version, place, text)
 }
 
-/// The insertions that are asked for at the place of the version, as places are counted.
+// The insertions that are asked for at the place of the version, as places are counted.
 fn insertions_at(
     alloc: Global,
     doc: &Doc,
@@ -103,7 +103,7 @@ fn insertions_at(
     Ok(run(alloc, site, doc.clock(), parent, text)?)
 }
 
-/// The parent of what is put in at the place of the version: none for the head. `None` where there is no such place.
+// The parent of what is put in at the place of the version: none for the head. `None` where there is no such place.
 fn parent_in(doc: &Doc, units: bool, version: u32, place: u32) -> Option<Option<Stamp>>
     requires { version ≤ length doc.now.log }
     ensures { MatchOption result (is_bad_place units doc.now.log version place ≡ true)
@@ -122,7 +122,7 @@ fn parent_in(doc: &Doc, units: bool, version: u32, place: u32) -> Option<Option<
     Some(Some(before))
 }
 
-/// Insertions of a site, one for each character: the first behind the parent, each next one behind the one before.
+// Insertions of a site, one for each character: the first behind the parent, each next one behind the one before.
 fn run(
     alloc: Global,
     site: Site,

@@ -2,6 +2,7 @@
 -- held back settles (Roh, Jeon, Kim and Lee 2011; causal delivery).
 use Rattle.std.specs.Prelude.{ℕ, Bool, true, false, ◌==◌, ◌&&◌, nat_lt, if◌then◌else◌, Option, Some, None, Result, Ok, Err, List, [], ◌∷◌}
 use Rattle.std.specs.Prelude.{◌++◌, length}
+use Rattle.opid.specs.declared.limits.TheConstants.{MAX_HELD}
 use Rattle.opid.specs.declared.refusal.Refusal.{Refusal}
 use Rattle.opid.specs.declared.refusal.Refusal.TheVariants.{OwnSite, HoldFull}
 use Rattle.opid.specs.Clocks.{entry}
@@ -33,7 +34,7 @@ unchanged outcome log held = record { outcome = outcome; log = log; held = held 
 
 -- what isn't ready is held back, unless 1,024 are
 abbrev pub hold : List Operation → List Operation → Operation → Delivered
-hold log held x = if nat_lt (length held) 1024 then record { outcome = Ok Kept; log = log; held = held ++ x ∷ [] }
+hold log held x = if nat_lt (length held) MAX_HELD then record { outcome = Ok Kept; log = log; held = held ++ x ∷ [] }
     else unchanged (Err HoldFull) log held
 
 -- an operation was taken, and what it set free was settled

@@ -1,6 +1,7 @@
 -- Settling: after an operation was integrated, those held back that have become ready go the same way, one by one, always
 -- the first in order of arrival (Roh, Jeon, Kim and Lee 2011; causal delivery).
 use Rattle.std.specs.Prelude.{ℕ, zero, suc, ◌+◌, nat_le, if◌then◌else◌, Option, Some, None, List, [], ◌∷◌, ◌++◌, length}
+use Rattle.opid.specs.declared.limits.TheConstants.{MAX_OPERATIONS}
 use Rattle.opid.specs.declared.refusal.Refusal.{Refusal}
 use Rattle.opid.specs.Operations.{Operation}
 use Rattle.opid.specs.Delivery.{clock_of}
@@ -30,7 +31,7 @@ round_with (Some x) s = appended_or_dropped (refusal_of s.log x) x (taken_out s)
 
 -- one round: the first that is ready is taken out; nothing changes where the log is full or nothing is ready
 abbrev pub round : Settling → Settling
-round s = if nat_le 131072 (length s.log) then s else round_with (first_ready (clock_of s.log) s.held) s
+round s = if nat_le MAX_OPERATIONS (length s.log) then s else round_with (first_ready (clock_of s.log) s.held) s
 
 -- so many rounds
 abbrev pub rounds : ℕ → Settling → Settling

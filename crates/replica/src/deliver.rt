@@ -17,7 +17,7 @@ use holdback::{Arrival, Held};
 use opid::{Refusal, Site};
 use versions::MAX_OPERATIONS;
 
-/// Whether the operation claims to be one of the site's own that isn't in its log.
+// Whether the operation claims to be one of the site's own that isn't in its log.
 fn claims_site(site: Site, log: &Log, op: &Op) -> bool
     ensures value { result ≡ claims_site site log.now.log op.now }
     ensures lawful { IsLawful log.now.log }
@@ -27,8 +27,8 @@ fn claims_site(site: Site, log: &Log, op: &Op) -> bool
     maker == site && sequence > own
 }
 
-/// Whether the operation is in the log. Refused with `Conflict` where another one with its number is. Takes the steps of
-/// `Log::find`.
+// Whether the operation is in the log. Refused with `Conflict` where another one with its number is. Takes the steps of
+// `Log::find`.
 fn look(log: &Log, op: &Op) -> Result<bool, Refusal>
     ensures { result ≡ look_for op.now log.now.log }
 {
@@ -44,8 +44,8 @@ fn look(log: &Log, op: &Op) -> Result<bool, Refusal>
     }
 }
 
-/// Integrates an operation that is ready, and lets settle what is held back. Memory is taken first, for it and for all
-/// that is held, as far as the log may grow.
+// Integrates an operation that is ready, and lets settle what is held back. Memory is taken first, for it and for all
+// that is held, as far as the log may grow.
 fn integrate(log: &mut Log, held: &mut Held, room: usize, op: &Op) -> Result<Tally, Refusal>
     requires ready { is_ready log.old.log op.now ≡ true }
     requires reserved { HasRoomFor room log.old }

@@ -10,12 +10,14 @@ ghost use Rattle.replica.specs.Settle.{Settling, settle};
 ghost use Rattle.replica.specs.Settled.{IsSettled, AreOperations};
 ghost use Rattle.replica.specs.Deliver.{deliver};
 
+use opid::MAX_OPERATIONS;
+
 /// A ready operation is refused by a log with room exactly where the log wouldn't stay lawful.
 #[tactic(auto, using(crate::proofs::Stated::laws))]
 pub fn refused_where_not_lawful()
     ensures accepted { (log : List Operation) (x : Operation) → IsLawful log → IsOperation x → is_ready log x ≡ true
         → refusal_of log x ≡ None → MayFollow log x }
-    ensures refused { (log : List Operation) (x : Operation) → IsOperation x → length log < 131072 → MayFollow log x
+    ensures refused { (log : List Operation) (x : Operation) → IsOperation x → length log < MAX_OPERATIONS → MayFollow log x
         → refusal_of log x ≡ None }
 {}
 

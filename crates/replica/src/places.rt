@@ -9,10 +9,10 @@ use std::alloc::Global;
 use std::array;
 use std::marker::Model;
 
-/// Memory is taken for at least so many places at a time.
+// Memory is taken for at least so many places at a time.
 const AT_ONCE: usize = 64;
 
-/// The places of one site's operations, in rising order.
+// The places of one site's operations, in rising order.
 #[derive(Drop)]
 struct SitePlaces {
     places: Vec<u32>,
@@ -46,7 +46,7 @@ impl SitePlaces {
         self.places.get(index as usize).copied()
     }
 
-    /// Adds a place, for which memory is reserved.
+    // Adds a place, for which memory is reserved.
     fn push(&mut self, place: u32)
         requires { 0 < self.old.room }
         ensures { self.new ≡ record { places = self.old.places ++ place ∷ []; room = self.old.room - 1 } }
@@ -72,7 +72,7 @@ impl SitePlaces {
 pub(crate) struct Places {
     rows: [SitePlaces; SITES],
     room: usize,
-    /// For so many places of any site there is memory, of which `room` are promised.
+    // For so many places of any site there is memory, of which `room` are promised.
     ahead: usize,
 }
 
@@ -138,7 +138,7 @@ impl Places {
     }
 }
 
-/// Reserves memory for `n` more places in each row.
+// Reserves memory for `n` more places in each row.
 fn reserve_each(rows: &mut [SitePlaces], n: usize) -> Result<(), Refusal>
     ensures same { map (λ r. r.places) rows.new ≡ map (λ r. r.places) rows.old }
     ensures kept { (room : ℕ) → AllByRecursion (λ r. room ≤ r.room) rows.old → AllByRecursion (λ r. room ≤ r.room) rows.new }

@@ -305,7 +305,7 @@ impl Replica {
     /// The newest version: how many operations the log has. Constant time.
     pub fn version(&self) -> u32
         ensures value { result ≡ length self.now.log }
-        ensures within { result ≤ 131072 }
+        ensures within { result ≤ MAX_OPERATIONS }
         ensures lawful { IsLawful self.now.log }
     {
         self.log.doc().version()

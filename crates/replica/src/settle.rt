@@ -15,8 +15,8 @@ pub(crate) struct Tally {
     pub(crate) dropped: u32,
 }
 
-/// One round: takes the first operation out of those held back that is ready, and appends it to the log or drops it.
-/// Says whether there was one. Takes the steps of `Held::take_first_ready`, beside those of one appended to the log.
+// One round: takes the first operation out of those held back that is ready, and appends it to the log or drops it.
+// Says whether there was one. Takes the steps of `Held::take_first_ready`, beside those of one appended to the log.
 fn round(log: &mut Log, held: &mut Held, tally: &mut Tally) -> bool
     requires reserved { HasRoomFor (length held.old.ops) log.old }
     requires taken { tally.old.taken < 4294967295 }

@@ -5,13 +5,13 @@ ghost use Rattle.opid.specs.Lawful.{IsLawful};
 
 use crate::log::Log;
 use causal_clock::Op;
-use opid::Refusal;
+use opid::{MAX_OPERATIONS, Refusal};
 
 /// Appends operations that may follow the log, and tells the versions that they lead from and to. Refused with
 /// `Memory`. Takes the steps of an append for each.
 pub(crate) fn append_all(log: &mut Log, ops: &[Op]) -> Result<(u32, u32), Refusal>
     requires lawful { IsLawful (log.old.log ++ ops.now) }
-    requires few { length log.old.log + length ops.now ≤ 131072 }
+    requires few { length log.old.log + length ops.now ≤ MAX_OPERATIONS }
     ensures reply { IfOk result (λ r. r ≡ (length log.old.log, length log.old.log + length ops.now)) }
     ensures grown { OnOk result (log.new ≡ record {
       log = log.old.log ++ ops.now;
@@ -27,10 +27,10 @@ pub(crate) fn append_all(log: &mut Log, ops: &[Op]) -> Result<(u32, u32), Refusa
     Ok((from, log.doc().version()))
 }
 
-/// Appends operations that may follow the log, for which there is room.
+// Appends operations that may follow the log, for which there is room.
 fn append_each(log: &mut Log, ops: &[Op])
     requires lawful { IsLawful (log.old.log ++ ops.now) }
-    requires few { length log.old.log + length ops.now ≤ 131072 }
+    requires few { length log.old.log + length ops.now ≤ MAX_OPERATIONS }
     requires room { length ops.now ≤ log.old.room }
     ensures { log.new ≡ record { log = log.old.log ++ ops.now; room = log.old.room - length ops.now } }
 {

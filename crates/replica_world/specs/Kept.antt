@@ -2,6 +2,7 @@
 -- replicas (Roh, Jeon, Kim and Lee 2011), and what editors are promised at each.
 use Rattle.std.specs.Prelude.{◌≡◌, ◌⊎◌, ◌<◌, ◌≤◌, List, length, Contains}
 use Rattle.std.specs.List.{AllByRecursion}
+use Rattle.opid.specs.declared.limits.TheConstants.{MAX_OPERATIONS}
 use Rattle.opid.specs.Operations.{Operation}
 use Rattle.opid.specs.Delivery.{clock_of}
 use Rattle.opid.specs.Reading.{reading}
@@ -18,7 +19,7 @@ use Rattle.replica_world.specs.Received.{got}
 pub record AreLogs (logs : List SiteLog) : Type 0 where
   pub lawful : AreLawful logs
   pub world : AreOfOneWorld logs
-  pub limit : AllByRecursion (λ a. length a.log ≤ 131072) logs
+  pub limit : AllByRecursion (λ a. length a.log ≤ MAX_OPERATIONS) logs
 
 -- what a site received is in its log, or waits
 pub record IsReceived (log held ops : List Operation) : Type 0 where
@@ -31,7 +32,7 @@ pub record IsSiteOf (logs : List SiteLog) (a : Account) : Type 0 where
   pub consistent : IsConsistent a
   pub marked : mark a.history ≤ length a.history
   pub held : (x : Operation) → Contains a.state.held x → IsOfOne logs x
-  pub settled : (131072 ≤ length a.state.log) ⊎ NoneReady (clock_of a.state.log) a.state.held
+  pub settled : (MAX_OPERATIONS ≤ length a.state.log) ⊎ NoneReady (clock_of a.state.log) a.state.held
   pub received : IsReceived a.state.log a.state.held (got a)
 
 -- what holds of each world
@@ -43,12 +44,12 @@ pub record IsWorld (world : List Account) : Type 0 where
 
 -- each log has just what its site received with its whole past, unless it is full
 abbrev pub AreWhole : List Account → Type 0
-AreWhole world = AllByRecursion (λ a. length a.state.log < 131072 → IsWhole (got a) a.state.log) world
+AreWhole world = AllByRecursion (λ a. length a.state.log < MAX_OPERATIONS → IsWhole (got a) a.state.log) world
 
 -- two sites that received the same, and whose logs aren't full, read the same
 abbrev pub ReadTheSame : List Account → Type 0
-ReadTheSame world = (a b : Account) → Contains world a → Contains world b → length a.state.log < 131072 → length b.state.log < 131072
-    → IsPart (got a) (got b) → IsPart (got b) (got a) → reading a.state.log ≡ reading b.state.log
+ReadTheSame world = (a b : Account) → Contains world a → Contains world b → length a.state.log < MAX_OPERATIONS
+    → length b.state.log < MAX_OPERATIONS → IsPart (got a) (got b) → IsPart (got b) (got a) → reading a.state.log ≡ reading b.state.log
 
 -- What holds of a world: each room is the state that its legal history leads to, its log is lawful, the logs have one
 -- order of elements, and each has just what its site received with its whole past. Editors at each site read what it

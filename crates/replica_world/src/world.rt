@@ -19,7 +19,7 @@ ghost use Rattle.replica_world.specs.Kept.{IsWorld, Converges};
 
 use crate::event::{Event, WorldReply};
 use causal_clock::Op;
-use opid::{Refusal, Site};
+use opid::{MAX_OPERATIONS, Refusal, Site};
 use replica::Replica;
 use room::{Call, Characters, Operations, Reply, Room};
 use std::alloc::{AllocError, Global};
@@ -62,8 +62,8 @@ impl World {
         Ok(World { rooms, alloc })
     }
 
-    /// What holds of every world: its logs are lawful and have one order of elements, each log has just what its site
-    /// received with its whole past, and editors read what their rooms read.
+    // What holds of every world: its logs are lawful and have one order of elements, each log has just what its site
+    // received with its whole past, and editors read what their rooms read.
     fn tell(&self)
         ensures converges { Converges self.now }
         ensures world { IsWorld self.now }
@@ -106,7 +106,7 @@ impl World {
         result
     }
 
-    /// Things happen, as `run` tells.
+    // Things happen, as `run` tells.
     fn run_each(
         &mut self,
         events: &[Event],
@@ -148,7 +148,7 @@ impl World {
         }
     }
 
-    /// One thing happens, as `step` tells.
+    // One thing happens, as `step` tells.
     fn take(&mut self, event: Event) -> Result<WorldReply, AllocError>
         ensures reply { IfOk result (λ r. r ≡ (step self.old event).reply) }
         ensures next { OnOk result (self.new ≡ (step self.old event).world) }
@@ -162,7 +162,7 @@ impl World {
         }
     }
 
-    /// A call at a site.
+    // A call at a site.
     fn call(&mut self, site: Site, call: Call) -> Result<WorldReply, AllocError>
         ensures reply { IfOk result (λ r. r ≡ (step self.old (events.Call site call)).reply) }
         ensures next { OnOk result (self.new ≡ (step self.old (events.Call site call)).world) }
@@ -178,7 +178,7 @@ impl World {
         }
     }
 
-    /// An operation of a log is put at a site.
+    // An operation of a log is put at a site.
     fn carry(&mut self, from: Site, n: u32, to: Site) -> Result<WorldReply, AllocError>
         ensures reply { IfOk result (λ r. r ≡ (step self.old (events.Carry from n to)).reply) }
         ensures next { OnOk result (self.new ≡ (step self.old (events.Carry from n to)).world) }
@@ -197,7 +197,7 @@ impl World {
         self.put_at(to, place, op)
     }
 
-    /// An operation is put at the room at the place.
+    // An operation is put at the room at the place.
     fn put_at(&mut self, site: Site, place: usize, op: Op) -> Result<WorldReply, AllocError>
         requires place { IsPlaceOf site self.old place }
         requires keeps { IsWorld (call_of site (room_of site self.old) (calls.Put (op ∷ [])) self.old).world }
@@ -213,7 +213,7 @@ impl World {
         self.call_at(site, place, call)
     }
 
-    /// An unused site opens over a beginning of a log.
+    // An unused site opens over a beginning of a log.
     fn fork(&mut self, new: Site, from: Site, n: u32) -> Result<WorldReply, AllocError>
         ensures reply { IfOk result (λ r. r ≡ (step self.old (events.Fork new from n)).reply) }
         ensures next { OnOk result (self.new ≡ (step self.old (events.Fork new from n)).world) }
@@ -230,7 +230,7 @@ impl World {
         }
     }
 
-    /// The site opens over a beginning of the log of the room at the place.
+    // The site opens over a beginning of the log of the room at the place.
     fn fork_at(
         &mut self,
         new: Site,
@@ -256,7 +256,7 @@ impl World {
         Ok(WorldReply::Forked)
     }
 
-    /// Operation `n` of the log of the room at the place.
+    // Operation `n` of the log of the room at the place.
     fn op_from(&self, site: Site, place: usize, n: u32) -> Option<Op>
         requires { IsPlaceOf site self.now place }
         ensures { result ≡ option_and_then (λ a. slice_get a.state.log n) (room_of site self.now) }
@@ -269,7 +269,7 @@ impl World {
         }
     }
 
-    /// Where the site's room is.
+    // Where the site's room is.
     fn place_of(&self, site: Site) -> Option<usize>
         ensures found { IfSome result (λ i. IsPlaceOf site self.now i) }
         ensures none { IfNone result (room_of site self.now ≡ None) }
@@ -278,7 +278,7 @@ impl World {
         place_of(&self.rooms, site)
     }
 
-    /// Calls the room at the place, under its next ticket.
+    // Calls the room at the place, under its next ticket.
     fn call_at(&mut self, site: Site, place: usize, call: Call) -> Result<WorldReply, AllocError>
         requires place { IsPlaceOf site self.old place }
         requires keeps { IsWorld (call_of site (room_of site self.old) call self.old).world }
@@ -291,7 +291,7 @@ impl World {
     }
 }
 
-/// Whether the call puts operations.
+// Whether the call puts operations.
 fn is_put(call: &Call) -> bool
     ensures { result ≡ is_some (puts call.now) }
 {
@@ -301,7 +301,7 @@ fn is_put(call: &Call) -> bool
     }
 }
 
-/// The text of the room's newest version.
+// The text of the room's newest version.
 fn newest_text(room: &Room) -> Result<Characters, Refusal>
     ensures ok { IfOk result (λ text. text ≡ reading room.now.state.log) }
     ensures cause { IfErr result (λ e. e ≡ Memory) }
@@ -310,7 +310,7 @@ fn newest_text(room: &Room) -> Result<Characters, Refusal>
     doc.reading(doc.version())
 }
 
-/// Where the site's room is.
+// Where the site's room is.
 fn place_of(rooms: &[Room], site: Site) -> Option<usize>
     ensures found { IfSome result (λ i. IsPlaceOf site rooms.now i) }
     ensures none { IfNone result (room_of site rooms.now ≡ None) }
@@ -323,7 +323,7 @@ fn place_of(rooms: &[Room], site: Site) -> Option<usize>
     None
 }
 
-/// Calls the room under its next ticket.
+// Calls the room under its next ticket.
 fn call_room(room: &mut Room, call: Call) -> Result<WorldReply, AllocError>
     requires { mark room.old.history ≤ length room.old.history }
     ensures reply { IfOk result (λ r. r ≡ worlds.Room (answer room.old.state call)) }
@@ -338,7 +338,7 @@ fn call_room(room: &mut Room, call: Call) -> Result<WorldReply, AllocError>
     Ok(WorldReply::Room(reply))
 }
 
-/// The call that puts one operation.
+// The call that puts one operation.
 fn put_of(alloc: Global, op: Op) -> Result<Call, AllocError>
     ensures { IfOk result (λ c. c ≡ calls.Put (op ∷ [])) }
 {
@@ -347,7 +347,7 @@ fn put_of(alloc: Global, op: Op) -> Result<Call, AllocError>
     Ok(Call::Put(Operations::new(ops)))
 }
 
-/// The first operations of the document.
+// The first operations of the document.
 fn beginning(doc: &Doc, n: u32) -> Result<Vec<Op>, AllocError>
     requires { n ≤ length doc.now.log }
     ensures { IfOk result (λ ops. ops.items ≡ take n doc.now.log) }
@@ -355,10 +355,10 @@ fn beginning(doc: &Doc, n: u32) -> Result<Vec<Op>, AllocError>
     doc.copy_ops(0, n)
 }
 
-/// The room of the site over these operations.
+// The room of the site over these operations.
 fn room_at(alloc: Global, site: Site, ops: &[Op]) -> Result<Room, AllocError>
     requires lawful { IsLawful ops.now }
-    requires few { length ops.now ≤ 131072 }
+    requires few { length ops.now ≤ MAX_OPERATIONS }
     ensures { IfOk result (λ room. room ≡ account_over (room_over site ops.now)) }
 {
     match Replica::over(alloc, site, ops) {

@@ -2,6 +2,7 @@
 use Rattle.std.specs.Prelude.{◌≡◌, ◌≢◌, ℕ, ◌<◌, ◌≤◌, Bool, true, false, ◌&&◌, ◌==◌, nat_le, if◌then◌else◌, Option, Some, None, List}
 use Rattle.std.specs.Prelude.{[], ◌∷◌, map, length}
 use Rattle.std.specs.List.{AllByRecursion, list_any}
+use Rattle.opid.specs.declared.limits.TheConstants.{MAX_OPERATIONS}
 use Rattle.opid.specs.declared.stamp.Stamp.{Stamp}
 use Rattle.opid.specs.declared.refusal.Refusal.{Refusal}
 use Rattle.opid.specs.declared.refusal.Refusal.TheVariants.{Full}
@@ -108,7 +109,7 @@ parent_refusal entries (Some p) s = parent_cause (has_stamp entries p) (is_befor
 
 -- why an insertion is refused, memory apart: the list is full, or the cause lies in its parent
 abbrev pub refusal_of : List Entry → Option Stamp → Stamp → Option Refusal
-refusal_of entries parent s = if nat_le 131072 (length entries) then Some Full else parent_refusal entries parent s
+refusal_of entries parent s = if nat_le MAX_OPERATIONS (length entries) then Some Full else parent_refusal entries parent s
 
 -- the entry as it is once t is deleted
 abbrev pub hide : Stamp → Entry → Entry

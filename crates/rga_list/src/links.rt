@@ -4,7 +4,7 @@ ghost use Rattle.std.specs.Option.{ForSome};
 ghost use Rattle.rga_list.specs.Internal.Links.{Ends, Walked, following, put_in, first_then};
 
 use crate::packed_node::PackedNode;
-use opid::Stamp;
+use opid::{MAX_OPERATIONS, Stamp};
 
 /// An element: how many elements came before it.
 pub type Elem = u32;
@@ -57,8 +57,8 @@ pub fn walk(
 /// Constant time; takes no memory.
 pub fn link(nodes: &mut Vec<PackedNode>, first: &mut Option<Elem>, node: Node, last: Option<Elem>)
     requires room { vec_len nodes.old < vec_capacity nodes.old }
-    requires few { vec_len nodes.old < 131072 }
-    requires next { ForSome node.next (λ k. k < 131072) }
+    requires few { vec_len nodes.old < MAX_OPERATIONS }
+    requires next { ForSome node.next (λ k. k < MAX_OPERATIONS) }
     requires within { IfSome last (λ k. k < vec_len nodes.old) }
     ensures nodes { nodes.new.items ≡ put_in nodes.old.items node last }
     ensures first { first.new ≡ first_then nodes.old.items first.old last }

@@ -3,13 +3,13 @@ ghost use Rattle.std.specs.Prelude.{◌≡◌, ◌<◌, Some, false};
 ghost use Rattle.std.specs.Option.{ForSome};
 
 use crate::links::{Elem, Node};
-use opid::{Site, Stamp};
+use opid::{MAX_OPERATIONS, Site, Stamp};
 use std::marker::Model;
 
-/// What stands for no next element: the first number that no element has.
-const NONE: Elem = 131_072;
+// What stands for no next element: the first number that no element has.
+const NONE: Elem = MAX_OPERATIONS as Elem;
 
-/// What stands beside the next element is below this: 2^6.
+// What stands beside the next element is below this: 2^6.
 const BESIDE: u32 = 64;
 
 /// A node. Its stamp is kept as sum and site, and what is small stands side by side in one number.
@@ -17,7 +17,7 @@ const BESIDE: u32 = 64;
 pub struct PackedNode {
     sum: u32,
     ch: char,
-    /// The next element, the stamp's site, and whether the node is shown.
+    // The next element, the stamp's site, and whether the node is shown.
     next_site_shown: u32,
 }
 
@@ -40,7 +40,7 @@ impl Model for PackedNode {
 impl PackedNode {
     /// The node, to be kept.
     pub fn new(node: Node) -> PackedNode
-        requires { ForSome node.next (λ k. k < 131072) }
+        requires { ForSome node.next (λ k. k < MAX_OPERATIONS) }
         ensures { result ≡ node }
     {
         let Stamp { sum, site } = node.stamp;
@@ -75,7 +75,7 @@ impl PackedNode {
 
     /// Sets the element after it.
     pub fn set_next(&mut self, next: Elem)
-        requires { next < 131072 }
+        requires { next < MAX_OPERATIONS }
         ensures { self.new ≡ record self.old { next = Some next } }
     {
         self.next_site_shown = next * BESIDE + self.next_site_shown % BESIDE;

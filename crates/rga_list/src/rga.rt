@@ -15,15 +15,15 @@ ghost use Rattle.rga_list.specs.Listed.{listed};
 use crate::links::{Elem, Node, after, link, walk};
 use crate::packed_node::PackedNode;
 use crate::table::SiteTable;
-use opid::{Refusal, SITES, Site, Stamp};
+use opid::{MAX_OPERATIONS, Refusal, SITES, Site, Stamp};
 use std::alloc::Global;
 use std::array;
 use std::marker::Model;
 
 /// The most elements of a list.
-pub const LIMIT: usize = 131_072;
+pub const LIMIT: usize = MAX_OPERATIONS;
 
-/// A reserve takes memory for at least so many insertions at a time.
+// A reserve takes memory for at least so many insertions at a time.
 const AT_ONCE: usize = 64;
 
 /// Where an element was put in: the element itself, and the one right before it (`None`: it is the first).
@@ -41,7 +41,7 @@ pub struct Rga {
     nodes: Vec<PackedNode>,
     tables: [SiteTable; SITES],
     room: usize,
-    /// For so many insertions there is memory, of which `room` are promised.
+    // For so many insertions there is memory, of which `room` are promised.
     ahead: usize,
 }
 
@@ -302,7 +302,7 @@ impl Rga {
         shown
     }
 
-    /// The element of an insertion's parent (`None`: the head), if the insertion may follow it.
+    // The element of an insertion's parent (`None`: the head), if the insertion may follow it.
     fn parent_of(&self, stamp: &Stamp, parent: Option<Stamp>) -> Result<Option<Elem>, Refusal>
         ensures ok { OnOk result (parent_refusal self.now.entries parent stamp.now ≡ None) }
         ensures elem { IfOk result (λ elem. elem ≡ option_and_then (λ p. elem_of p self.now.entries) parent) }
@@ -324,7 +324,7 @@ impl Rga {
     }
 }
 
-/// Reserves memory for `n` more identifiers in each table.
+// Reserves memory for `n` more identifiers in each table.
 fn reserve_each(tables: &mut [SiteTable], n: usize) -> Result<(), Refusal>
     ensures same { (k : ℕ) → (ids_at tables.new k).ids ≡ (ids_at tables.old k).ids }
     ensures kept { (k : ℕ) → (ids_at tables.old k).room ≤ (ids_at tables.new k).room }

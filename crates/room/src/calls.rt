@@ -16,7 +16,7 @@ ghost use Rattle.room.specs.Machine.{counts_units, edits_between_in};
 ghost use Rattle.room.specs.Internal.Parts.{Does, MayLackMemory, state_with, reply_at_once, Submits, Accepts, IsHandedOver};
 
 use causal_clock::Op;
-use opid::{Edit, MAX_COUNT, Refusal, is_bad_count};
+use opid::{Edit, MAX_COUNT, MAX_SESSIONS, Refusal, is_bad_count};
 use replica::{Delivery, Replica};
 use room_calls::{Call, Characters, Edits, Operations, Outcome, Outcomes, Reply};
 use session_outbox::{Sessions, Submission};
@@ -49,13 +49,13 @@ pub(crate) fn perform(
     }
 }
 
-/// Opens a session, with its way of counting. Takes the steps of `reading` and a look-up, and one step where too many are there.
+// Opens a session, with its way of counting. Takes the steps of `reading` and a look-up, and one step where too many are there.
 fn join(replica: &Replica, outbox: &mut Sessions, units: bool) -> Result<Reply, AllocError>
     requires { outbox.old.next_number < 4294967295 }
     ensures does { IfOk result (λ reply. Does replica.now outbox.old (Join units) reply replica.now outbox.new) }
     ensures numbers { outbox.new.next_number ≤ outbox.old.next_number + 1 }
     ensures err { OnErr result (outbox.new ≡ outbox.old) }
-    ensures memory { OnErr result (length outbox.old.sessions < 64) }
+    ensures memory { OnErr result (length outbox.old.sessions < MAX_SESSIONS) }
 {
     if outbox.is_full() {
         return Ok(Reply::No(Refusal::TooManySessions));
@@ -68,7 +68,7 @@ fn join(replica: &Replica, outbox: &mut Sessions, units: bool) -> Result<Reply, 
     }
 }
 
-/// Puts `x` in at place `k` of version `v`, as submission `n` of session `s` of this site.
+// Puts `x` in at place `k` of version `v`, as submission `n` of session `s` of this site.
 #[allow(clippy::too_many_arguments)]
 fn insert(
     replica: &mut Replica,
@@ -91,7 +91,7 @@ fn insert(
     accept(outbox, s, submit_insertion(replica, units, v, k, x))
 }
 
-/// Puts `x` in at place `k` of version `v`, as the replica's own, where places count UTF-16 units, or else characters.
+// Puts `x` in at place `k` of version `v`, as the replica's own, where places count UTF-16 units, or else characters.
 fn submit_insertion(
     replica: &mut Replica,
     units: bool,
@@ -109,7 +109,7 @@ fn submit_insertion(
     }
 }
 
-/// Deletes what stands at `c` places from place `k` of version `v` on, as submission `n` of session `s` of this site.
+// Deletes what stands at `c` places from place `k` of version `v` on, as submission `n` of session `s` of this site.
 #[allow(clippy::too_many_arguments)]
 fn delete(
     replica: &mut Replica,
@@ -132,8 +132,8 @@ fn delete(
     accept(outbox, s, submit_deletion(replica, units, v, k, c))
 }
 
-/// Deletes what stands at `c` places from place `k` of version `v` on, as the replica's own, where places count UTF-16
-/// units, or else characters.
+// Deletes what stands at `c` places from place `k` of version `v` on, as the replica's own, where places count UTF-16
+// units, or else characters.
 fn submit_deletion(
     replica: &mut Replica,
     units: bool,
@@ -151,14 +151,14 @@ fn submit_deletion(
     }
 }
 
-/// Whether the places of the session count UTF-16 units.
+// Whether the places of the session count UTF-16 units.
 fn counts_units(outbox: &Sessions, s: u32) -> bool
     ensures { result ≡ counts_units s outbox.now }
 {
     outbox.in_units(s).unwrap_or(false)
 }
 
-/// The reply to a submission that isn't the session's next one: why it is refused, or the kept reply.
+// The reply to a submission that isn't the session's next one: why it is refused, or the kept reply.
 fn reply_at_once(outbox: &Sessions, s: u32, n: u32, v: u32) -> Option<Reply>
     ensures reply { result ≡ reply_at_once (submission_of (session_with s outbox.now.sessions) n v) }
     ensures acceptable { result ≡ None → MayAccept s outbox.now.sessions }
@@ -170,7 +170,7 @@ fn reply_at_once(outbox: &Sessions, s: u32, n: u32, v: u32) -> Option<Reply>
     }
 }
 
-/// Notes that a session's next submission led from a version to a version, unless it was refused, and replies so.
+// Notes that a session's next submission led from a version to a version, unless it was refused, and replies so.
 fn accept(
     outbox: &mut Sessions,
     s: u32,
@@ -189,7 +189,7 @@ fn accept(
     }
 }
 
-/// Sends session `s`, which has version `have`, the edits since, at most `max` of them. Takes two look-ups, and a step for each.
+// Sends session `s`, which has version `have`, the edits since, at most `max` of them. Takes two look-ups, and a step for each.
 fn pull(
     alloc: Global,
     replica: &Replica,
@@ -216,7 +216,7 @@ fn pull(
     }
 }
 
-/// Ends session `s`.
+// Ends session `s`.
 fn leave(outbox: &mut Sessions, s: u32) -> Reply
     ensures does { (replica : ReplicaState) → Does replica outbox.old (Leave s) result replica outbox.new }
     ensures numbers { outbox.new.next_number ≡ outbox.old.next_number }
@@ -227,7 +227,7 @@ fn leave(outbox: &mut Sessions, s: u32) -> Reply
     }
 }
 
-/// Tells the operations of the log from number `after` on, at most `max`. Takes the steps of `Replica::ops`.
+// Tells the operations of the log from number `after` on, at most `max`. Takes the steps of `Replica::ops`.
 fn part(replica: &Replica, after: u32, max: u32) -> Result<Reply, AllocError>
     ensures does { IfOk result (λ reply. (outbox : Outbox) → Does replica.now outbox (Ops after max) reply replica.now outbox) }
     ensures memory { OnErr result (IsOk (part_of replica.now.log after max)) }
@@ -242,7 +242,7 @@ fn part(replica: &Replica, after: u32, max: u32) -> Result<Reply, AllocError>
     }
 }
 
-/// Hands operations over, one after another. All memory is taken first.
+// Hands operations over, one after another. All memory is taken first.
 fn put(alloc: Global, replica: &mut Replica, ops: &Operations) -> Result<Reply, AllocError>
     ensures does { IfOk result (λ reply. (outbox : Outbox) → Does replica.old outbox (Put ops.now) reply replica.new outbox) }
     ensures err { OnErr result (replica.new ≡ replica.old) }
@@ -262,7 +262,7 @@ fn put(alloc: Global, replica: &mut Replica, ops: &Operations) -> Result<Reply, 
     Ok(Reply::Put(Outcomes::new(outcomes)))
 }
 
-/// Tells the newest version and its text. Takes the steps of `reading`.
+// Tells the newest version and its text. Takes the steps of `reading`.
 fn read(replica: &Replica) -> Result<Reply, AllocError>
     ensures { IfOk result (λ reply. (outbox : Outbox) → Does replica.now outbox Read reply replica.now outbox) }
 {
@@ -271,7 +271,7 @@ fn read(replica: &Replica) -> Result<Reply, AllocError>
     Ok(Reply::Text { v, x })
 }
 
-/// The text of the newest version. Takes the steps of `Doc::reading`.
+// The text of the newest version. Takes the steps of `Doc::reading`.
 fn reading(doc: &Doc) -> Result<Characters, AllocError>
     ensures { IfOk result (λ text. text ≡ reading doc.now.log) }
 {
@@ -281,7 +281,7 @@ fn reading(doc: &Doc) -> Result<Characters, AllocError>
     }
 }
 
-/// Adds the edits that lead from one version to another, for which there is room, as places are counted.
+// Adds the edits that lead from one version to another, for which there is room, as places are counted.
 fn add_edits(doc: &Doc, units: bool, from: u32, to: u32, es: &mut Vec<Edit>)
     requires newest { to ≤ length doc.now.log }
     requires empty { es.old.items ≡ [] }
@@ -293,7 +293,7 @@ fn add_edits(doc: &Doc, units: bool, from: u32, to: u32, es: &mut Vec<Edit>)
     }
 }
 
-/// The edit of operation `n`, counted from 1, where places count UTF-16 units, or else characters.
+// The edit of operation `n`, counted from 1, where places count UTF-16 units, or else characters.
 fn edit_in(doc: &Doc, units: bool, n: u32) -> Edit
     requires first { 1 ≤ n }
     requires last { n ≤ length doc.now.log }
@@ -306,7 +306,7 @@ fn edit_in(doc: &Doc, units: bool, n: u32) -> Edit
     }
 }
 
-/// Hands operations over for which there is room, and adds their outcomes.
+// Hands operations over for which there is room, and adds their outcomes.
 fn hand_over(replica: &mut Replica, ops: &[Op], outcomes: &mut Vec<Outcome>)
     requires empty { outcomes.old.items ≡ [] }
     requires capacity { length ops.now ≤ vec_capacity outcomes.old }
@@ -319,7 +319,7 @@ fn hand_over(replica: &mut Replica, ops: &[Op], outcomes: &mut Vec<Outcome>)
     }
 }
 
-/// The outcome of a delivery.
+// The outcome of a delivery.
 fn outcome_of(delivery: Result<Delivery, Refusal>) -> Outcome
     ensures { result ≡ outcome_of delivery }
 {

@@ -10,13 +10,16 @@ ghost use Rattle.room.specs.History.{Account, IsLegal, HandsOperations, replayed
 ghost use Rattle.room.specs.Convergence.{EditorsConverge, EditorsKeepUp};
 ghost use Rattle.room.specs.Intention.{KeepsIntentions, OnlyGrows};
 
+use opid::{MAX_OPERATIONS, SITES};
+
 /// A legal history over a lawful log makes a consistent room, whatever its calls are; and in each consistent room editors that play
 /// the replies of their sessions read what the room reads and keep up with it, an insertion that is accepted stands where it was asked for,
 /// what they asked for stays there, and the log only grows.
 #[tactic(auto, using(crate::proofs::Rooms::of_rooms))]
 pub fn rooms_keep_their_promises()
-    ensures consistent { (site : ℕ) (log : List Operation) (history : List (ℕ × Call)) → site < 32 → IsLawful log → length log ≤ 131072
-        → IsLegal history → AllByRecursion (λ e. HandsOperations e.1) history → IsConsistent (replayed (room_over site log) history) }
+    ensures consistent { (site : ℕ) (log : List Operation) (history : List (ℕ × Call)) → site < SITES → IsLawful log
+        → length log ≤ MAX_OPERATIONS → IsLegal history → AllByRecursion (λ e. HandsOperations e.1) history
+        → IsConsistent (replayed (room_over site log) history) }
     ensures editors_converge { (room : Account) → IsConsistent room → EditorsConverge room }
     ensures editors_keep_up { (room : Account) → IsConsistent room → EditorsKeepUp room }
     ensures placed { (room : Account) → (call : Call) → IsConsistent room → PlacesInsertion room.state call }

@@ -3,8 +3,8 @@ ghost use Rattle.std.specs.Prelude.{◌≡◌, ◌+◌, ◌^◌, ◌<◌, ◌≤
 ghost use Rattle.opid.specs.declared.refusal.Refusal.TheVariants.{HistoryFull};
 ghost use Rattle.room_calls.specs.declared.reply.Reply.TheVariants.{No};
 
-use crate::machine::{MAX_CALLS, Machine};
-use opid::{Refusal, Site};
+use crate::machine::Machine;
+use opid::{MAX_CALLS, Refusal, Site};
 use replica::Replica;
 use room_calls::{Call, Reply};
 use std::alloc::{AllocError, Global};
@@ -36,6 +36,7 @@ impl Model for Room {
 }
 
 impl Room {
+    ghost use Rattle.opid.specs.declared.limits.TheConstants.{MAX_CALLS};
     ghost use Rattle.room.specs.Machine.{State, empty_room, room_over, may_record, answer};
     ghost use Rattle.room.specs.History.{mark, account_over, called, ran, IsConsistent, Runs, StepsRoom};
     ghost use Rattle.room.specs.Convergence.{EditorsConverge, EditorsKeepUp};
@@ -113,7 +114,7 @@ impl Room {
         ensures called { OnOk result (self.new ≡ called self.old ticket call) }
         ensures err { OnErr result (self.new ≡ self.old) }
         ensures memory { OnErr result (may_record self.old.state ≡ true) }
-        ensures full { IfOk result (λ reply. (reply ≡ No HistoryFull) ↔ (length self.old.history ≡ 1048576)) }
+        ensures full { IfOk result (λ reply. (reply ≡ No HistoryFull) ↔ (length self.old.history ≡ MAX_CALLS)) }
         ensures consistent { IsConsistent self.new }
 
         // What editors make of the replies of their sessions is what the room reads, and what they asked for stays.
@@ -125,7 +126,7 @@ impl Room {
         self.record(ticket, call)
     }
 
-    /// Answers a call and records it, as `call` tells.
+    // Answers a call and records it, as `call` tells.
     #[tactic(auto, using(crate::proofs::Full::full_answer))]
     fn record(&mut self, ticket: u64, call: Call) -> Result<Reply, AllocError>
         requires least { mark self.old.history ≤ ticket }
@@ -134,7 +135,7 @@ impl Room {
         ensures called { OnOk result (self.new ≡ called self.old ticket call) }
         ensures err { OnErr result (self.new ≡ self.old) }
         ensures memory { OnErr result (may_record self.old.state ≡ true) }
-        ensures full { IfOk result (λ reply. (reply ≡ No HistoryFull) ↔ (length self.old.history ≡ 1048576)) }
+        ensures full { IfOk result (λ reply. (reply ≡ No HistoryFull) ↔ (length self.old.history ≡ MAX_CALLS)) }
         ensures before { IsConsistent self.old }
         ensures consistent { IsConsistent self.new }
     {

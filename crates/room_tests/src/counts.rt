@@ -40,7 +40,7 @@ impl Editors {
         }
     }
 
-    /// The editor of the count is given the reply to the call.
+    // The editor of the count is given the reply to the call.
     fn ask(&mut self, desk: &mut RoomDesk, units: bool, call: Call) -> Result<(), Refusal> {
         let Ok(reply) = desk.call(call) else {
             return Err(Refusal::Memory);
@@ -51,7 +51,7 @@ impl Editors {
     }
 }
 
-/// Whether the editor has the text.
+// Whether the editor has the text.
 fn shows_units(editor: &UnitEditor, text: &str) -> bool {
     editor
         .text()
@@ -61,12 +61,12 @@ fn shows_units(editor: &UnitEditor, text: &str) -> bool {
         .eq(text.encode_utf16())
 }
 
-/// The session pulls.
+// The session pulls.
 fn pull(s: u32, have: u32, max: u32) -> Call {
     Call::Pull { s, have, max }
 }
 
-/// `abc` is put in, and two of its three edits are pulled; then `X` is put in behind the first, and the rest is pulled.
+// `abc` is put in, and two of its three edits are pulled; then `X` is put in behind the first, and the rest is pulled.
 fn falls_behind(alloc: Global, desk: &mut RoomDesk, both: &mut Editors) -> Result<bool, Refusal> {
     both.ask(desk, false, Call::Join { units: false })?;
     both.ask(desk, false, insertion(alloc, 1, 1, 0, 0, "abc")?)?;
@@ -77,7 +77,7 @@ fn falls_behind(alloc: Global, desk: &mut RoomDesk, both: &mut Editors) -> Resul
     Ok(behind && both.show(false, 4, "aXbc"))
 }
 
-/// Session 1 deletes the first two units of version 2, as its third submission.
+// Session 1 deletes the first two units of version 2, as its third submission.
 fn deletion() -> Call {
     Call::Del {
         s: 1,
@@ -88,7 +88,7 @@ fn deletion() -> Call {
     }
 }
 
-/// A pair and `a` are put in, and pulled; then `b` is put in behind the pair, which is deleted, and the rest is pulled.
+// A pair and `a` are put in, and pulled; then `b` is put in behind the pair, which is deleted, and the rest is pulled.
 fn deletes_a_pair(alloc: Global, desk: &mut RoomDesk, both: &mut Editors) -> Result<bool, Refusal> {
     both.ask(desk, true, Call::Join { units: true })?;
     both.ask(desk, true, insertion(alloc, 1, 1, 0, 0, "\u{1F600}a")?)?;
@@ -100,7 +100,7 @@ fn deletes_a_pair(alloc: Global, desk: &mut RoomDesk, both: &mut Editors) -> Res
     Ok(behind && both.show(true, 4, "ba"))
 }
 
-/// Both sessions join, the first in characters and the second in UTF-16 units, and read the text that the first puts in.
+// Both sessions join, the first in characters and the second in UTF-16 units, and read the text that the first puts in.
 fn read_both(alloc: Global, desk: &mut RoomDesk, both: &mut Editors) -> Result<bool, Refusal> {
     both.ask(desk, false, Call::Join { units: false })?;
     both.ask(desk, true, Call::Join { units: true })?;
@@ -110,7 +110,7 @@ fn read_both(alloc: Global, desk: &mut RoomDesk, both: &mut Editors) -> Result<b
     Ok(both.show(false, 3, "\u{1F600}ax") && both.show(true, 3, "\u{1F600}ax"))
 }
 
-/// Both type behind the pair of version 3 at once, and read the same.
+// Both type behind the pair of version 3 at once, and read the same.
 fn type_at_once(alloc: Global, desk: &mut RoomDesk, both: &mut Editors) -> Result<bool, Refusal> {
     let before = read_both(alloc, desk, both)?;
     both.ask(desk, false, insertion(alloc, 1, 2, 3, 1, "\u{10000}")?)?;
@@ -121,7 +121,7 @@ fn type_at_once(alloc: Global, desk: &mut RoomDesk, both: &mut Editors) -> Resul
     Ok(before && both.show(false, 6, text) && both.show(true, 6, text))
 }
 
-/// Asks something of an empty room and new editors. (What a function owns costs its proof at each step, so all others borrow it.)
+// Asks something of an empty room and new editors. (What a function owns costs its proof at each step, so all others borrow it.)
 fn of_an_empty_room<F: Fn(Global, &mut RoomDesk, &mut Editors) -> Result<bool, Refusal>>(
     alloc: Global,
     asked: F,

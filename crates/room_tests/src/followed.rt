@@ -8,14 +8,14 @@ use std::test::Fail;
 
 const SESSIONS: u32 = 20;
 
-/// A fixed generator of numbers.
+// A fixed generator of numbers.
 #[derive(Drop)]
 struct Numbers {
     last: u32,
 }
 
 impl Numbers {
-    /// A number below the limit, or 0 for the limit 0.
+    // A number below the limit, or 0 for the limit 0.
     fn below(&mut self, limit: usize) -> usize {
         self.last = self
             .last
@@ -25,13 +25,13 @@ impl Numbers {
         if limit == 0 { 0 } else { high % limit }
     }
 
-    /// A number below the limit that fits a call.
+    // A number below the limit that fits a call.
     fn place_below(&mut self, limit: usize) -> u32 {
         u32::try_from(self.below(limit)).unwrap_or(0)
     }
 }
 
-/// A client of a room: its session, the number of its next submission, its editor, and the replies to its calls.
+// A client of a room: its session, the number of its next submission, its editor, and the replies to its calls.
 #[derive(Drop)]
 struct Client {
     session: u32,
@@ -41,7 +41,7 @@ struct Client {
 }
 
 impl Client {
-    /// The client of the session, before its first call.
+    // The client of the session, before its first call.
     fn new(alloc: Global, session: u32) -> Client {
         Client {
             session,
@@ -51,19 +51,19 @@ impl Client {
         }
     }
 
-    /// The version that its editor has.
+    // The version that its editor has.
     fn version(&self) -> u32 {
         u32::try_from(self.editor.version()).unwrap_or(u32::MAX)
     }
 
-    /// Makes a call, and keeps the reply.
+    // Makes a call, and keeps the reply.
     fn ask(&mut self, desk: &mut RoomDesk, call: Call) -> Result<(), Fail> {
         let reply = desk.call(call)?;
         self.replies.push(reply)?;
         Ok(())
     }
 
-    /// Its editor is given the reply at the place, whether it was given that one before or not.
+    // Its editor is given the reply at the place, whether it was given that one before or not.
     fn receive(&mut self, at: usize) -> Result<(), Fail> {
         if let Some(reply) = self.replies.get(at) {
             self.editor.follow(reply)?;
@@ -71,25 +71,25 @@ impl Client {
         Ok(())
     }
 
-    /// Its editor is given the last reply.
+    // Its editor is given the last reply.
     fn receive_last(&mut self) -> Result<(), Fail> {
         let last = self.replies.len().saturating_sub(1);
         self.receive(last)
     }
 
-    /// Its editor is given one of the last replies, so many.
+    // Its editor is given one of the last replies, so many.
     fn receive_one_of(&mut self, last: usize, numbers: &mut Numbers) -> Result<(), Fail> {
         let back = numbers.below(last).saturating_add(1);
         let at = self.replies.len().saturating_sub(back);
         self.receive(at)
     }
 
-    /// Whether the last reply accepts a submission.
+    // Whether the last reply accepts a submission.
     fn is_accepted(&self) -> bool {
         matches!(self.replies.last(), Some(Reply::Ok { from: _, to: _ }))
     }
 
-    /// Puts a text in at some place of its editor's version. Whether that was accepted.
+    // Puts a text in at some place of its editor's version. Whether that was accepted.
     fn insert(
         &mut self,
         alloc: Global,
@@ -108,13 +108,13 @@ impl Client {
         Ok(self.is_accepted())
     }
 
-    /// Its next submission, by which so many characters are deleted from a place of its editor's version on.
+    // Its next submission, by which so many characters are deleted from a place of its editor's version on.
     fn deletion(&self, k: u32, c: u32) -> Call {
         let (s, n, v) = (self.session, self.next, self.version());
         Call::Del { s, n, v, k, c }
     }
 
-    /// Deletes some character of its editor's version. Whether that was accepted.
+    // Deletes some character of its editor's version. Whether that was accepted.
     fn delete(&mut self, desk: &mut RoomDesk, numbers: &mut Numbers) -> Result<bool, Fail> {
         let k = numbers.place_below(self.editor.text().len());
         let call = self.deletion(k, 1);
@@ -123,28 +123,28 @@ impl Client {
         Ok(self.is_accepted())
     }
 
-    /// Asks for the deletion of no character. Whether that was refused.
+    // Asks for the deletion of no character. Whether that was refused.
     fn delete_none(&mut self, desk: &mut RoomDesk) -> Result<bool, Fail> {
         let call = self.deletion(0, 0);
         self.ask(desk, call)?;
         Ok(matches!(self.replies.last(), Some(Reply::No(Refusal::BadCount))))
     }
 
-    /// Asks for at most so many edits behind its editor's version. Whether edits are told.
+    // Asks for at most so many edits behind its editor's version. Whether edits are told.
     fn pull(&mut self, desk: &mut RoomDesk, max: u32) -> Result<bool, Fail> {
         let (s, have) = (self.session, self.version());
         self.ask(desk, Call::Pull { s, have, max })?;
         Ok(matches!(self.replies.last(), Some(Reply::Edits { from: _, es: _ })))
     }
 
-    /// Asks for edits behind any version, whether its editor came so far or not, and whether it may or not.
+    // Asks for edits behind any version, whether its editor came so far or not, and whether it may or not.
     fn pull_anywhere(&mut self, desk: &mut RoomDesk, numbers: &mut Numbers) -> Result<(), Fail> {
         let s = self.session;
         let have = numbers.place_below(desk.room().replica().version() as usize);
         self.ask(desk, Call::Pull { s, have, max: 64 })
     }
 
-    /// One step, whichever. Whether the room answered as it has to.
+    // One step, whichever. Whether the room answered as it has to.
     fn act(
         &mut self,
         alloc: Global,
@@ -172,13 +172,13 @@ impl Client {
         }
     }
 
-    /// Whether its editor has what the room reads at the editor's version.
+    // Whether its editor has what the room reads at the editor's version.
     fn is_in_step(&self, desk: &RoomDesk) -> Result<bool, Fail> {
         let text = desk.room().replica().doc().reading(self.version())?;
         Ok(shows(&self.editor, text.as_str()))
     }
 
-    /// Pulls all that is new. Whether its editor then has the version and the text that a read was told.
+    // Pulls all that is new. Whether its editor then has the version and the text that a read was told.
     fn catches_up(&mut self, desk: &mut RoomDesk, read: &Reply) -> Result<bool, Fail> {
         let mut all = true;
         for _ in 0..100 {
@@ -189,7 +189,7 @@ impl Client {
         Ok(all && self.has(read))
     }
 
-    /// Whether its editor has the version and the text that a read was told.
+    // Whether its editor has the version and the text that a read was told.
     fn has(&self, read: &Reply) -> bool {
         match read {
             Reply::Text { v, x } => self.version() == *v && shows(&self.editor, x.as_str()),
@@ -198,7 +198,7 @@ impl Client {
     }
 }
 
-/// 100 steps of clients in turn. Whether the room answered as it has to, and the client was in step after each.
+// 100 steps of clients in turn. Whether the room answered as it has to, and the client was in step after each.
 fn act_in_turn(
     alloc: Global,
     desk: &mut RoomDesk,
@@ -216,7 +216,7 @@ fn act_in_turn(
     Ok(all)
 }
 
-/// The last client joins.
+// The last client joins.
 fn join_last(desk: &mut RoomDesk, clients: &mut [Client]) -> Result<(), Fail> {
     if let Some(client) = clients.last_mut() {
         client.ask(desk, Call::Join { units: false })?;
@@ -225,7 +225,7 @@ fn join_last(desk: &mut RoomDesk, clients: &mut [Client]) -> Result<(), Fail> {
     Ok(())
 }
 
-/// One client more joins, again and again, and acts with those before it. Whether all goes as it has to.
+// One client more joins, again and again, and acts with those before it. Whether all goes as it has to.
 fn join_and_act(
     alloc: Global,
     desk: &mut RoomDesk,
@@ -241,7 +241,7 @@ fn join_and_act(
     Ok(all)
 }
 
-/// Whether the log is long, and each client comes to have what a read was told.
+// Whether the log is long, and each client comes to have what a read was told.
 fn catch_up(desk: &mut RoomDesk, clients: &mut [Client], read: &Reply) -> Result<bool, Fail> {
     let mut all = desk.room().replica().version() > 500;
     for client in clients.iter_mut() {
@@ -250,7 +250,7 @@ fn catch_up(desk: &mut RoomDesk, clients: &mut [Client], read: &Reply) -> Result
     Ok(all)
 }
 
-/// The same, with a read.
+// The same, with a read.
 fn catch_up_with_a_read(desk: &mut RoomDesk, clients: &mut [Client]) -> Result<bool, Fail> {
     let read = desk.call(Call::Read)?;
     let caught_up = catch_up(desk, clients, &read);
@@ -258,7 +258,7 @@ fn catch_up_with_a_read(desk: &mut RoomDesk, clients: &mut [Client]) -> Result<b
     caught_up
 }
 
-/// Whether all goes as it has to, up to the end.
+// Whether all goes as it has to, up to the end.
 fn all_follow(alloc: Global, desk: &mut RoomDesk, clients: &mut Vec<Client>) -> Result<bool, Fail> {
     let in_step = join_and_act(alloc, desk, clients, &mut Numbers { last: 1 })?;
     Ok(in_step && catch_up_with_a_read(desk, clients)?)

@@ -8,7 +8,7 @@ use room::{Call, Desk, Operations, Outcome, Reply, Room, RoomDesk};
 use std::alloc::Global;
 use std::test::Fail;
 
-/// A room of the site, in which a text was typed, if any, and to which a peer gave this character then.
+// A room of the site, in which a text was typed, if any, and to which a peer gave this character then.
 #[derive(Clone, Copy)]
 struct Filled {
     site: Site,
@@ -16,7 +16,7 @@ struct Filled {
     given: Option<char>,
 }
 
-/// Whether the text is accepted as the first submission of a session that joins.
+// Whether the text is accepted as the first submission of a session that joins.
 fn types(alloc: Global, desk: &mut RoomDesk, text: &str) -> bool {
     let is_joined = desk.call(Call::Join { units: false }).is_ok();
     match insertion(alloc, 1, 1, 0, 0, text) {
@@ -25,7 +25,7 @@ fn types(alloc: Global, desk: &mut RoomDesk, text: &str) -> bool {
     }
 }
 
-/// The first operation of site 1, which puts the character in at the beginning; or behind the first one of site 0, which it knows.
+// The first operation of site 1, which puts the character in at the beginning; or behind the first one of site 0, which it knows.
 fn forged(knows: bool, ch: char) -> Result<Op, Refusal> {
     if knows {
         operation(1, 1, 1, behind(stamp(1, 0)?, ch))
@@ -34,7 +34,7 @@ fn forged(knows: bool, ch: char) -> Result<Op, Refusal> {
     }
 }
 
-/// Whether that operation is taken.
+// Whether that operation is taken.
 fn takes(alloc: Global, desk: &mut RoomDesk, knows: bool, ch: char) -> bool {
     let Ok(op) = forged(knows, ch) else {
         return false;
@@ -48,7 +48,7 @@ fn takes(alloc: Global, desk: &mut RoomDesk, knows: bool, ch: char) -> bool {
     }
 }
 
-/// Fills an empty room. Whether all is accepted and taken.
+// Fills an empty room. Whether all is accepted and taken.
 fn fills(alloc: Global, desk: &mut RoomDesk, what: &Filled) -> bool {
     let is_empty = what.typed.is_empty();
     let all = is_empty || types(alloc, desk, what.typed);
@@ -58,20 +58,20 @@ fn fills(alloc: Global, desk: &mut RoomDesk, what: &Filled) -> bool {
     }
 }
 
-/// Whether all was accepted and taken, and the room.
+// Whether all was accepted and taken, and the room.
 fn filled_room(alloc: Global, what: &Filled) -> (bool, Room) {
     let mut desk = RoomDesk::new(Room::new(alloc, what.site));
     let is_filled = fills(alloc, &mut desk, what);
     (is_filled, desk.into_room())
 }
 
-/// Whether the two rooms have one order of elements.
+// Whether the two rooms have one order of elements.
 fn have_one_order(one: Room, other: Room) -> bool {
     let rooms = [one, other];
     one_order(&rooms)
 }
 
-/// Whether two rooms have one order of elements, where all was accepted and taken in both.
+// Whether two rooms have one order of elements, where all was accepted and taken in both.
 fn are_ordered(alloc: Global, one: &Filled, other: &Filled) -> Option<bool> {
     let (is_filled, one) = filled_room(alloc, one);
     let (is_other_filled, other) = filled_room(alloc, other);

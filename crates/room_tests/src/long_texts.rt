@@ -5,8 +5,8 @@ use room::{Characters, Edits, Reply};
 use std::alloc::{AllocError, Global};
 use std::test::Fail;
 
-/// A text of one character, so often, for an editor of the count: where it ends, and the edit that takes the last one out once
-/// another character stands before all.
+// A text of one character, so often, for an editor of the count: where it ends, and the edit that takes the last one out once
+// another character stands before all.
 #[derive(Clone, Copy)]
 struct Long {
     units: bool,
@@ -16,7 +16,7 @@ struct Long {
     last: Edit,
 }
 
-/// The character so often, between these texts.
+// The character so often, between these texts.
 fn text_of(
     alloc: Global,
     start: &str,
@@ -32,7 +32,7 @@ fn text_of(
     Ok(text)
 }
 
-/// The reply that opens a session with the text.
+// The reply that opens a session with the text.
 fn joined(alloc: Global, long: &Long) -> Result<Reply, AllocError> {
     let text = text_of(alloc, "", long.ch, long.count, "")?;
     let x = Characters::new(text);
@@ -43,7 +43,7 @@ fn joined(alloc: Global, long: &Long) -> Result<Reply, AllocError> {
     })
 }
 
-/// The reply by which `b` is put in at the end, `c` at the beginning, and the last of the text's own is taken out.
+// The reply by which `b` is put in at the end, `c` at the beginning, and the last of the text's own is taken out.
 fn edited(alloc: Global, long: &Long) -> Result<Reply, AllocError> {
     let edits = vec![in alloc; Edit::Ins(long.end, 'b'), Edit::Ins(0, 'c'), long.last]?;
     Ok(Reply::Edits {
@@ -52,7 +52,7 @@ fn edited(alloc: Global, long: &Long) -> Result<Reply, AllocError> {
     })
 }
 
-/// Whether the editor of the count is then at the version, with its text.
+// Whether the editor of the count is then at the version, with its text.
 fn shows_edited(alloc: Global, both: &Editors, long: &Long) -> Result<bool, AllocError> {
     let count = long.count.saturating_sub(1);
     let wanted = text_of(alloc, "c", long.ch, count, "b")?;
@@ -60,7 +60,7 @@ fn shows_edited(alloc: Global, both: &Editors, long: &Long) -> Result<bool, Allo
     Ok(both.show(long.units, version, wanted.as_str()))
 }
 
-/// Whether an editor that is given both replies shows what they tell.
+// Whether an editor that is given both replies shows what they tell.
 fn is_followed(alloc: Global, both: &mut Editors, long: &Long) -> Result<bool, Refusal> {
     both.follow(long.units, &joined(alloc, long)?)?;
     both.follow(long.units, &edited(alloc, long)?)?;

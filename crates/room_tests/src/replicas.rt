@@ -6,17 +6,17 @@ use replica::{Delivery, Replica};
 use std::alloc::Global;
 use std::test::Fail;
 
-/// Whether the newest version reads so.
+// Whether the newest version reads so.
 fn reads(replica: &Replica, text: &str) -> Result<bool, Refusal> {
     Ok(replica.doc().reading(replica.version())?.as_str() == text)
 }
 
-/// Whether the log ends with these operations, from the place on.
+// Whether the log ends with these operations, from the place on.
 fn tells(replica: &Replica, after: u32, first: Op, second: Op) -> Result<bool, Refusal> {
     Ok(are_two(&replica.ops(after, 64)?, first, second))
 }
 
-/// What comes before its past waits, within what was reserved, and is taken with it; and so is what is lent.
+// What comes before its past waits, within what was reserved, and is taken with it; and so is what is lent.
 fn delivers(_alloc: Global, replica: &mut Replica) -> Result<bool, Refusal> {
     let first = operation(1, 0, 1, at_head('a'))?;
     let second = operation(1, 0, 2, behind(stamp(1, 1)?, 'b'))?;
@@ -48,14 +48,14 @@ fn deliveries(rt: HostRuntime) -> Result<(), Fail> {
     Ok(())
 }
 
-/// How operations are delivered: with memory reserved before or not, and by themselves or as copies.
+// How operations are delivered: with memory reserved before or not, and by themselves or as copies.
 #[derive(Clone, Copy)]
 struct Way {
     reserves: bool,
     copies: bool,
 }
 
-/// Whether the delivery of the operation ends so.
+// Whether the delivery of the operation ends so.
 fn ends(
     replica: &mut Replica,
     way: Way,
@@ -73,12 +73,12 @@ fn ends(
     Ok(end == want)
 }
 
-/// So many are taken, and so many dropped.
+// So many are taken, and so many dropped.
 fn took(taken: u32, dropped: u32) -> Result<Delivery, Refusal> {
     Ok(Delivery::Took { taken, dropped })
 }
 
-/// The operation number `n` of site 1: each odd one puts a letter in behind the one put in before, and each even one deletes it.
+// The operation number `n` of site 1: each odd one puts a letter in behind the one put in before, and each even one deletes it.
 fn put_in_or_deleted(n: u32) -> Result<Op, Refusal> {
     if n % 2 == 0 {
         let target = stamp(n.saturating_sub(1), 1)?;
@@ -92,7 +92,7 @@ fn put_in_or_deleted(n: u32) -> Result<Op, Refusal> {
     operation(1, 0, n, kind)
 }
 
-/// Two of these, the later one first, which waits; then both again.
+// Two of these, the later one first, which waits; then both again.
 fn delivers_a_pair(replica: &mut Replica, way: Way, n: u32) -> Result<bool, Refusal> {
     let first = put_in_or_deleted(n)?;
     let second = put_in_or_deleted(n.saturating_add(1))?;
@@ -103,7 +103,7 @@ fn delivers_a_pair(replica: &mut Replica, way: Way, n: u32) -> Result<bool, Refu
     Ok(all & ends(replica, way, second, Ok(Delivery::Again))?)
 }
 
-/// 200 of them, with nothing read at last.
+// 200 of them, with nothing read at last.
 fn delivers_pairs(replica: &mut Replica, way: Way) -> Result<bool, Refusal> {
     let mut all = true;
     for pair in 0..100u32 {
@@ -112,12 +112,12 @@ fn delivers_pairs(replica: &mut Replica, way: Way) -> Result<bool, Refusal> {
     Ok(all && replica.version() == 200 && reads(replica, "")?)
 }
 
-/// The letter number `n` of site 2, at the beginning.
+// The letter number `n` of site 2, at the beginning.
 fn letter(n: u32) -> Result<Op, Refusal> {
     operation(2, 0, n, at_head('b'))
 }
 
-/// As many as may wait for one, and one more; then that one comes. The one more comes behind them.
+// As many as may wait for one, and one more; then that one comes. The one more comes behind them.
 fn delivers_what_waits(replica: &mut Replica, way: Way) -> Result<bool, Refusal> {
     let mut all = true;
     for n in 2..1026 {
@@ -130,8 +130,8 @@ fn delivers_what_waits(replica: &mut Replica, way: Way) -> Result<bool, Refusal>
     Ok(all && replica.held() == 0 && replica.version() == 1226)
 }
 
-/// What is wrong by itself: an operation of the replica's own site that it never made, another one with a known number, one whose
-/// sum isn't above that of its site's last one, and those behind what isn't there, or isn't older.
+// What is wrong by itself: an operation of the replica's own site that it never made, another one with a known number, one whose
+// sum isn't above that of its site's last one, and those behind what isn't there, or isn't older.
 fn refuses(replica: &mut Replica, way: Way) -> Result<bool, Refusal> {
     let own = operation(0, 0, 1, at_head('z'))?;
     let mut all = ends(replica, way, own, Err(Refusal::OwnSite))?;
@@ -144,8 +144,8 @@ fn refuses(replica: &mut Replica, way: Way) -> Result<bool, Refusal> {
     Ok(all)
 }
 
-/// Site 3 knows three of site 0 at its first operation, and none at its second. Its third stands behind what isn't
-/// there: it waits for the second, and is dropped then.
+// Site 3 knows three of site 0 at its first operation, and none at its second. Its third stands behind what isn't
+// there: it waits for the second, and is dropped then.
 fn refuses_what_is_not_rising(replica: &mut Replica, way: Way) -> Result<bool, Refusal> {
     let mut all = replica.submit_ins(replica.version(), 0, "xyz")? == (1226, 1229);
     all &= ends(replica, way, operation(3, 3, 1, at_head('c'))?, took(1, 0))?;
@@ -157,7 +157,7 @@ fn refuses_what_is_not_rising(replica: &mut Replica, way: Way) -> Result<bool, R
     Ok(all && replica.held() == 0 && replica.version() == 1231)
 }
 
-/// Each outcome.
+// Each outcome.
 fn delivers_all(replica: &mut Replica, way: Way) -> Result<bool, Refusal> {
     let mut all = delivers_pairs(replica, way)?;
     all &= delivers_what_waits(replica, way)?;
@@ -165,7 +165,7 @@ fn delivers_all(replica: &mut Replica, way: Way) -> Result<bool, Refusal> {
     Ok(all && refuses_what_is_not_rising(replica, way)?)
 }
 
-/// Each outcome, in a way, at a replica of its own.
+// Each outcome, in a way, at a replica of its own.
 fn delivers_all_anew(alloc: Global, reserves: bool, copies: bool) -> Result<bool, Refusal> {
     let way = Way { reserves, copies };
     of_an_empty_replica(alloc, |_, replica| delivers_all(replica, way))

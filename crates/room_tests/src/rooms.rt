@@ -9,12 +9,12 @@ use room::{Call, Reply, Room};
 use std::alloc::Global;
 use std::test::Fail;
 
-/// Whether so many calls are recorded, under the first tickets.
+// Whether so many calls are recorded, under the first tickets.
 fn has_recorded(room: &Room, calls: usize) -> bool {
     room.history().len() == calls && room.mark() == calls as u64
 }
 
-/// The calls of each turn, with letters that are handed over behind it; then each session leaves.
+// The calls of each turn, with letters that are handed over behind it; then each session leaves.
 fn asks_in_turns(alloc: Global, calls: &mut Vec<Call>) -> Result<(), Fail> {
     let mut turn = Turn::first();
     for _ in 0..TURNS {
@@ -28,7 +28,7 @@ fn asks_in_turns(alloc: Global, calls: &mut Vec<Call>) -> Result<(), Fail> {
     Ok(())
 }
 
-/// Whether the calls are recorded, beside none before.
+// Whether the calls are recorded, beside none before.
 fn runs(room: &mut Room, calls: &[Call], replies: &mut Vec<Reply>) -> Result<bool, Fail>
     requires { mark room.old.history ≤ 2 ^ 61 }
 {
@@ -46,8 +46,8 @@ fn runs_in_a_room(
     runs(&mut empty_room(alloc)?, calls, replies)
 }
 
-/// Whether these are the replies to a turn, and to what was handed over behind it, where these texts are read before and behind the
-/// turn; and whether the editor of its count, which is given them, has these texts then.
+// Whether these are the replies to a turn, and to what was handed over behind it, where these texts are read before and behind the
+// turn; and whether the editor of its count, which is given them, has these texts then.
 fn goes_as_told(
     editors: &mut Editors,
     turn: Turn,
@@ -76,7 +76,7 @@ fn is_turn_told(
     Ok(goes_as_told(editors, turn, replies, before.as_str(), behind.as_str()))
 }
 
-/// Whether these are the replies to the calls of all turns, and editors follow them.
+// Whether these are the replies to the calls of all turns, and editors follow them.
 fn are_turns_told(alloc: Global, editors: &mut Editors, replies: &[Reply]) -> Result<bool, Fail> {
     let mut all = replies.len() == (CALLS + 2) * TURNS as usize;
     let mut turn = Turn::first();
@@ -90,7 +90,7 @@ fn are_turns_told(alloc: Global, editors: &mut Editors, replies: &[Reply]) -> Re
     Ok(all && rest.iter().all(|reply| matches!(reply, Reply::Left)))
 }
 
-/// Whether the calls of all turns are recorded and answered.
+// Whether the calls of all turns are recorded and answered.
 fn all_is_told(
     alloc: Global,
     calls: &mut Vec<Call>,

@@ -55,7 +55,7 @@ impl Turn {
         self.size % 2 == 0
     }
 
-    /// How many characters it deletes: as many as its places, or half of them where each is a pair.
+    // How many characters it deletes: as many as its places, or half of them where each is a pair.
     fn deleted(self) -> u32 {
         if self.counts_units() {
             self.size / 2
@@ -69,7 +69,7 @@ impl Turn {
         self.size.saturating_add(self.deleted()) as usize
     }
 
-    /// The version that its insertion leads to.
+    // The version that its insertion leads to.
     fn typed(self) -> u32 {
         self.version.saturating_add(self.size)
     }
@@ -79,7 +79,7 @@ impl Turn {
         self.typed().saturating_add(self.deleted())
     }
 
-    /// The character that it puts in, and how many places it takes.
+    // The character that it puts in, and how many places it takes.
     fn character(self) -> (char, u32) {
         if self.counts_units() {
             ('\u{1F600}', 2)
@@ -96,14 +96,14 @@ impl Turn {
         Ok(text)
     }
 
-    /// The insertion of as many characters as its size, before all else.
+    // The insertion of as many characters as its size, before all else.
     fn insertion(self, alloc: Global) -> Result<Call, AllocError> {
         let mut text = String::new(alloc);
         repeat(&mut text, self.character().0, self.size)?;
         insertion(alloc, self.size, 1, self.version, 0, text.as_str())
     }
 
-    /// The deletion of as many places as its size, from the first on.
+    // The deletion of as many places as its size, from the first on.
     fn deletion(self) -> Call {
         Call::Del {
             s: self.size,
@@ -114,7 +114,7 @@ impl Turn {
         }
     }
 
-    /// Asks for at most as many edits as its size.
+    // Asks for at most as many edits as its size.
     fn pull(self, have: u32) -> Call {
         Call::Pull {
             s: self.size,
@@ -200,7 +200,7 @@ impl Turn {
         all
     }
 
-    /// Whether it has put in the operation as its character number `n`.
+    // Whether it has put in the operation as its character number `n`.
     fn is_typed(self, op: &Op, n: u32) -> Result<bool, Refusal> {
         let sum = self.version.saturating_add(n);
         let ch = self.character().0;
@@ -222,7 +222,7 @@ impl Turn {
     }
 }
 
-/// The letter of site 1 behind so many of its own.
+// The letter of site 1 behind so many of its own.
 fn letter(before: u32) -> Result<Op, Refusal> {
     let kind: OpKind = if before == 0 {
         at_head('x')
@@ -232,7 +232,7 @@ fn letter(before: u32) -> Result<Op, Refusal> {
     operation(1, 0, before.saturating_add(1), kind)
 }
 
-/// Writes a character so often.
+// Writes a character so often.
 fn repeat(text: &mut String, ch: char, count: u32) -> Result<(), AllocError> {
     for _ in 0..count {
         text.push(ch)?;

@@ -1,5 +1,6 @@
 -- What a session is answered: the checks of each call by cases, in their order, which is the server's own.
 use Rattle.std.specs.Prelude.{ℕ, Bool, ◌+◌, ◌==◌, ◌||◌, ◌&&◌, nat_lt, min, if◌then◌else◌, Option, Some, None, Result, Ok, Err, List, length}
+use Rattle.opid.specs.declared.limits.TheConstants.{MAX_SESSIONS}
 use Rattle.opid.specs.declared.refusal.Refusal.{Refusal}
 use Rattle.opid.specs.declared.refusal.Refusal.TheVariants.{NoSession, TooManySessions, BadNumber, BadVersion, BadCount, BadHave, Memory}
 use Rattle.opid.specs.Limits.{is_bad_count}
@@ -32,4 +33,4 @@ units_of_session (Some w) = Ok w.units
 
 -- why a join is refused: 64 sessions are there, or else memory was refused
 abbrev pub join_refusal : List Session → Refusal
-join_refusal sessions = if nat_lt (length sessions) 64 then Memory else TooManySessions
+join_refusal sessions = if nat_lt (length sessions) MAX_SESSIONS then Memory else TooManySessions

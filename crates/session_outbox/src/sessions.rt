@@ -12,22 +12,19 @@ ghost use Rattle.session_outbox.specs.Internal.Kept.{sessions_of, session_of};
 use crate::facts::Facts;
 use crate::submission::Submission;
 use indexmap::IndexMap;
-use opid::Refusal;
+use opid::{MAX_SESSIONS, Refusal};
 use std::alloc::Global;
 use std::marker::Model;
 
-/// At most so many sessions are there at one time.
-const MAX_SESSIONS: usize = 64;
-
-/// The facts of the session with this number.
+// The facts of the session with this number.
 fn facts_with(facts: &IndexMap<u32, Facts>, s: u32) -> Option<Facts>
     ensures { option_map (λ w. session_of (s, w)) result ≡ session_with s (sessions_of facts.now.entries) }
 {
     facts.get(&s).copied()
 }
 
-/// Notes in the facts of the session with this number, which is there, that its next submission was accepted, and led from a
-/// version to a version.
+// Notes in the facts of the session with this number, which is there, that its next submission was accepted, and led from a
+// version to a version.
 fn note_accepted(facts: &mut IndexMap<u32, Facts>, s: u32, from: u32, to: u32)
     requires { MayAccept s (sessions_of facts.old.entries) }
     ensures { sessions_of facts.new.entries ≡ change_session s (with_accepted from to) (sessions_of facts.old.entries) }
@@ -39,8 +36,8 @@ fn note_accepted(facts: &mut IndexMap<u32, Facts>, s: u32, from: u32, to: u32)
     }
 }
 
-/// Notes in the facts of the session with this number that it was sent what its pull leads to, and gives the versions that
-/// the pull leads from and to.
+// Notes in the facts of the session with this number that it was sent what its pull leads to, and gives the versions that
+// the pull leads from and to.
 fn note_sent(
     facts: &mut IndexMap<u32, Facts>,
     s: u32,
@@ -64,7 +61,7 @@ fn note_sent(
     }
 }
 
-/// Takes out the session with this number, and says whether it was there.
+// Takes out the session with this number, and says whether it was there.
 #[tactic(auto, using(crate::proofs::Entries::removed, crate::proofs::Entries::is_found))]
 fn take_out(facts: &mut IndexMap<u32, Facts>, s: u32) -> bool
     ensures there { result ≡ is_some (session_with s (sessions_of facts.old.entries)) }
@@ -118,7 +115,7 @@ impl Sessions {
         ensures number { IfOk result (λ s. s ≡ self.old.next_number) }
         ensures fresh { IfOk result (λ s. session_with s self.old.sessions ≡ None) }
         ensures next { OnOk result (self.new ≡ after_join version units self.old) }
-        ensures within { OnOk result (length self.old.sessions < 64) }
+        ensures within { OnOk result (length self.old.sessions < MAX_SESSIONS) }
         ensures cause { IfErr result (λ e. e ≡ join_refusal self.old.sessions) }
         ensures err { OnErr result (self.new ≡ self.old) }
     {
@@ -208,7 +205,7 @@ impl Sessions {
 
     /// Whether 64 sessions are there, so that `join` refuses a further one. Takes one step.
     pub fn is_full(&self) -> bool
-        ensures { result ≡ not (nat_lt (length self.now.sessions) 64) }
+        ensures { result ≡ not (nat_lt (length self.now.sessions) MAX_SESSIONS) }
     {
         self.len() >= MAX_SESSIONS
     }

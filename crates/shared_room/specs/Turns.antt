@@ -1,5 +1,6 @@
 -- What a turn at a shared room does to what its pass knows. The rules are the server's own.
 use Rattle.std.specs.Prelude.{◌≡◌, ℕ, ◌+◌, ◌-◌, ◌<◌, ◌≤◌, ◌↔◌, ◌⊎◌, max, [], ◌∷◌, ◌++◌, length}
+use Rattle.opid.specs.declared.limits.TheConstants.{MAX_CALLS}
 use mathlib.Core.List.{IsPrefix}
 use Rattle.opid.specs.declared.refusal.Refusal.TheVariants.{HistoryFull}
 use Rattle.room_calls.specs.declared.call.Call.{Call}
@@ -33,16 +34,16 @@ pub record Stays (v w : View) : Type 0 where
 -- the turn recorded nothing, though the history that it found isn't full
 pub record FailsToRecord (v w : View) : Type 0 where
   pub stays : Stays v w
-  pub not_full : length w.found < 1048576
+  pub not_full : length w.found < MAX_CALLS
 
 -- the call was answered as the machine answers in the state of the history that was found, and was recorded; only in a
 -- full history it was refused and not recorded
 pub record Replies (opening : State) (v w : View) (c : Call) (r : Reply) : Type 0 where
-  pub within : length w.found ≤ 1048576
+  pub within : length w.found ≤ MAX_CALLS
   pub answered : r ≡ answer (state_of opening w.found) c
-  pub full : (r ≡ No HistoryFull) ↔ (length w.found ≡ 1048576)
-  pub recorded : (length w.found < 1048576) → Records v w c
-  pub refused : (length w.found ≡ 1048576) → Stays v w
+  pub full : (r ≡ No HistoryFull) ↔ (length w.found ≡ MAX_CALLS)
+  pub recorded : (length w.found < MAX_CALLS) → Records v w c
+  pub refused : (length w.found ≡ MAX_CALLS) → Stays v w
 
 -- a pass's call was answered at its turn
 abbrev pub Answers : State → View → View → Call → Reply → Type 0

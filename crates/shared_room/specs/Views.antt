@@ -1,6 +1,7 @@
 -- What the public contracts say of a shared room and of its passes, which are the server's own.
 use Rattle.std.specs.Prelude.{◌≤◌, ◌+◌, ◌^◌, ℕ, List, length}
 use Rattle.std.specs.List.{AllByRecursion}
+use Rattle.opid.specs.declared.limits.TheConstants.{MAX_OPERATIONS}
 use Rattle.room_calls.specs.declared.call.Call.{Call}
 use Rattle.room.specs.Machine.{State}
 use Rattle.room.specs.History.{IsLegal, HandsOperations, state_of, mark}
@@ -74,7 +75,7 @@ pub record IsPassOf (room : SharedRoom) (p : Pass) : Type 0 where
   -- it has at most the draws of all turns that it doesn't know of
   pub within : (view p).turns + (view p).left ≤ 2 ^ 62
   -- what it has seen leads to a log within its limit
-  pub short : length (state_of (opening room) (view p).seen).log ≤ 131072
+  pub short : length (state_of (opening room) (view p).seen).log ≤ MAX_OPERATIONS
   -- in which its own calls stand, each once
   pub owns : Owns (view p).mine (view p).seen
   -- no two of which have one ticket

@@ -1,6 +1,7 @@
 //! The room under its lock, whose trail is its opening and then the calls that it recorded.
 ghost use Rattle.std.specs.Prelude.{◌≡◌, ◌^◌, ◌<◌, ◌≤◌, ◌↔◌, [], true, length, OnErr, OnOk, IfOk};
 ghost use Rattle.std.specs.List.{AllByRecursion};
+ghost use Rattle.opid.specs.declared.limits.TheConstants.{MAX_CALLS, MAX_OPERATIONS};
 ghost use Rattle.opid.specs.declared.refusal.Refusal.TheVariants.{HistoryFull};
 ghost use Rattle.causal_clock.specs.Kinds.{IsOperation};
 ghost use Rattle.room_calls.specs.declared.reply.Reply.TheVariants.{No};
@@ -45,8 +46,8 @@ pub(crate) enum Item {
 pub(crate) struct KeptRoom {
     pub(crate) room: Box<Room>,
     ghost rising: { AreRisingFrom 0 room.value.history } by { AreRisingFrom-prop 0 room.value.history },
-    ghost limit: { length room.value.history ≤ 1048576 },
-    ghost short: { length (state_of room.value.opening room.value.history).log ≤ 131072 },
+    ghost limit: { length room.value.history ≤ MAX_CALLS },
+    ghost short: { length (state_of room.value.opening room.value.history).log ≤ MAX_OPERATIONS },
     ghost hands: { AllByRecursion (λ e. HandsOperations e.1) room.value.history } by { AllHand-prop room.value.history },
 }
 
@@ -59,6 +60,7 @@ impl Trailed for KeptRoom {
 }
 
 impl KeptRoom {
+    ghost use Rattle.opid.specs.declared.limits.TheConstants.{MAX_CALLS};
     ghost use Rattle.shared_room.specs.Looks.{ShowsRoom};
 
     /// The room for its lock, which has recorded no call.
@@ -87,7 +89,7 @@ impl KeptRoom {
         ensures called { OnOk result (self.new.room.value ≡ called self.old.room.value ticket call) }
         ensures err { OnErr result (self.new.room.value ≡ self.old.room.value) }
         ensures memory { OnErr result (may_record self.old.room.value.state ≡ true) }
-        ensures full { IfOk result (λ reply. (reply ≡ No HistoryFull) ↔ (length self.old.room.value.history ≡ 1048576)) }
+        ensures full { IfOk result (λ reply. (reply ≡ No HistoryFull) ↔ (length self.old.room.value.history ≡ MAX_CALLS)) }
         ensures before { IsConsistent self.old.room.value }
         ensures consistent { IsConsistent self.new.room.value }
     {

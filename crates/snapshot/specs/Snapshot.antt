@@ -3,6 +3,7 @@
 -- Kim and Lee 2011) and have at most 131,072 operations.
 use Rattle.std.specs.Prelude.{◌≡◌, ◌≤◌, ◌==◌, ℕ, Bool, true, false, if◌then◌else◌, Result, Ok, Err, List, [], ◌∷◌, ◌++◌, length, codes}
 use Rattle.std.specs.List.{AllByRecursion}
+use Rattle.opid.specs.declared.limits.TheConstants.{MAX_OPERATIONS}
 use Rattle.serde_json.specs.Data.{Data}
 use Rattle.opid.specs.declared.refusal.Refusal.{Refusal}
 use Rattle.opid.specs.declared.refusal.Refusal.TheVariants.{BadField}
@@ -43,7 +44,7 @@ told_in bytes = json_of bytes >>= told_by
 pub record StandsFor (bytes : List ℕ) (log : List Operation) : Type 0 where
   pub told : told_in bytes ≡ Ok log
   pub lawful : IsLawful log
-  pub few : length log ≤ 131072
+  pub few : length log ≤ MAX_OPERATIONS
 
 -- the bytes stand for no log
 abbrev pub StandsForNone : List ℕ → Type 0

@@ -9,7 +9,7 @@ use crate::loading::append_operations;
 use causal_clock::{MAX_SUM, Op};
 use characters::Characters;
 use operation_json::next_op;
-use opid::Refusal;
+use opid::{MAX_OPERATIONS, Refusal};
 use std::alloc::Global;
 use std::marker::Model;
 use versions::Doc;
@@ -23,13 +23,14 @@ pub(crate) struct Gathered {
 
 impl Model for Gathered {
     ghost use Rattle.std.specs.Prelude.{◌≤◌, ◌+◌, length, sum};
+    ghost use Rattle.opid.specs.declared.limits.TheConstants.{MAX_OPERATIONS};
     ghost use Rattle.operation_json.specs.Packing.{Item as Packed};
 
     ghost Value = { Packed };
 
     ghost view = { λ g. record { first = g.first; more = g.more } };
 
-    ghost invariant = { λ g. sum g.first.clock + length g.more ≤ 131072 };
+    ghost invariant = { λ g. sum g.first.clock + length g.more ≤ MAX_OPERATIONS };
 }
 
 impl Gathered {
@@ -50,7 +51,7 @@ pub(crate) fn integrate_gathered(alloc: Global, items: &[Gathered]) -> Result<Do
     ensures told { IfOk result (λ doc. doc.log ≡ unfolded_all items.now) }
     ensures unreserved { IfOk result (λ doc. doc.room ≡ 0) }
     ensures cause { IfErr result (λ e. (e ≡ Memory)
-        ⊎ (IsLawful (unfolded_all items.now) → length (unfolded_all items.now) ≤ 131072 → ⊥)) }
+        ⊎ (IsLawful (unfolded_all items.now) → length (unfolded_all items.now) ≤ MAX_OPERATIONS → ⊥)) }
 {
     let mut doc = Doc::new(alloc);
     let mut ops = Vec::new(alloc);
@@ -65,7 +66,7 @@ fn append_item(doc: &mut Doc, ops: &mut Vec<Op>, item: &Gathered) -> Result<(), 
     ensures grown { OnOk result (doc.new.log ≡ doc.old.log ++ unfolded item.now) }
     ensures unreserved { OnOk result (doc.old.room ≡ 0 → doc.new.room ≡ 0) }
     ensures cause { IfErr result (λ e. (e ≡ Memory) ⊎ (GoesOn doc.old.log (unfolded item.now)
-        → length doc.old.log + length (unfolded item.now) ≤ 131072 → ⊥)) }
+        → length doc.old.log + length (unfolded item.now) ≤ MAX_OPERATIONS → ⊥)) }
 {
     unfold(ops, item)?;
     append_operations(doc, ops.as_slice())

@@ -4,9 +4,11 @@ ghost use Rattle.opid.specs.Operations.{Operation};
 ghost use Rattle.opid.specs.Lawful.{IsLawful};
 ghost use Rattle.snapshot.specs.Snapshot.{StandsFor, AreInRange, log_text};
 
+use opid::MAX_OPERATIONS;
+
 /// The text of a log stands for just that log.
 pub fn logs_read_back()
-    ensures { (log : List Operation) → AreInRange log → IsLawful log → length log ≤ 131072 → StandsFor (log_text log) log }
+    ensures { (log : List Operation) → AreInRange log → IsLawful log → length log ≤ MAX_OPERATIONS → StandsFor (log_text log) log }
 {}
 
 /// Two different logs have different texts.

@@ -11,7 +11,7 @@ ghost use Rattle.snapshot.specs.Internal.Values.{value_told};
 use crate::spelled::read_spelled;
 use causal_clock::Op;
 use operation_json::{check_keys, read_item_ops, read_list, read_number, read_op, read_value};
-use opid::{Refusal, Site};
+use opid::{MAX_OPERATIONS, Refusal, Site};
 use replica::Replica;
 use serde_json::Value;
 use std::alloc::Global;
@@ -99,16 +99,17 @@ fn read_format(value: &Value) -> Result<bool, Refusal>
 fn integrate_all(alloc: Global, values: &[Value], runs: bool) -> Result<Doc, Refusal>
     ensures told { IfOk result (λ doc. ops_told runs (items_told (items_view values.now)) ≡ Ok doc.log) }
     ensures lawful { IfOk result (λ doc. IsLawful doc.log) }
-    ensures few { IfOk result (λ doc. length doc.log ≤ 131072) }
+    ensures few { IfOk result (λ doc. length doc.log ≤ MAX_OPERATIONS) }
     ensures unreserved { IfOk result (λ doc. doc.room ≡ 0) }
     ensures cause { IfErr result (λ e. (e ≡ Memory)
-        ⊎ ((log : List Operation) → ops_told runs (items_told (items_view values.now)) ≡ Ok log → IsLawful log → length log ≤ 131072 → ⊥)) }
+        ⊎ ((log : List Operation) → ops_told runs (items_told (items_view values.now)) ≡ Ok log → IsLawful log
+        → length log ≤ MAX_OPERATIONS → ⊥)) }
 {
     let mut doc = Doc::new(alloc);
     for value in values {
         append_value(alloc, &mut doc, value, runs)?;
     }
-    prove!(doc.version() <= 131_072);
+    prove!(doc.version() as usize <= MAX_OPERATIONS);
     Ok(doc)
 }
 
@@ -117,7 +118,7 @@ fn append_value(alloc: Global, doc: &mut Doc, value: &Value, runs: bool) -> Resu
     ensures grown { OnOk result ((xs : List Operation) × (value_told runs (view value.now) ≡ Ok xs) × (doc.new.log ≡ doc.old.log ++ xs)) }
     ensures unreserved { OnOk result (doc.old.room ≡ 0 → doc.new.room ≡ 0) }
     ensures cause { IfErr result (λ e. (e ≡ Memory) ⊎ ((xs : List Operation) → value_told runs (view value.now) ≡ Ok xs
-        → GoesOn doc.old.log xs → length doc.old.log + length xs ≤ 131072 → ⊥)) }
+        → GoesOn doc.old.log xs → length doc.old.log + length xs ≤ MAX_OPERATIONS → ⊥)) }
 {
     if runs {
         let ops = read_item_ops(alloc, value)?;
@@ -136,7 +137,7 @@ pub fn append_operations(doc: &mut Doc, ops: &[Op]) -> Result<(), Refusal>
     ensures grown { OnOk result (doc.new.log ≡ doc.old.log ++ ops.now) }
     ensures unreserved { OnOk result (doc.old.room ≡ 0 → doc.new.room ≡ 0) }
     ensures cause { IfErr result (λ e. (e ≡ Memory)
-        ⊎ (GoesOn doc.old.log ops.now → length doc.old.log + length ops.now ≤ 131072 → ⊥)) }
+        ⊎ (GoesOn doc.old.log ops.now → length doc.old.log + length ops.now ≤ MAX_OPERATIONS → ⊥)) }
 {
     for op in ops {
         append(doc, op)?;
@@ -147,7 +148,7 @@ pub fn append_operations(doc: &mut Doc, ops: &[Op]) -> Result<(), Refusal>
 // Appends an operation that may follow the log.
 fn append(doc: &mut Doc, op: &Op) -> Result<(), Refusal>
     ensures grown { OnOk result (doc.new ≡ record { log = doc.old.log ++ op.now ∷ []; room = doc.old.room - 1 }) }
-    ensures cause { IfErr result (λ e. (e ≡ Memory) ⊎ (MayFollow doc.old.log op.now → length doc.old.log < 131072 → ⊥)) }
+    ensures cause { IfErr result (λ e. (e ≡ Memory) ⊎ (MayFollow doc.old.log op.now → length doc.old.log < MAX_OPERATIONS → ⊥)) }
 {
     let site = op.site();
     if !doc.known().ready(op) || op.stamp().sum <= doc.last_sum(site) {

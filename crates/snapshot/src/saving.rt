@@ -5,7 +5,7 @@ ghost use Rattle.operation_json.specs.Text.{item_text, packed_text};
 ghost use Rattle.snapshot.specs.Snapshot.{StandsFor, AreInRange, log_text};
 
 use operation_json::{Item, check_op, write_item};
-use opid::Refusal;
+use opid::{MAX_OPERATIONS, Refusal};
 use replica::Replica;
 use std::alloc::Global;
 use versions::Doc;
@@ -24,7 +24,7 @@ pub fn save(alloc: Global, replica: &Replica) -> Result<String, Refusal>
     let mut text = String::from_str(alloc, "{\"format\":2,\"ops\":")?;
     push_ops(alloc, &mut text, doc)?;
     text.push_str("}")?;
-    prove!(doc.version() <= 131_072);
+    prove!(doc.version() as usize <= MAX_OPERATIONS);
     prove!(text.as_str().len() == text.len());
     Ok(text)
 }

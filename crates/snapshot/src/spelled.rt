@@ -36,7 +36,7 @@ pub(crate) fn read_spelled(alloc: Global, bytes: &[u8]) -> Result<Option<Doc>, R
     };
     match integrate_gathered(alloc, items.as_slice()) {
         Ok(doc) => {
-            prove!(doc.version() <= 131_072);
+            prove!(doc.version() as usize <= MAX_OPERATIONS);
             Ok(Some(doc))
         }
         Err(Refusal::Memory) => Err(Refusal::Memory),

@@ -3,6 +3,7 @@ use Rattle.std.specs.Prelude.{not, nat_le, if◌then◌else◌, Option, Some, No
 use Rattle.opid.specs.declared.stamp.Stamp.{Stamp}
 use Rattle.opid.specs.declared.kind.OpKind.{OpKind}
 use Rattle.opid.specs.declared.kind.OpKind.TheVariants.{Ins, Del}
+use Rattle.opid.specs.declared.limits.TheConstants.{MAX_OPERATIONS}
 use Rattle.opid.specs.declared.refusal.Refusal.{Refusal}
 use Rattle.opid.specs.declared.refusal.Refusal.TheVariants.{Full, UnknownElement}
 use Rattle.opid.specs.Stamps.{is_before}
@@ -17,4 +18,4 @@ element_refusal log s (Del target) = if not (has_element log target) then Some U
 
 -- why the operation is refused, memory apart; first, that the log has 131,072 operations
 abbrev pub refusal_of : List Operation → Operation → Option Refusal
-refusal_of log x = if nat_le 131072 (length log) then Some Full else element_refusal log (stamp_of x) x.kind
+refusal_of log x = if nat_le MAX_OPERATIONS (length log) then Some Full else element_refusal log (stamp_of x) x.kind

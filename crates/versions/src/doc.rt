@@ -13,7 +13,7 @@ ghost use Rattle.causal_clock.specs.Kinds.{IsOperation};
 ghost use Rattle.versions.specs.Causes.{refusal_of};
 ghost use Rattle.versions.specs.Sums.{last_sum};
 
-use crate::integrate::{MAX_OPERATIONS, integrate, look_up};
+use crate::integrate::{integrate, look_up};
 use crate::kept_edit::KeptEdit;
 use crate::read_op::read_op;
 use crate::reserved::{make_room, reserve_each};
@@ -21,7 +21,7 @@ use crate::text::text_in;
 use causal_clock::{Clock, Op, OpLog, Replay};
 use characters::Characters;
 use counted_tree::{Steps, VersionTree};
-use opid::{Edit, Refusal, SITES, Site, Stamp};
+use opid::{Edit, MAX_OPERATIONS, Refusal, SITES, Site, Stamp};
 use rga_list::{LIMIT, Rga};
 use std::alloc::{AllocError, Global};
 use std::marker::Model;

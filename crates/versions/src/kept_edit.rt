@@ -4,15 +4,15 @@ ghost use Rattle.opid.specs.Units.{is_character};
 ghost use Rattle.opid.specs.declared.edit.Edit.TheVariants as changes;
 ghost use Rattle.versions.specs.Internal.KeptEdits.{edit_in};
 
-use opid::Edit;
+use opid::{Edit, MAX_OPERATIONS};
 
-/// Each character is below this: 2^21.
+// Each character is below this: 2^21.
 const CHARACTERS: u64 = 2_097_152;
 
-/// Each place in characters is below this: 2^18.
+// Each place in characters is below this: 2^18.
 const PLACES: u64 = 262_144;
 
-/// An edit that changes nothing.
+// An edit that changes nothing.
 const NOP: u64 = 3;
 
 /// An edit with its place in characters and that in UTF-16 units, side by side in one number.
@@ -25,10 +25,10 @@ pub(crate) struct KeptEdit {
 
 const _: () = prove!(size_of::<KeptEdit>() == 8);
 
-/// What is kept of an edit, in one number.
+// What is kept of an edit, in one number.
 fn word_of(place: usize, unit_place: usize, ch: char, kind: u64) -> u64
-    requires place { place ≤ 131072 }
-    requires unit_place { unit_place ≤ 2 * 131072 }
+    requires place { place ≤ MAX_OPERATIONS }
+    requires unit_place { unit_place ≤ 2 * MAX_OPERATIONS }
     requires kind { kind < 4 }
     ensures kind { result % 4 ≡ kind }
     ensures ch { result / 4 % 2 ^ 21 ≡ ch }
@@ -39,7 +39,7 @@ fn word_of(place: usize, unit_place: usize, ch: char, kind: u64) -> u64
     (places * CHARACTERS + u64::from(ch)) * 4 + kind
 }
 
-/// The character of a number, U+0000 where it is that of none.
+// The character of a number, U+0000 where it is that of none.
 fn char_of(number: u32) -> char
     ensures { result ≡ (if is_character number then number else 0) }
 {
@@ -52,8 +52,8 @@ fn char_of(number: u32) -> char
 impl KeptEdit {
     /// The character is put in at the place, which is told in characters and in units.
     pub fn ins(place: usize, unit_place: usize, ch: char) -> KeptEdit
-        requires place { place ≤ 131072 }
-        requires unit_place { unit_place ≤ 2 * 131072 }
+        requires place { place ≤ MAX_OPERATIONS }
+        requires unit_place { unit_place ≤ 2 * MAX_OPERATIONS }
         ensures { (units : Bool) → edit_in units result ≡ changes.Ins (if units then unit_place else place) ch }
     {
         KeptEdit {
@@ -64,8 +64,8 @@ impl KeptEdit {
     /// The character at the place, which is told in characters and in units, is taken out: whether it is wide tells that it
     /// has two units.
     pub fn del(place: usize, unit_place: usize, wide: bool) -> KeptEdit
-        requires place { place ≤ 131072 }
-        requires unit_place { unit_place ≤ 2 * 131072 }
+        requires place { place ≤ MAX_OPERATIONS }
+        requires unit_place { unit_place ≤ 2 * MAX_OPERATIONS }
         ensures { (units : Bool) → edit_in units result
             ≡ (if units then changes.DelUnits unit_place (if wide then 2 else 1) else changes.Del place) }
     {

@@ -13,7 +13,7 @@ pub(crate) fn read_op(log: &OpLog, i: usize) -> Op
     read_over::<Brand>(log, i, Blank::new(1))
 }
 
-/// As `read_op`, over the ledger of a blank.
+// As `read_op`, over the ledger of a blank.
 fn read_over<L: Ledger>(log: &OpLog, i: usize, blank: Blank) -> Op
     requires place { i < length log.now.ops }
     requires name { blank.name ≡ L.name }

@@ -1,6 +1,7 @@
 -- Which part of a log bytes tell, or why they are refused: the JSON object that an `ops` reply is (RFC 8259), as `serde_json` reads
 -- it. The reply is the server's own.
 use Rattle.std.specs.Prelude.{ℕ, nat_le, if◌then◌else◌, Result, Ok, Err, List, length, [], ◌∷◌, codes, bytes_eq}
+use Rattle.opid.specs.declared.limits.TheConstants.{MAX_COUNT}
 use Rattle.serde_json.specs.Data.{Data}
 use Rattle.opid.specs.declared.refusal.Refusal.{Refusal}
 use Rattle.opid.specs.declared.refusal.Refusal.TheVariants.{BadCount, UnknownKind}
@@ -10,7 +11,7 @@ use Rattle.operation_json.specs.PackedOperations.{operations_at}
 
 -- a part has at most 64 operations, of which the first has this number in the log
 abbrev pub part_at : ℕ → List Operation → Result (ℕ × List Operation) Refusal
-part_at n ops = if nat_le (length ops) 64 then Ok (n, ops) else Err BadCount
+part_at n ops = if nat_le (length ops) MAX_COUNT then Ok (n, ops) else Err BadCount
 
 -- the number of the part's first operation, and the part
 abbrev pub part_members : Data → Result (ℕ × List Operation) Refusal

@@ -8,7 +8,7 @@ use json_bytes::{put, put_number, put_quoted};
 use opid::Edit;
 use std::alloc::AllocError;
 
-/// Room for the text of any edit: `["d",`, two numbers of at most 20 digits, a comma and a bracket take 47 bytes.
+// Room for the text of any edit: `["d",`, two numbers of at most 20 digits, a comma and a bracket take 47 bytes.
 const MOST: usize = 64;
 
 /// Appends the text of the edit.
@@ -45,7 +45,7 @@ pub(crate) fn push_edit(out: &mut Vec<u8>, edit: Edit) -> Result<(), AllocError>
     }
 }
 
-/// Appends an insertion whose character is above ASCII.
+// Appends an insertion whose character is above ASCII.
 fn push_wide(out: &mut Vec<u8>, place: usize, ch: char) -> Result<(), AllocError>
     requires { 128 ≤ ch }
     ensures { OnOk result (out.new.items ≡ out.old.items ++ edit_text (edits.Ins place ch)) }
@@ -61,7 +61,7 @@ fn push_wide(out: &mut Vec<u8>, place: usize, ch: char) -> Result<(), AllocError
     Ok(())
 }
 
-/// Puts the beginning of an edit before a place: a bracket, the letter in quotes, and a comma.
+// Puts the beginning of an edit before a place: a bracket, the letter in quotes, and a comma.
 #[inline(always)]
 fn put_letter(bytes: &mut [u8; MOST], at: usize, letter: u8) -> usize
     requires first { 5 ≤ at }

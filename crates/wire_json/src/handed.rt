@@ -5,12 +5,11 @@ ghost use Rattle.room_calls.specs.declared.call.Call.TheVariants.{Put};
 ghost use Rattle.wire_json.specs.Request.{unless_too_many};
 ghost use Rattle.wire_json.specs.Internal.Handed.{ReadsOps, ReadsRest};
 
-use crate::reading::MAX_REQUEST_BYTES;
 use arrayvec::ArrayString;
 use causal_clock::Op;
 use json_bytes::{MAX_TEXT, PlainReader};
 use operation_json::{behind_first, is_closed, rest_of_item, unfold_run};
-use opid::{MAX_COUNT, Refusal};
+use opid::{MAX_COUNT, MAX_REQUEST_BYTES, Refusal};
 use room_calls::{Call, Operations};
 use std::alloc::Global;
 

@@ -10,6 +10,8 @@ ghost use Rattle.operation_json.specs.PackedOperations.{packed_ops_of, handed_ov
 ghost use Rattle.wire_json.specs.Text.{IsInRange, text};
 ghost use Rattle.wire_json.specs.Part.{part_told};
 
+use opid::MAX_COUNT;
+
 /// Two different replies have different texts: a client can tell each reply from its line alone.
 pub fn different_replies()
     ensures { (a b : Reply) → IsInRange a → IsInRange b → text a ≡ text b → a ≡ b }
@@ -21,12 +23,12 @@ pub fn packed_operations_read_back()
     ensures told { (place : ℕ) (ops : List Operation) → IsInRange (Ops place ops)
         → option_map (λ ds. packed_ops_of (items_told ds))
         (option_and_then as_array (option_and_then (get (codes "ops")) (read (text (Ops place ops))))) ≡ Some (Ok ops) }
-    ensures put { (place : ℕ) (ops : List Operation) → IsInRange (Ops place ops) → length ops ≤ 64
+    ensures put { (place : ℕ) (ops : List Operation) → IsInRange (Ops place ops) → length ops ≤ MAX_COUNT
         → option_map (λ ds. handed_over (items_told ds))
         (option_and_then as_array (option_and_then (get (codes "ops")) (read (text (Ops place ops))))) ≡ Some (Ok ops) }
 {}
 
 /// The text of an `ops` reply of at most 64 operations tells the part of a log that the reply has.
 pub fn parts_read_back()
-    ensures { (n : ℕ) (ops : List Operation) → IsInRange (Ops n ops) → length ops ≤ 64 → part_told (text (Ops n ops)) ≡ Ok (n, ops) }
+    ensures { (n : ℕ) (ops : List Operation) → IsInRange (Ops n ops) → length ops ≤ MAX_COUNT → part_told (text (Ops n ops)) ≡ Ok (n, ops) }
 {}

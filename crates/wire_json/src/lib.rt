@@ -20,6 +20,7 @@ mod writing;
 pub use laws::{different_replies, packed_operations_read_back, parts_read_back};
 pub use opening::read_open;
 pub use operation_json::{read_op, write_op};
+pub use opid::MAX_REQUEST_BYTES;
 pub use part::read_part;
-pub use reading::{MAX_REQUEST_BYTES, RequestReader, read_request};
+pub use reading::{RequestReader, read_request};
 pub use writing::write_reply;

@@ -6,7 +6,7 @@ use json_bytes::{put, put_all, put_number};
 use room_calls::Outcome;
 use std::alloc::AllocError;
 
-/// Room for the text of any outcome: `["took",`, two numbers of at most 20 digits, a comma and a bracket take 50 bytes.
+// Room for the text of any outcome: `["took",`, two numbers of at most 20 digits, a comma and a bracket take 50 bytes.
 const MOST: usize = 64;
 
 /// Appends the text of the outcome.

@@ -15,7 +15,7 @@ use opid::Edit;
 use room_calls::Outcome;
 use std::alloc::{AllocError, Global};
 
-/// Room for the text of an `ok`: its two numbers have at most 20 digits, and the rest takes 24 bytes.
+// Room for the text of an `ok`: its two numbers have at most 20 digits, and the rest takes 24 bytes.
 const MOST: usize = 64;
 
 /// The text of an `ok`, in memory for so many bytes at first, and for the line feed that may come behind it.

@@ -1,5 +1,6 @@
 -- What answers a message of a connection: the opening of a room, or a call of the room that it opened. The rules are the server's own.
 use Rattle.std.specs.Prelude.{◌≡◌, ◌⊎◌, ℕ, ◌≤◌, List, length, slice_get, slice_set, Option, Some, None, Result, Ok, Err, codes}
+use Rattle.opid.specs.declared.limits.TheConstants.{MAX_REQUEST_BYTES}
 use Rattle.opid.specs.declared.refusal.Refusal.{Refusal}
 use Rattle.opid.specs.declared.refusal.Refusal.TheVariants as Why
 use Rattle.room_calls.specs.declared.reply.Reply.TheVariants.{No}
@@ -46,7 +47,7 @@ OpensAsked hall (Err refusal) answer opened = (answer ≡ text (No refusal)) × 
 abbrev pub OpensRoom : Hall → List ℕ → List ℕ → Option ℕ → Type 0
 OpensRoom hall bytes answer opened =
     OpensAsked hall (requests.room_asked_for bytes) answer opened
-    ⊎ ((length bytes ≤ 65536) × (answer ≡ text (No Why.Memory)) × (opened ≡ None))
+    ⊎ ((length bytes ≤ MAX_REQUEST_BYTES) × (answer ≡ text (No Why.Memory)) × (opened ≡ None))
 
 -- the answer to a message of a connection whose room is at this place, or that has opened none
 abbrev pub AnswersAt : {G : Type 0} → (G → ℕ → View → G → Type 0) → Hall → Option ℕ → Side G → List ℕ → List ℕ → Option ℕ → Side G → Type 0

@@ -3,10 +3,10 @@ ghost use Rattle.std.specs.Prelude.{◌≡◌, string_bytes};
 ghost use Rattle.std.specs.List.{list_all};
 ghost use Rattle.ws_server.specs.Names.{is_name_byte, is_name, are_different, names_fit};
 
-/// How many rooms a hall may have.
+// How many rooms a hall may have.
 const MOST_ROOMS: usize = 64;
 
-/// How many characters a name may have.
+// How many characters a name may have.
 const MOST_CHARACTERS: usize = 32;
 
 /// Whether a hall may have rooms of these names: 1 to 64, all different, each 1 to 32 characters of `a` to `z`, `0` to

@@ -1,5 +1,6 @@
 -- What an insertion along a path comes to, and what the table has for it before.
 use Rattle.std.specs.Prelude.{◌≡◌, ℕ, ◌+◌, ◌-◌, ◌<◌, ◌≤◌, ◌∷◌, List, length, take, drop, slice_get, Option, Some, IsSome}
+use Rattle.counted_tree.specs.declared.entry.TheConstants.{MAX_ELEMENTS}
 use Rattle.counted_tree.specs.declared.above.Above.{Above}
 use Rattle.counted_tree.specs.declared.entry.Entry.{Entry}
 use Rattle.counted_tree.specs.declared.insert.Inserted.{Inserted}
@@ -19,7 +20,7 @@ use Rattle.counted_tree.specs.Internal.Table.{AreOwn, IsKept, HasRow, PointsTo, 
 -- the tree can have the entry: the table has what is in the tree, and there is room for so many nodes
 pub record IsFit (most : ℕ) (table : List Row) (t : Tree) (path : List Side) (x : Entry) : Type 0 where
   pub room : height t + 6 ≤ most
-  pub few : length (entries t) < 131072
+  pub few : length (entries t) < MAX_ELEMENTS
   pub own : AreOwn (length table) (inserted_at t path x)
   pub kept : IsKept table t
   pub row : HasRow table t

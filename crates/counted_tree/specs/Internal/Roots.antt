@@ -1,5 +1,6 @@
 -- How a version tree stands for its versions: a root for each, over nodes that they share.
 use Rattle.std.specs.Prelude.{ℕ, ◌+◌, ◌-◌, ◌*◌, ◌<◌, ◌≤◌, ◌==◌, if◌then◌else◌, List, [], ◌∷◌, map, length, None, slice_index_or}
+use Rattle.counted_tree.specs.declared.entry.TheConstants.{MAX_ELEMENTS}
 use Rattle.counted_tree.specs.declared.entry.Entry.{Entry}
 use Rattle.counted_tree.specs.declared.node.Node.{Node}
 use Rattle.counted_tree.specs.declared.root.Root.{Root}
@@ -37,4 +38,4 @@ pub record AreVersions (store : Store) (roots : List Root) (room : ℕ) : Type 0
   pub lengths : (i : ℕ) → i < length roots → length (rooted store.nodes (slice_index_or roots i no_root)) ≤ i + 1
   pub few_nodes : length store.nodes ≤ 31 * length roots
   pub reserved : 31 * room ≤ store.node_room
-  pub limit : length roots + room ≤ 131072
+  pub limit : length roots + room ≤ MAX_ELEMENTS

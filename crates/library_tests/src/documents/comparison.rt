@@ -13,7 +13,7 @@ use versions::Doc;
 
 const MANY: u32 = 2_000;
 
-/// A deletion of any element, or an insertion behind any that is older, for the site's next stamp.
+// A deletion of any element, or an insertion behind any that is older, for the site's next stamp.
 fn choose(plain: &Plain, dice: &mut Dice, next: Stamp) -> OpKind {
     let chosen = plain.nth(dice.roll(plain.len().saturating_add(1)));
     let ch = match dice.roll(4) {
@@ -41,7 +41,7 @@ fn choose(plain: &Plain, dice: &mut Dice, next: Stamp) -> OpKind {
     }
 }
 
-/// What the site knows: its own operations, and now and then all that are there.
+// What the site knows: its own operations, and now and then all that are there.
 fn known(doc: &Doc, clocks: &[Clock], number: usize, dice: &mut Dice) -> Clock {
     match clocks.get(number) {
         None => doc.clock(),
@@ -55,7 +55,7 @@ fn known(doc: &Doc, clocks: &[Clock], number: usize, dice: &mut Dice) -> Clock {
     }
 }
 
-/// One more operation of one of five sites, in the document and in the plain program.
+// One more operation of one of five sites, in the document and in the plain program.
 fn step(
     alloc: Global,
     doc: &mut Doc,
@@ -80,7 +80,7 @@ fn step(
     Ok(())
 }
 
-/// Fills the document, and the plain program beside it.
+// Fills the document, and the plain program beside it.
 fn fill(alloc: Global, doc: &mut Doc, plain: &mut Plain, dice: &mut Dice) -> Result<(), Refusal> {
     let mut clocks = [Clock::zero(); 5];
     for _ in 0..MANY {
@@ -89,12 +89,12 @@ fn fill(alloc: Global, doc: &mut Doc, plain: &mut Plain, dice: &mut Dice) -> Res
     Ok(())
 }
 
-/// Fills the document.
+// Fills the document.
 fn fill_alone(alloc: Global, doc: &mut Doc) -> Result<(), Refusal> {
     fill(alloc, doc, &mut Plain::new(alloc), &mut Dice::new(1))
 }
 
-/// Whether the text is that of these elements.
+// Whether the text is that of these elements.
 fn is_text_of(text: &Characters, visible: &[Insertion]) -> bool {
     let mut chars = text.as_str().chars();
     for x in visible {
@@ -105,7 +105,7 @@ fn is_text_of(text: &Characters, visible: &[Insertion]) -> bool {
     chars.next().is_none()
 }
 
-/// Whether the version has these elements, each at its place, and none behind them.
+// Whether the version has these elements, each at its place, and none behind them.
 fn has_elements(doc: &Doc, version: u32, visible: &[Insertion]) -> bool {
     for (place, x) in visible.iter().enumerate() {
         if element_at(doc, version, place) != Some(x.stamp) {
@@ -115,14 +115,14 @@ fn has_elements(doc: &Doc, version: u32, visible: &[Insertion]) -> bool {
     element_at(doc, version, visible.len()).is_none()
 }
 
-/// Whether the version shows these elements: its length, its text, and the element at each place.
+// Whether the version shows these elements: its length, its text, and the element at each place.
 fn shows(doc: &Doc, version: u32, visible: &[Insertion]) -> Result<bool, Refusal> {
     let has_text = len_at(doc, version) == Some(visible.len())
         && is_text_of(&doc.reading(version)?, visible);
     Ok(has_text && has_elements(doc, version, visible))
 }
 
-/// The UTF-16 units of these elements, in order: the stamp of each, and 1 for the second of a pair, else 0.
+// The UTF-16 units of these elements, in order: the stamp of each, and 1 for the second of a pair, else 0.
 fn units_of(alloc: Global, visible: &[Insertion]) -> Result<Vec<(Stamp, u8)>, AllocError> {
     let mut units = Vec::new(alloc);
     for x in visible {
@@ -134,7 +134,7 @@ fn units_of(alloc: Global, visible: &[Insertion]) -> Result<Vec<(Stamp, u8)>, Al
     Ok(units)
 }
 
-/// Whether the version shows these elements in UTF-16 units: how many there are, and those at some places.
+// Whether the version shows these elements in UTF-16 units: how many there are, and those at some places.
 fn has_units(
     alloc: Global,
     doc: &Doc,
@@ -155,14 +155,14 @@ fn has_units(
     Ok(true)
 }
 
-/// Whether the operation made the edit between what was visible before it and what is visible after it, in either count.
+// Whether the operation made the edit between what was visible before it and what is visible after it, in either count.
 fn made(doc: &Doc, version: u32, op: &Op, before: &[Insertion], after: &[Insertion]) -> bool {
     let edit = edit_of(op.stamp(), op.kind(), before, after);
     let edit_units = edit_units_of(op.stamp(), op.kind(), before, after);
     edit_at(doc, version) == Some(edit) && edit_units_at(doc, version) == Some(edit_units)
 }
 
-/// Whether the version shows these elements, in either count.
+// Whether the version shows these elements, in either count.
 fn shows_in_both(
     alloc: Global,
     doc: &Doc,
@@ -174,8 +174,8 @@ fn shows_in_both(
     Ok(has_units(alloc, doc, version, visible, dice)? && all)
 }
 
-/// Whether the operation behind the version made the edit and the version that the plain program has after it, which is then
-/// shown.
+// Whether the operation behind the version made the edit and the version that the plain program has after it, which is then
+// shown.
 fn is_next(
     alloc: Global,
     doc: &Doc,
@@ -193,7 +193,7 @@ fn is_next(
     Ok(shows_in_both(alloc, doc, next, shown, dice)? && all)
 }
 
-/// Whether each version is what the plain program has, and the last of them is long.
+// Whether each version is what the plain program has, and the last of them is long.
 fn is_as_defined(
     alloc: Global,
     doc: &Doc,

@@ -8,8 +8,8 @@ use counted_tree::{Steps, VersionTree};
 use std::alloc::AllocError;
 use std::test::Fail;
 
-/// Hides the element at the place of the newest version, if there is one, in the tree and in the scan. Whether the tree tells that as
-/// much stands before it as in the scan, and looks at as many nodes as where it is asked for the ranks alone.
+// Hides the element at the place of the newest version, if there is one, in the tree and in the scan. Whether the tree tells that as
+// much stands before it as in the scan, and looks at as many nodes as where it is asked for the ranks alone.
 fn hide_in_both(tree: &mut VersionTree, plain: &mut Plain, k: usize) -> bool {
     if tree.room() == 0 {
         return true;
@@ -28,7 +28,7 @@ fn hide_in_both(tree: &mut VersionTree, plain: &mut Plain, k: usize) -> bool {
     same
 }
 
-/// Random insertions and hidings. Whether each hiding tells the ranks that the scan has, and the last version is the same.
+// Random insertions and hidings. Whether each hiding tells the ranks that the scan has, and the last version is the same.
 fn tells_ranks(tree: &mut VersionTree, plain: &mut Plain) -> Result<bool, AllocError> {
     let mut dice = Dice::new(17);
     let mut all = true;

@@ -9,7 +9,7 @@ use std::test::Fail;
 
 const CALLS: u32 = 3_000;
 
-/// Where the calls of a sequence put elements in.
+// Where the calls of a sequence put elements in.
 #[derive(Clone, Copy, PartialEq, Eq)]
 enum Shape {
     BehindTheLast,
@@ -17,7 +17,7 @@ enum Shape {
     AtBothEndsByTurns,
     InTheMiddle,
     AtRandom,
-    /// One behind the other, from a new place on about each so many.
+    // One behind the other, from a new place on about each so many.
     Typed(u32),
 }
 
@@ -32,7 +32,7 @@ const SHAPES: [Shape; 7] = [
 ];
 
 impl Shape {
-    /// The place of the next insertion among so many elements, where the last one was at this place.
+    // The place of the next insertion among so many elements, where the last one was at this place.
     fn place(self, elements: u32, last: u32, dice: &mut Dice) -> u32 {
         match self {
             Shape::BehindTheLast => elements,
@@ -51,7 +51,7 @@ impl Shape {
     }
 }
 
-/// Puts an element in at the place, in both.
+// Puts an element in at the place, in both.
 fn put_in_both(
     tree: &mut VersionTree,
     recursive: &mut Recursive,
@@ -100,7 +100,7 @@ pub(crate) fn looks(tree: &VersionTree, elem: u32) -> Option<u64> {
     Some(steps.count())
 }
 
-/// Whether each element lies as deep in the tree.
+// Whether each element lies as deep in the tree.
 fn is_as_deep(tree: &VersionTree, recursive: &Recursive) -> bool {
     let mut all = true;
     for place in 0..tree.elements() as u32 {
@@ -112,8 +112,8 @@ fn is_as_deep(tree: &VersionTree, recursive: &Recursive) -> bool {
     all
 }
 
-/// Whether both make as many nodes at each call, one in so many of which hides an element (0: none does), and all elements lie as deep
-/// now and then.
+// Whether both make as many nodes at each call, one in so many of which hides an element (0: none does), and all elements lie as deep
+// now and then.
 fn makes_as_many(
     tree: &mut VersionTree,
     recursive: &mut Recursive,

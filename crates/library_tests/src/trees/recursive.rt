@@ -2,7 +2,7 @@
 //! made looks at its two sides.
 use std::alloc::{AllocError, Global};
 
-/// A node: its sides, its element, how high it is, and how many elements are below it, its own among them.
+// A node: its sides, its element, how high it is, and how many elements are below it, its own among them.
 #[derive(Clone, Copy)]
 struct Made {
     left: Option<u32>,

@@ -10,7 +10,7 @@ use std::test::Fail;
 
 const CALLS: u32 = 1_500;
 
-/// Puts the next element in behind one that is there, or before all others, and tells how many nodes were looked at.
+// Puts the next element in behind one that is there, or before all others, and tells how many nodes were looked at.
 fn put_behind(tree: &mut VersionTree, before: Option<u32>, wide: bool) -> Option<u64> {
     let n = tree.elements();
     if tree.room() == 0 {
@@ -28,8 +28,8 @@ fn put_behind(tree: &mut VersionTree, before: Option<u32>, wide: bool) -> Option
     Some(steps.count())
 }
 
-/// Puts an element in at the place, in both. Whether the tree looks at no fewer nodes than lead to the element before, and at no more
-/// than four for each that it makes.
+// Puts an element in at the place, in both. Whether the tree looks at no fewer nodes than lead to the element before, and at no more
+// than four for each that it makes.
 fn insert(
     tree: &mut VersionTree,
     recursive: &mut Recursive,
@@ -54,8 +54,8 @@ fn insert(
     Ok(least <= looked && looked <= most)
 }
 
-/// Random insertions in both, among which one call in so many hides an element (0: none does). Whether each insertion looks at as few
-/// nodes as it may.
+// Random insertions in both, among which one call in so many hides an element (0: none does). Whether each insertion looks at as few
+// nodes as it may.
 fn grow(
     tree: &mut VersionTree,
     recursive: &mut Recursive,
@@ -84,7 +84,7 @@ fn an_insertion_looks_at_four_nodes_at_most_for_each_that_it_makes(
     Ok(())
 }
 
-/// How many units of the element the newest version is found to show, each by so many looks; nothing where it takes more or fewer.
+// How many units of the element the newest version is found to show, each by so many looks; nothing where it takes more or fewer.
 fn units_found_by(tree: &VersionTree, elem: u32, looks: u64) -> Option<usize> {
     let (place, unit) = ranks(tree, elem)?;
     let newest = tree.newest();
@@ -109,7 +109,7 @@ fn units_found_by(tree: &VersionTree, elem: u32, looks: u64) -> Option<usize> {
     }
 }
 
-/// How many nodes the tree looks at to tell how many units stand before an element, if it is there.
+// How many nodes the tree looks at to tell how many units stand before an element, if it is there.
 fn looks_for_units(tree: &VersionTree, elem: u32) -> Option<u64> {
     if elem as usize >= tree.elements() {
         return None;
@@ -119,7 +119,7 @@ fn looks_for_units(tree: &VersionTree, elem: u32) -> Option<u64> {
     Some(steps.count())
 }
 
-/// Whether each element is found, and its ranks are told, by as many looks as nodes lead to it, and all that is shown is found.
+// Whether each element is found, and its ranks are told, by as many looks as nodes lead to it, and all that is shown is found.
 fn looks_along_the_way(alloc: Global) -> Result<bool, AllocError> {
     let mut tree = empty(alloc, CALLS as usize)?;
     let mut recursive = Recursive::new(alloc);
@@ -146,7 +146,7 @@ fn look_ups_look_at_the_nodes_on_the_way_alone(rt: HostRuntime) -> Result<(), Fa
     Ok(())
 }
 
-/// Whether what the newest version shows is told by one look at each node, where nothing is hidden.
+// Whether what the newest version shows is told by one look at each node, where nothing is hidden.
 fn tells_by_one_look_each(alloc: Global) -> Result<bool, AllocError> {
     let mut tree = empty(alloc, CALLS as usize)?;
     grow(&mut tree, &mut Recursive::new(alloc), 0)?;
@@ -162,7 +162,7 @@ fn a_reading_looks_at_each_node_once(rt: HostRuntime) -> Result<(), Fail> {
     Ok(())
 }
 
-/// The last element that one passes whose key is above 6, and how many nodes are looked at.
+// The last element that one passes whose key is above 6, and how many nodes are looked at.
 fn last_above_six(tree: &VersionTree, before: Option<u32>) -> Option<(u32, u64)> {
     let mut steps = Steps::new();
     let last = match before {

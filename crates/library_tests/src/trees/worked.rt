@@ -5,7 +5,7 @@ use crate::trees::{empty, found, found_unit, hide, last_greater, lengths, mark, 
 use counted_tree::VersionTree;
 use std::test::Fail;
 
-/// Two elements, of which the first is hidden, a version like that one, and a third element between the two.
+// Two elements, of which the first is hidden, a version like that one, and a third element between the two.
 fn work(tree: &mut VersionTree) {
     put(tree, None, 7, false);
     put(tree, Some(0), 5, false);
@@ -55,7 +55,7 @@ fn worked_versions(rt: HostRuntime) -> Result<(), Fail> {
     Ok(())
 }
 
-/// The first element and the last have two units; the first is hidden in version 4.
+// The first element and the last have two units; the first is hidden in version 4.
 fn work_with_pairs(tree: &mut VersionTree) {
     put(tree, None, 1, true);
     put(tree, Some(0), 2, false);

@@ -6,6 +6,7 @@ use Rattle.opid.specs.declared.stamp.Stamp.{Stamp}
 use Rattle.causal_clock.specs.Listing.{clock_told}
 use Rattle.std.specs.Str.{chars}
 use Rattle.opid.specs.declared.kind.OpKind.TheVariants.{Ins, Del}
+use Rattle.opid.specs.declared.limits.TheConstants.{MAX_OPERATIONS}
 use Rattle.opid.specs.Clocks.{entry}
 use Rattle.opid.specs.Operations.{Operation}
 use Rattle.operation_json.specs.PackedOperations.{run_chars}
@@ -77,7 +78,7 @@ pub record ReadsInsertion (old : List Token) (x : Operation) (new : List Token) 
   pub one : only_char text ≡ Some ch
   pub kind : x.kind ≡ Ins parent ch
   pub counted : 0 < entry x.clock x.site
-  pub few : sum x.clock ≤ 131072
+  pub few : sum x.clock ≤ MAX_OPERATIONS
 
 -- of the tokens `old` this run comes first, from behind its letter on, and `new` are the rest
 pub record ReadsRun (old : List Token) (x : Operation) (more : List ℕ) (new : List Token) : Type 0 where
@@ -88,7 +89,7 @@ pub record ReadsRun (old : List Token) (x : Operation) (more : List ℕ) (new : 
   pub all : run_chars (chars text) ≡ Ok (ch, more)
   pub kind : x.kind ≡ Ins parent ch
   pub counted : 0 < entry x.clock x.site
-  pub few : sum x.clock + length more ≤ 131072
+  pub few : sum x.clock + length more ≤ MAX_OPERATIONS
 
 -- of the tokens `old` this deletion comes first, from behind its letter on, and `new` are the rest
 pub record ReadsDeletion (old : List Token) (x : Operation) (new : List Token) : Type 0 where
@@ -96,4 +97,4 @@ pub record ReadsDeletion (old : List Token) (x : Operation) (new : List Token) :
   pub told : ReadsDeleted old x.site target new
   pub kind : x.kind ≡ Del target
   pub counted : 0 < entry x.clock x.site
-  pub few : sum x.clock ≤ 131072
+  pub few : sum x.clock ≤ MAX_OPERATIONS

@@ -1,5 +1,6 @@
 -- The parts of a replica as its code has them.
 use Rattle.std.specs.Prelude.{◌≤◌, ◌-◌, ℕ, min, length}
+use Rattle.opid.specs.declared.limits.TheConstants.{MAX_HELD, MAX_OPERATIONS}
 use Rattle.versions.specs.Document as document
 use Rattle.holdback.specs.Offered as holding
 use Rattle.replica.specs.declared.settle.Tally.{Tally}
@@ -15,9 +16,9 @@ start_of log held = record { log = log.log; held = held.ops; taken = 1; dropped 
 
 -- the log has memory for so many more, as far as it may grow
 abbrev pub HasRoomFor : ℕ → document.Document → Type 0
-HasRoomFor n log = min n (131072 - length log.log) ≤ log.room
+HasRoomFor n log = min n (MAX_OPERATIONS - length log.log) ≤ log.room
 
 -- of a replica with room for so many, the log and the held list have the memory, as far as they may grow
 pub record AreReserved (room : ℕ) (log : document.Document) (held : holding.HeldOperations) : Type 0 where
   pub in_log : HasRoomFor room log
-  pub in_held : min room 1024 ≤ held.room
+  pub in_held : min room MAX_HELD ≤ held.room

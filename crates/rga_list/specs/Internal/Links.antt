@@ -2,6 +2,7 @@
 use Rattle.std.specs.Prelude.{◌≡◌, ◌≢◌, ◌<◌, ◌≤◌, ◌⊎◌, ℕ, zero, suc, true, false, Option, Some, None, List, [], ◌∷◌, ◌++◌, map, length}
 use Rattle.std.specs.Prelude.{slice_index_or, slice_set, ◌+◌}
 use Rattle.std.specs.List.{AllByRecursion}
+use Rattle.opid.specs.declared.limits.TheConstants.{MAX_OPERATIONS}
 use Rattle.opid.specs.declared.stamp.Stamp.{Stamp}
 use Rattle.opid.specs.Stamps.{is_before}
 use Rattle.rga_list.specs.Entries.{Entry}
@@ -84,7 +85,7 @@ pub record IsList (nodes : List Node) (first : Option ℕ) (rows : List SiteIds)
   pub linked : IsLinked nodes first
   pub apart : AreApart nodes
   pub are_named : AreNamed nodes rows
-  pub few : length nodes ≤ 131072
+  pub few : length nodes ≤ MAX_OPERATIONS
   pub width : length rows ≡ 32
 
 -- the place after another one, or the first (None)

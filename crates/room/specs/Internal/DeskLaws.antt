@@ -3,6 +3,7 @@ use Rattle.std.proofs.Common.{◌≡◌, ℕ, zero, suc, ◌+◌, ◌<◌, ◌�
 use Rattle.std.proofs.Common.{arith, Bool, true, false, nat_lt, append-nil}
 use Rattle.std.specs.Prelude.{if◌then◌else◌}
 use Rattle.std.proofs.lemmas.Bool.Decides.{nat_tests}
+use Rattle.opid.specs.declared.limits.TheConstants.{MAX_CALLS, MAX_OPERATIONS}
 use mathlib.Core.List.{IsPrefix}
 use Rattle.room_calls.specs.declared.call.Call.{Call}
 use Rattle.room_calls.specs.declared.reply.Reply.{Reply}
@@ -29,8 +30,8 @@ one_place t (g ∷ gs) (suc i) zero e f r p q same =
 one_place t (g ∷ gs) (suc i) (suc j) e f r p q same = ap suc (one_place (g.0 + 1) gs i j e f r.2 p q same)
 
 -- all calls of an owned room are its desk's
-pub room_sight : (room : Account) → AreRisingFrom 0 room.history → length room.history ≤ 1048576
-    → length (state_of room.opening room.history).log ≤ 131072 → IsSight (sight_of room)
+pub room_sight : (room : Account) → AreRisingFrom 0 room.history → length room.history ≤ MAX_CALLS
+    → length (state_of room.opening room.history).log ≤ MAX_OPERATIONS → IsSight (sight_of room)
 room_sight room rising limit short = record {
   short = short;
   legal = record { rising = rising; limit = limit };
@@ -43,23 +44,23 @@ prefix_same : {A : Type 0} (xs : List A) → IsPrefix xs xs
 prefix_same xs = ([], append-nil xs)
 
 -- below the limit a call is recorded
-recorded_below : (h g : List (ℕ × Call)) (n : ℕ) → n < 1048576 → (if nat_lt n 1048576 then g else h) ≡ g
-recorded_below h g n below = go (nat_lt n 1048576) refl
+recorded_below : (h g : List (ℕ × Call)) (n : ℕ) → n < MAX_CALLS → (if nat_lt n MAX_CALLS then g else h) ≡ g
+recorded_below h g n below = go (nat_lt n MAX_CALLS) refl
   where
-    go : (b : Bool) → nat_lt n 1048576 ≡ b → (if b then g else h) ≡ g
+    go : (b : Bool) → nat_lt n MAX_CALLS ≡ b → (if b then g else h) ≡ g
     go true q = refl
     go false q = absurd (grind (arith, nat_tests))
 
 -- at the limit none is
-recorded_full : (h g : List (ℕ × Call)) (n : ℕ) → n ≡ 1048576 → (if nat_lt n 1048576 then g else h) ≡ h
-recorded_full h g n at = go (nat_lt n 1048576) refl
+recorded_full : (h g : List (ℕ × Call)) (n : ℕ) → n ≡ MAX_CALLS → (if nat_lt n MAX_CALLS then g else h) ≡ h
+recorded_full h g n at = go (nat_lt n MAX_CALLS) refl
   where
-    go : (b : Bool) → nat_lt n 1048576 ≡ b → (if b then g else h) ≡ h
+    go : (b : Bool) → nat_lt n MAX_CALLS ≡ b → (if b then g else h) ≡ h
     go true q = absurd (grind (arith, nat_tests))
     go false q = refl
 
 -- a room's step is an answer as a desk gives it
-pub room_answers : (old : Account) (c : Call) (r : Reply) (new : Account) → length old.history ≤ 1048576 → StepsRoom old c r new
+pub room_answers : (old : Account) (c : Call) (r : Reply) (new : Account) → length old.history ≤ MAX_CALLS → StepsRoom old c r new
     → IsAnswered (sight_of old) c r (sight_of new)
 room_answers old c r new within did =
     let grown : List (ℕ × Call) = old.history ++ (mark old.history, c) ∷ [] in

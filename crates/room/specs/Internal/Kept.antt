@@ -1,5 +1,6 @@
 -- What holds of a room's parts.
 use Rattle.std.specs.Prelude.{◌≡◌, ◌<◌, ◌≤◌, ℕ, List, length, take}
+use Rattle.opid.specs.declared.limits.TheConstants.{MAX_CALLS, MAX_OPERATIONS}
 use Rattle.opid.specs.Lawful.{IsLawful}
 use Rattle.room_calls.specs.declared.call.Call.{Call}
 use Rattle.room.specs.Machine.{State, room_over}
@@ -21,8 +22,8 @@ pub record IsRoom (opened : ℕ) (state : State) (history : List (ℕ × Call)) 
   pub marked : next_ticket ≡ mark history
   -- its calls are counted, and are no more than are recorded
   pub counted : state.count ≡ length history
-  pub limit : state.count ≤ 1048576
+  pub limit : state.count ≤ MAX_CALLS
   -- its site is one, and its log is lawful and within its limit
   pub site : state.site < 32
   pub lawful : IsLawful state.log
-  pub short : length state.log ≤ 131072
+  pub short : length state.log ≤ MAX_OPERATIONS

@@ -1,6 +1,7 @@
 -- What a call does with the parts of a room.
 use Rattle.std.specs.Prelude.{◌≡◌, ◌≢◌, ◌⊎◌, ℕ, ◌+◌, ◌<◌, false, IsOk, Option, Some, None, Result, Ok, Err, List, ◌++◌, length}
 use Rattle.std.specs.declared.alloc.AllocError.{AllocError}
+use Rattle.opid.specs.declared.limits.TheConstants.{MAX_SESSIONS}
 use Rattle.opid.specs.declared.refusal.Refusal.{Refusal}
 use Rattle.opid.specs.declared.refusal.Refusal.TheVariants.{Memory}
 use Rattle.opid.specs.Limits.{is_bad_count}
@@ -29,7 +30,7 @@ pub record Does (replica : ReplicaState) (outbox : Outbox) (c : Call) (reply : R
 
 -- where a call that is recorded may find no memory: a join below 64 sessions, a part that is there, a put of 1 to 64 operations
 abbrev pub MayLackMemory : State → Call → Type 0
-MayLackMemory S (Join units) = length S.outbox.sessions < 64
+MayLackMemory S (Join units) = length S.outbox.sessions < MAX_SESSIONS
 MayLackMemory S (Leave s) = ⊥
 MayLackMemory S (Ops after most) = IsOk (part_of S.log after most)
 MayLackMemory S (Put ops) = is_bad_count (length ops) ≡ false

@@ -1,5 +1,6 @@
 -- That a desk over a pass keeps the laws of desks.
 use Rattle.std.proofs.Common.{◌≡◌, ◌≤◌, ap, sym, subst, length, ℕ, List}
+use Rattle.opid.specs.declared.limits.TheConstants.{MAX_OPERATIONS}
 use mathlib.Core.List.{IsPrefix}
 use Rattle.room_calls.specs.declared.call.Call.{Call}
 use Rattle.room_calls.specs.declared.reply.Reply.{Reply}
@@ -14,7 +15,7 @@ use Rattle.shared_room.specs.Turns.{Answers, FaultsPass}
 
 -- what a pass has seen, between two calls, is what a desk has
 pub pass_sight : (o : State) (v : View) → IsLegal v.seen → Owns v.mine v.seen → AreDistinct v.mine
-    → length (state_of o v.seen).log ≤ 131072 → IsSight (sight_through o v)
+    → length (state_of o v.seen).log ≤ MAX_OPERATIONS → IsSight (sight_through o v)
 pass_sight o v legal owns distinct short = record { legal = legal; owns = owns; distinct = distinct; short = short }
 
 -- a call of a pass is a desk's step

@@ -1,5 +1,6 @@
 -- What holds of a document's parts.
 use Rattle.std.specs.Prelude.{◌≡◌, ◌≤◌, ◌<◌, ◌+◌, ◌-◌, min, ℕ, Bool, List, length, map, slice_index}
+use Rattle.opid.specs.declared.limits.TheConstants.{MAX_OPERATIONS}
 use Rattle.opid.specs.Operations.{Operation}
 use Rattle.opid.specs.Delivery.{clock_of}
 use Rattle.opid.specs.Lawful.{IsLawful}
@@ -25,7 +26,7 @@ pub record AreEdits (log : List Operation) (changes : List KeptEdit) : Type 0 wh
 pub record IsDocument (log : List Operation) (changes : List KeptEdit) (tree : Versions) (clock sums : List ℕ)
     (entries : List Entry) : Type 0 where
   pub lawful : IsLawful log
-  pub few : length log ≤ 131072
+  pub few : length log ≤ MAX_OPERATIONS
   pub edited : AreEdits log changes
   pub told : TellsVersions log tree
   pub counted : clock ≡ clock_of log
@@ -35,7 +36,7 @@ pub record IsDocument (log : List Operation) (changes : List KeptEdit) (tree : V
 -- Each part has memory for so many more, up to what the limit of 131,072 versions leaves: the log's reserve, of the edits their
 -- length and capacity, the tree, and the list's reserve.
 pub record AreReserved (log_room changes_len changes_capacity : ℕ) (tree : Versions) (list_room room : ℕ) : Type 0 where
-  pub log : min room (131072 - newest tree) ≤ log_room
-  pub changes : changes_len + min room (131072 - newest tree) ≤ changes_capacity
-  pub tree_room : min room (131072 - newest tree) ≤ tree.room
-  pub list : min room (131072 - newest tree) ≤ list_room
+  pub log : min room (MAX_OPERATIONS - newest tree) ≤ log_room
+  pub changes : changes_len + min room (MAX_OPERATIONS - newest tree) ≤ changes_capacity
+  pub tree_room : min room (MAX_OPERATIONS - newest tree) ≤ tree.room
+  pub list : min room (MAX_OPERATIONS - newest tree) ≤ list_room
