@@ -14,6 +14,7 @@
  *   SHORT_READS=N         every read that isn't refused gives at most N bytes
  *   SHORT_WRITES          every write that isn't refused takes one byte
  *   TELL=FILE             a file that gets a byte for each call that is refused
+ *   COUNT=FILE            a file that gets the number of allocations at the end, where one is refused or would be
  * Reads and writes are those of descriptors 0 and 1. */
 #define _GNU_SOURCE
 #include <dlfcn.h>
@@ -57,6 +58,16 @@ static int is_refused(atomic_long *calls, const char *name, int error)
     tell();
     errno = error;
     return 1;
+}
+
+__attribute__((destructor)) static void count(void)
+{
+    const char *name = getenv("COUNT");
+    FILE *file = name ? fopen(name, "w") : NULL;
+    if (file) {
+        fprintf(file, "%ld", (long)allocations);
+        fclose(file);
+    }
 }
 
 void *malloc(size_t size)

@@ -108,3 +108,47 @@ fn rooms_have_one_order_or_none(rt: HostRuntime) -> Result<(), Fail> {
     }
     Ok(())
 }
+
+// Whether the rooms have one order of elements each time that they are asked.
+fn have_one_order_each_time(rooms: &[Room], times: u32) -> bool {
+    let mut all = true;
+    for _ in 0..times {
+        all &= one_order(rooms);
+    }
+    all
+}
+
+// Whether a text is accepted, and what is typed in another room beside it has one order with it, so often.
+fn are_ordered_each_time(alloc: Global, times: u32) -> Result<bool, Refusal> {
+    let (zero, one) = (Site::new(0)?, Site::new(1)?);
+    let (is_filled, first) = filled_room(
+        alloc,
+        &Filled {
+            site: zero,
+            typed: "a text in which one looks for the operations of others",
+            given: None,
+        },
+    );
+    let (_, second) = filled_room(
+        alloc,
+        &Filled {
+            site: one,
+            typed: "",
+            given: None,
+        },
+    );
+    Ok(is_filled && have_one_order_each_time(&[first, second], times))
+}
+
+// Of these two `tests/refused_memory` looks whether the second takes memory no more often than the first.
+#[test]
+fn rooms_are_filled(rt: HostRuntime) -> Result<(), Fail> {
+    assert!(rt; are_ordered_each_time(rt.alloc(), 0)?);
+    Ok(())
+}
+
+#[test]
+fn filled_rooms_are_compared(rt: HostRuntime) -> Result<(), Fail> {
+    assert!(rt; are_ordered_each_time(rt.alloc(), 1_000)?);
+    Ok(())
+}

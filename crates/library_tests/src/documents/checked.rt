@@ -30,6 +30,14 @@ pub(crate) fn op_at(doc: &Doc, i: u32) -> Option<Op> {
     Some(doc.op(i))
 }
 
+/// The same, as the first of those that follow.
+pub(crate) fn first_from(doc: &Doc, i: u32) -> Option<Op> {
+    if i > doc.version() {
+        return None;
+    }
+    doc.ops_from(i).next()
+}
+
 /// The edit that made the version, if there is one.
 pub(crate) fn edit_at(doc: &Doc, version: u32) -> Option<Edit> {
     if version == 0 || version > doc.version() {

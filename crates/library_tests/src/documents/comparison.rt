@@ -90,7 +90,7 @@ fn fill(alloc: Global, doc: &mut Doc, plain: &mut Plain, dice: &mut Dice) -> Res
 }
 
 // Fills the document.
-fn fill_alone(alloc: Global, doc: &mut Doc) -> Result<(), Refusal> {
+pub(crate) fn fill_alone(alloc: Global, doc: &mut Doc) -> Result<(), Refusal> {
     fill(alloc, doc, &mut Plain::new(alloc), &mut Dice::new(1))
 }
 
