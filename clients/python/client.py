@@ -2,16 +2,18 @@
 """A session with an rgatext room, for authors of editors: Python 3 and its standard library.
 
 A `Session` speaks through a function `ask`, which sends one request, an object of docs/PROTOCOL.md, and gives the reply
-to it; it raises `Lost` where no answer came, whether or not the request arrived. `Pipe` is such a function over
-`rgatext lines`, and `Socket` one over `rgatext serve`, by the library `websockets`. Run as a program, the file types what
-it reads into a new room and prints the room's text.
+to it; it raises `Lost` where no answer came, whether or not the request arrived. Where it has a method `all`, that sends some
+requests at one time, and gives their replies. `Pipe` is such a function over `rgatext lines`, and `Socket` one over
+`rgatext serve`, by the library `websockets`. Run as a program, the file types what it reads into a new room and prints the
+room's text.
 """
 import json
 import subprocess
 import sys
 import time
 
-from past import MOST, PENDING, Deletion, Insertion, Past, is_of_run, operations, play, shown, written
+from log import MOST, Log, Reading, is_of_run, operations
+from past import PENDING, Deletion, Insertion, Past, play
 
 FULL = 131_072  # operations of a room
 LONGEST = 5  # seconds between two tries, at most
@@ -55,6 +57,9 @@ class Pipe:
             raise Lost
         return json.loads(line)
 
+    def all(self, requests):
+        return [self(it) for it in requests]
+
     def close(self):
         self.child.stdin.close()
         self.child.stdout.close()
@@ -73,21 +78,22 @@ class Socket:
         self.gone = (OSError, asyncio.TimeoutError, websockets.WebSocketException)
         self.address, self.room, self.line, self.lines = address, room, None, 0
 
-    async def told(self, request):
-        await self.line.send(spelled(request))
-        return json.loads(await self.line.recv())
+    async def told(self, requests):
+        for it in requests:
+            await self.line.send(spelled(it))
+        return [json.loads(await self.line.recv()) for _ in requests]
 
-    async def answer(self, request):
+    async def answers(self, requests):
         if self.line is None:
             self.line = await self.connect(self.address, max_size=None, ping_interval=None)
-            reply = await self.told({"t": "open", "room": self.room})
+            (reply,) = await self.told([{"t": "open", "room": self.room}])
             if reply["r"] == "no":
                 await self.ended()
                 raise Refused(reply["n"])
-        reply = await self.told(request)
-        if reply.get("n") == 25:  # this line's calls are used up: the next request connects again
+        replies = await self.told(requests)
+        if any(it.get("n") == 25 for it in replies):  # this line's calls are used up: the next request connects again
             await self.ended()
-        return reply
+        return replies
 
     async def ended(self, is_lost=False):
         """Ends the line, and waits until the library has done with it."""
@@ -97,8 +103,12 @@ class Socket:
         await line.close()
 
     def __call__(self, request):
+        (reply,) = self.all([request])
+        return reply
+
+    def all(self, requests):
         try:
-            return self.run(self.wait(self.answer(request), 60))
+            return self.run(self.wait(self.answers(requests), 60))
         except self.gone:
             if self.line:
                 self.run(self.ended(is_lost=True))
@@ -161,19 +171,33 @@ class Session:
                 return reply
         raise Lost
 
-    def _answer(self, request):
-        """The reply, where it isn't refused, to a request that may be sent again: nothing is carried out twice."""
+    def _ask_all(self, requests):
+        """The replies to requests, each as it comes, asked for again as `_ask` does. They are sent at one time where the line can do so."""
+        replies = self.ask.all(requests) if hasattr(self.ask, "all") else map(self.ask, requests)
+        for request, reply in zip(requests, replies):
+            yield self._ask(request) if reply.get("n") in (13, 25, 26) else reply
+
+    def _answers(self, requests):
+        """The replies, where none is refused, to requests that may be sent again: nothing is carried out twice."""
+        replies = []
         for _ in self._pauses():
             try:
                 if self.lines != getattr(self.ask, "lines", 0):
                     self._find_out()
-                reply = self._ask(request)
+                for it in self._ask_all(requests):
+                    if it["r"] == "no":
+                        self._refuse(it["n"])
+                    replies.append(it)
             except Lost:
-                continue
-            if reply["r"] == "no":
-                self._refuse(reply["n"])
-            return reply
+                if not replies:
+                    continue
+            rest = requests[len(replies) :]
+            return replies + (self._answers(rest) if rest else [])
         raise Lost
+
+    def _answer(self, request):
+        (reply,) = self._answers([request])
+        return reply
 
     @staticmethod
     def _refuse(number):
@@ -182,7 +206,7 @@ class Session:
     def _goes_on(self):
         """Whether the log goes on from the last that is known here."""
         last = self.past.log[-MOST:]
-        return operations(self._ask, self.version - len(last), self.version) == last
+        return operations(self._ask_all, self.version - len(last), self.version) == last
 
     def _find_out(self):
         """On another line: whether the server is in the same run, where the last accepted submission has the answer that it had and the
@@ -194,7 +218,7 @@ class Session:
         if reply.get("n") == 7:
             reply = again(self.number + 1)
             if is_same := reply["r"] == "ok" and self._is_unanswered() and self.version <= reply["from"]:
-                log = operations(self._ask, reply["from"], reply["to"])
+                log = operations(self._ask_all, reply["from"], reply["to"])
                 count = self.under_way.get("c") or len(self.under_way["x"])  # (a part is another's, in another run)
                 is_same = self.past.came_at(log, 0, self.under_way) == count == reply["to"] - reply["from"]
             if self.number == 0 and reply.get("n") in (8, 10) and self._goes_on():
@@ -215,48 +239,42 @@ class Session:
         """Joins, also another run of the server, and says whether its log goes on from what was pulled here: then what is waiting is
         submitted there. Else `missing` has what that run lacks of one's own, which `put_missing` submits, and `before` is the text of
         before. Where it raises call it again."""
-        log = []
+        reading = Reading(self._ask_all, self.past.start, self.past.log)
         for _ in self._pauses():
             try:
                 if self.session is not None and self.lines == getattr(self.ask, "lines", 0):
                     self._ask({"t": "leave", "s": self.session})  # on one line the run is the same
                 if self.session is not None:
-                    self._read_on(log)  # (a line that is lost behind `join` leaves a session in the room)
+                    room = self._ask({"t": "read"})
+                    log = reading.to(room["v"], room["x"])  # (a line that is lost behind `join` leaves a session in the room)
                 joined = self._ask({"t": "join"})
                 if joined["r"] == "no":
                     raise Refused(joined["n"])
                 if self.session is None:
-                    log = operations(self._ask, max(0, joined["v"] - MOST), joined["v"])
+                    log = operations(self._ask_all, max(0, joined["v"] - MOST), joined["v"])
                     self.past = Past(joined["v"], joined["x"], log)
                     return self._begin(joined)
-                log += operations(self._ask, len(log), joined["v"])
-                kept, begin = self._kept(log)
+                if more := operations(self._ask_all, len(log), joined["v"]):
+                    log = Log(log + more)
+                kept = self._kept(log)
             except Lost:
                 continue
-            return self._go_on(joined, log, kept, begin)
+            return self._go_on(joined, log, *kept)
         raise Lost
 
-    def _read_on(self, log):
-        """Reads the room's log to its end, behind what was read of it before."""
-        if log and operations(self._ask, len(log) - 1, len(log)) != log[-1:]:
-            log.clear()  # another run has another one
-        while more := operations(self._ask, len(log), len(log) + MOST):
-            log += more
-
     def _kept(self, log):
-        """Up to which version of those that are remembered another log has what was done, and its own version with that text, where it has
-        one. Nothing where it is of a later version."""
+        """Up to which version another log is the one that is known here, if any; up to which of those that are remembered it has what was
+        done, and its own version with that text, where it has one. Nothing where it is of a later version."""
         common = self.past.in_common(log)
-        if common is not None:
-            return (common, common) if common >= self.past.version else (self.past.version, None)  # all that is remembered was lost
-        text = written(log)
-        kept = self.past.version_of(text)
+        if common is not None:  # all that is remembered may be lost
+            return (common, common, common) if common >= self.past.version else (common, self.past.version, None)
+        kept = self.past.version_of(log.written)
         if kept is not None:
-            return kept, len(text)
-        return self.past.version if not log or is_of_run(self._ask, log[0].stamp[1], log) else None, None
+            return None, kept, len(log.written)
+        return None, self.past.version if not log or is_of_run(self._ask, log[0].stamp[1], log) else None, None
 
-    def _go_on(self, joined, log, kept, begin):
-        goes_on, self.before = begin == self.version == self.past.in_common(log), list(self.text)
+    def _go_on(self, joined, log, common, kept, begin):
+        goes_on, self.before = begin == self.version == common, list(self.text)
         if goes_on and self.under_way:
             self._play_own(log)
         played = list(self.played)
@@ -266,7 +284,7 @@ class Session:
                 self.past.step(PENDING, self.waiting[0].edit(), True)
                 self._play(self.waiting[0].edit(), True)
             self.waiting.pop(0)
-        edits, lost = self.past.move(log, list(joined["x"]), kept, begin)
+        edits, lost = self.past.move(log, list(joined["x"]), common, kept, begin)
         self._begin(joined)
         self.waiting, self.missing = (lost, []) if goes_on else ([], lost)
         self.played = played + edits
@@ -275,7 +293,7 @@ class Session:
     def _play_own(self, log):
         """Plays what a log that goes on from here has of what is under way."""
         places = range(self.version, len(log)) if self._is_unanswered() else [self.came]
-        before = shown(log, self.version)
+        before = log.shown(self.version)
         at, count = next(((it, count) for it in places if (count := self.past.came_at(log, it, self.under_way, before))), (0, 0))
         for n in range(count):
             k = self.under_way["k"]
@@ -309,7 +327,7 @@ class Session:
         return self._given()
 
     def _play_all(self, edits):
-        for edit, operation in zip(edits, operations(self._answer, self.version, self.version + len(edits))):
+        for edit, operation in zip(edits, operations(self._answers, self.version, self.version + len(edits))):
             is_own = self.came <= self.version < self.reached
             self._play(edit, is_own)
             self.past.note(edit, is_own, operation)

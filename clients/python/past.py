@@ -4,90 +4,14 @@ import bisect
 import collections
 import difflib
 
-MOST = 64  # characters of a submission, edits of a pull, operations of a reply
+from log import MOST
+
 REMEMBERED = 8_192  # edits, at least
 PENDING = 1 << 32  # a version above all others
 PIECE = 16  # characters that two don't put in at one time
 COMPARED = 100_000  # pairs of characters, where two texts differ, that are looked at one by one, at most
 
-Operation = collections.namedtuple("Operation", "stamp char place")  # no character where it deletes; the stamp that it stands behind or deletes
 Step = collections.namedtuple("Step", "version edit is_own stamp")  # the version that an edit led to; its operation's stamp, where that is known
-
-
-def unfolded(objects):
-    """The operations that a reply to `ops` tells, one for each character."""
-    operations = []
-    for it in objects:
-        total, place = sum(count for _, count in it["c"]), it["t"] if it["k"] == "d" else it["p"]
-        for at, char in enumerate(it.get("x", [None])):
-            operations.append(Operation((total + at, it["s"]), char, place and tuple(place)))
-            place = operations[-1].stamp
-    return operations
-
-
-def operations(ask, first, end):
-    """A log's operations from a number on up to another, or where it ends."""
-    told = []
-    while (count := min(MOST, end - first - len(told))) > 0:
-        more = unfolded(ask({"t": "ops", "after": first + len(told), "max": count}).get("ops", []))  # none at 23: it is shorter
-        told += more
-        if len(more) < count:
-            break
-    return told
-
-
-def written(log):
-    """The text as a renewed room's log begins with it: what one site put in, each character behind the one before."""
-    text, site = [], log[0].stamp[1] if log else None
-    for it in log:
-        if it.stamp != (len(text) + 1, site) or it.char is None or it.place != ((len(text), site) if text else None):
-            break
-        text.append(it.char)
-    return text
-
-
-def in_order(log):
-    """The stamps that a log puts in, in the order of its text: what was put in right behind one comes the greatest stamp first, each with what
-    is behind it."""
-    behind = collections.defaultdict(list)
-    for it in sorted(log, key=lambda it: it.stamp):
-        if it.char is not None:
-            behind[it.place].append(it.stamp)
-    order, waiting = [], list(behind[None])
-    while waiting:
-        order.append(waiting.pop())
-        waiting += behind[order[-1]]
-    return order
-
-
-def shown(log, version):
-    """The stamps of a version's text."""
-    there = {it.stamp for it in log[:version] if it.char is not None} - {it.place for it in log[:version] if it.char is None}
-    return [it for it in in_order(log[:version]) if it in there]
-
-
-def edits_of(log, version):
-    """What the operations behind a version do to its text."""
-    rank = {stamp: at for at, stamp in enumerate(in_order(log))}
-    text = [rank[it] for it in shown(log, version)]
-    for it in log[version:]:
-        own = rank[it.place if it.char is None else it.stamp]
-        at = bisect.bisect_left(text, own)
-        if it.char is not None:
-            text.insert(at, own)
-            yield ["i", at, it.char]
-        elif text[at : at + 1] == [own]:
-            del text[at]
-            yield ["d", at]
-        else:
-            yield ["n"]
-
-
-def is_of_run(ask, site, log):
-    """Whether a site is that of the server's run: a room of another one refuses this deletion since what it deletes isn't there."""
-    sequence = 1 + sum(it.stamp[1] == site for it in log)
-    deletion = {"c": [[site, sequence]], "k": "d", "s": site, "t": [sequence, site]}
-    return ask({"t": "put", "ops": [deletion]})["os"][0] in (["no", 16], ["no", 17])
 
 
 def play(text, edits):
@@ -160,6 +84,8 @@ class Deletion:
 class Element:
     """A character of the text, or one that was there and is gone."""
 
+    __slots__ = "char put is_own stamp gone is_gone_here next place".split()
+
     def __init__(self, char, put=0, is_own=False, stamp=None):
         self.char, self.put, self.is_own, self.stamp = char, put, is_own, stamp
         self.gone, self.is_gone_here = None, False  # the version at which it was deleted, and whether by oneself
@@ -172,23 +98,28 @@ class Element:
 
 
 class Past:
-    """`version` and `text` are those of some time ago, `steps` lead on from there; `log` has the operations from number `first` on, up to
-    the version of now."""
+    """`version` and `text` are those of some time ago, `steps` lead on from there; `log` has the operations from number `start` on, up to
+    the version of now: from number `first` on another run's are compared with them."""
 
     def __init__(self, version, text, log):
         self.version, self.text, self.steps = version, list(text), []
-        self.first, self.log = version - len(log), log
+        self.start, self.log = version - len(log), list(log)
+        self.first = max(self.start, version - MOST)
+
+    @property
+    def end(self):
+        """The version of now."""
+        return self.start + len(self.log)
 
     def note(self, edit, is_own, operation):
         """The text's next edit, and its operation."""
         self.log.append(operation)
-        self.step(self.first + len(self.log), edit, is_own, operation.stamp)
+        self.step(self.end, edit, is_own, operation.stamp)
         if len(self.steps) > 2 * REMEMBERED:
             old, self.steps = self.steps[:REMEMBERED], self.steps[REMEMBERED:]
             play(self.text, [it.edit for it in old])
             self.version = old[-1].version
-            forgotten = max(0, self.version - MOST - self.first)
-            self.first, self.log = self.first + forgotten, self.log[forgotten:]
+            self.first = max(self.first, self.version - MOST)
 
     def elements(self):
         """All in their order, those that are gone too, and those of the text of now."""
@@ -214,14 +145,15 @@ class Past:
 
     def in_common(self, log):
         """Up to which version a log is the one that is known here; nothing where it isn't, or begins as that of a renewed room does."""
-        there = log[self.first : self.first + len(self.log)]
-        count = next((at for at, (one, other) in enumerate(zip(there, self.log)) if one != other), len(there))
-        sites = {it.stamp[1] for it in self.log[:count]}
+        here, there = self.log[self.first - self.start :], log[self.first : self.end]
+        count, common = (found := alike_until(here, there)), self.first + found
+        if count == 0 and here:
+            return None
+        sites = {it.stamp[1] for it in here[:count]}
         is_renewed = any(sites == {it.stamp[1]} == {log[0].stamp[1]} for it in there[count : count + 1])  # its text goes on otherwise
-        common, text = self.first + count, written(log)
-        if count < len(self.log) and common <= len(text):  # it may begin as the one of before
-            is_renewed = is_renewed or self.is_own_in(text, common)
-        return None if is_renewed or (count == 0 and self.log) else common
+        if count < len(here) and common <= len(log.written):  # it may begin as the one of before
+            is_renewed = is_renewed or self.is_own_in(log.written, common)
+        return None if is_renewed else common
 
     def is_own_in(self, text, version):
         """Whether a text has most of what oneself put in behind a version."""
@@ -259,18 +191,16 @@ class Past:
                 found = it.version
         return found
 
-    def move(self, log, text, kept, begin):
-        """Goes over to another run's log and text. What was done up to version `kept` it has, where that is known, and the same text at its
-        own version `begin`, where it has that. Gives the edits that lead there from the text of now, without what is pending, and what is
-        lacking there of one's own, with it."""
+    def move(self, log, text, common, kept, begin):
+        """Goes over to another run's log and text, which is the one that is known here up to version `common`. What was done up to version
+        `kept` it has, where that is known, and the same text at its own version `begin`, where it has that. Gives the edits that lead there
+        from the text of now, without what is pending, and what is lacking there of one's own, with it."""
         order, _ = self.elements()
-        common = self.in_common(log)
-        goes_on = common == self.first + len(self.log)
+        goes_on = common == self.end
         until = len(log) if goes_on else kept
         if kept is None:
-            first = written(log)  # what came behind it the log tells
             now = [it for it in order if it.is_at(PENDING - 1)]
-            set_places(now, first)
+            set_places(now, log.written)  # what came behind it the log tells
             sure = last_in_a_piece(now, self.version)
             own = [it.place is not None for it in now if it.is_own and it.put > sure]
             if 2 * sum(own) < len(own):
@@ -278,47 +208,40 @@ class Past:
                 for it in order:
                     it.place = None
             else:
-                set_pending(order, first)
+                set_pending(order, log.written)
         there = [] if until is None else [it for it in order if it.is_at(until)]
         if kept is None:
-            set_places(there, first)
+            set_places(there, log.written)
             carry_places(order, log)
         elif begin is None:
             set_places(there, text)
         else:
-            for it, stamp in zip([it for it in order if it.is_at(kept)], shown(log, begin)):
+            for it, stamp in zip([it for it in order if it.is_at(kept)], log.shown(begin)):
                 it.stamp = stamp
-            places = places_of(log)
             for it in there:
-                it.place = places.get(it.stamp)
+                it.place = log.places.get(it.stamp)
         lost = lacking(order, PENDING - 1 if until is None else until)
         edits = edits_to([it for it in order if it.is_at(PENDING - 1)], text)
         if common is None or begin is None:
-            self.__init__(len(log), text, log[-MOST:])
+            self.__init__(len(log), text, log)
         else:
             own = {it.stamp for it in self.steps if it.is_own and it.version > common} if goes_on else set()
-            self.steps, self.log = [it for it in self.steps if it.version <= common], log[self.first :]
-            for at, edit in enumerate(edits_of(log, common), common):
+            self.steps, self.start, self.log = [it for it in self.steps if it.version <= common], 0, list(log)
+            for at, edit in enumerate(log.edits(common), common):
                 self.step(at + 1, edit, log[at].stamp in own, log[at].stamp)
         return edits, lost
 
 
 def set_places(elements, text):
-    for at, place in in_common([it.char for it in elements], text):
+    for at, place in in_common("".join(it.char for it in elements), "".join(text)):
         elements[at].place = place
-
-
-def places_of(log):
-    """Where each stamp of a log's text stands."""
-    return {stamp: at for at, stamp in enumerate(shown(log, len(log)))}
 
 
 def carry_places(elements, log):
     """Takes places in the text that a renewed room's log begins with over to its text of now. What was deleted between is gone."""
-    places = places_of(log)
     for it in elements:
         if it.place is not None:
-            it.place = places.get(log[it.place].stamp)
+            it.place = log.places.get(log[it.place].stamp)
             it.gone = PENDING if it.place is None and it.gone is None else it.gone
 
 
@@ -330,7 +253,8 @@ def set_pending(order, text):
             pending += [it] * (it.put == PENDING)
             continue
         end = it.place if it else len(text)
-        set_places(pending, text[start:end])
+        if pending:
+            set_places(pending, text[start:end])
         for one in pending:
             one.place = None if one.place is None else start + one.place
         pending, start = [], end + 1
@@ -364,12 +288,23 @@ def lacking(order, version):
     return lost + [Deletion(back)] * bool(back)
 
 
+def alike_until(one, other):
+    """How many elements with which two lists or texts begin are the same. Halves are compared, and not each by itself."""
+    start, end = 0, min(len(one), len(other))
+    while start < end:
+        middle = (start + end + 1) // 2
+        if one[start:middle] == other[start:middle]:
+            start = middle
+        else:
+            end = middle - 1
+    return start
+
+
 def in_common(one, other, width=32):
     """The pairs of places of what two texts have in common: at their beginnings and ends, and between round each part of some characters
     that is once in both; parts of fewer and fewer characters are looked for."""
-    least = min(len(one), len(other))
-    start = next((at for at in range(least) if one[at] != other[at]), least)
-    end = next((at for at in range(least - start) if one[-1 - at] != other[-1 - at]), least - start)
+    start = alike_until(one, other)
+    end = alike_until(one[start:][::-1], other[start:][::-1])
     pairs = [(at, at) for at in range(start)] + [(len(one) - at, len(other) - at) for at in range(end, 0, -1)]
     texts = one[start : len(one) - end], other[start : len(other) - end]
     if not all(texts):
@@ -382,7 +317,9 @@ def in_common(one, other, width=32):
     else:
         inner, before = [], (0, 0)
         for at, to in [*alike(*texts, width), tuple(map(len, texts))]:
-            inner += ((before[0] + a, before[1] + b) for a, b in in_common(texts[0][before[0] : at], texts[1][before[1] : to], width // 2))
+            parts = texts[0][before[0] : at], texts[1][before[1] : to]
+            found = enumerate(range(len(parts[0]))) if parts[0] == parts[1] else in_common(*parts, width // 2)
+            inner += [(before[0] + a, before[1] + b) for a, b in found]
             before = at, to
     return pairs[:start] + [(start + at, start + to) for at, to in inner] + pairs[start:]
 
@@ -393,7 +330,7 @@ def alike(one, other, width):
     for text in (one, other):
         once = {}
         for at in range(len(text) - width + 1):
-            part = tuple(text[at : at + width])
+            part = text[at : at + width]
             once[part] = None if part in once else at
         places.append(once)
     pairs = sorted((at, places[1][part]) for part, at in places[0].items() if at is not None and places[1].get(part) is not None)

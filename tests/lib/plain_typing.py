@@ -23,13 +23,19 @@ class Line:
         self.port, self.socket, self.lines = port, None, 0
 
     def __call__(self, request):
+        (reply,) = self.all([request])
+        return reply
+
+    def all(self, requests):
         try:
             if self.socket is None:
                 self.socket = WebSocket(self.port)
                 self.socket.line.settimeout(SILENT)
                 self.socket.shake()
                 self.socket.ask('{"t":"open","room":"notes"}')
-            return json.loads(self.socket.ask(json.dumps(request)) or "")
+            for it in requests:
+                self.socket.send(json.dumps(it))
+            return [json.loads((self.socket.receive() or ["", ""])[1]) for _ in requests]
         except (OSError, EOFError, ValueError):
             if self.socket:
                 self.socket.line.close()

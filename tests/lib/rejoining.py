@@ -1,6 +1,6 @@
 """Plays the cases of clients/vectors/rejoining.json with clients/python/client.py and the program, for tests/try_client."""
 from client import FULL, JoinAnew, Lost, Pipe, Session
-from past import MOST, operations
+from log import MOST, operations
 
 
 def whole(text):
@@ -60,13 +60,13 @@ class Player:
         before = self.room
         if run in ("renewed", "anew"):
             text = before({"t": "read"})["x"]
-            self.room = self.run_at(free_site(operations(before, 0, FULL)) if run == "anew" else 0)
+            self.room = self.run_at(free_site(operations(before.all, 0, FULL)) if run == "anew" else 0)
             self.writes(text)
             before.close()
             before, kept = self.room, len(text)
         else:
             kept = run["kept"]
-        self.room = self.run_at(free_site(operations(before, 0, kept)))
+        self.room = self.run_at(free_site(operations(before.all, 0, kept)))
         for after in range(0, kept, MOST):
             self.room({"t": "put", "ops": before({"t": "ops", "after": after, "max": min(MOST, kept - after)})["ops"]})
         before.close()
