@@ -274,32 +274,32 @@ class Session:
         return None, self.past.version if not log or is_of_run(self._ask, log[0].stamp[1], log) else None, None
 
     def _go_on(self, joined, log, common, kept, begin):
-        goes_on, self.before = begin == self.version == common, list(self.text)
-        if goes_on and self.under_way:
-            self._play_own(log)
+        self.before, self.waiting, self.missing = list(self.text), self.waiting + self.missing, []
+        if begin == self.version == common:
+            self._play_log(log)
+            self._begin(joined)
+            return True
         played = list(self.played)
-        self.waiting, self.missing = self.waiting + self.missing, []
         while self.waiting:
             for _ in range(len(self.waiting[0])):
                 self.past.step(PENDING, self.waiting[0].edit(), True)
                 self._play(self.waiting[0].edit(), True)
             self.waiting.pop(0)
-        edits, lost = self.past.move(log, list(joined["x"]), common, kept, begin)
+        edits, self.missing = self.past.move(log, list(joined["x"]), common, kept, begin)
         self._begin(joined)
-        self.waiting, self.missing = (lost, []) if goes_on else ([], lost)
         self.played = played + edits
-        return goes_on
+        return False
 
-    def _play_own(self, log):
-        """Plays what a log that goes on from here has of what is under way."""
-        places = range(self.version, len(log)) if self._is_unanswered() else [self.came]
-        before = log.shown(self.version)
-        at, count = next(((it, count) for it in places if (count := self.past.came_at(log, it, self.under_way, before))), (0, 0))
-        for n in range(count):
-            k = self.under_way["k"]
-            edit = ["i", k + n, self.under_way["x"][n]] if self.under_way["t"] == "ins" else ["d", k]
-            self._play(edit, True)
-            self.past.step(at + n + 1, edit, True, log[at + n].stamp)
+    def _play_log(self, log):
+        """Plays what a log that goes on from here has, and what of it is under way as one's own."""
+        if self.under_way:
+            places = range(self.version, len(log)) if self._is_unanswered() else [self.came]
+            before = log.shown(self.version)
+            came = ((it, it + self.past.came_at(log, it, self.under_way, before)) for it in places)
+            self.came, self.reached = next((it for it in came if it[0] < it[1]), (0, 0))
+        self.past.know(log)
+        self._play_all(log.edits(self.version), log[self.version :])
+        self.waiting = [it for it in self.waiting if len(it)]
 
     def leave(self):
         """Ends the session, where it is there and the run of the server is the same."""
@@ -323,15 +323,18 @@ class Session:
         one's own it plays none."""
         if reply["r"] != "edits" or reply["from"] != self.version or self.under_way:
             return []
-        self._play_all(reply["es"])
+        self._play_pulled(reply["es"])
         return self._given()
 
-    def _play_all(self, edits):
-        for edit, operation in zip(edits, operations(self._answers, self.version, self.version + len(edits))):
+    def _play_all(self, edits, operations):
+        for edit, operation in zip(edits, operations):
             is_own = self.came <= self.version < self.reached
             self._play(edit, is_own)
             self.past.note(edit, is_own, operation)
             self.version += 1
+
+    def _play_pulled(self, edits):
+        self._play_all(edits, operations(self._answers, self.version, self.version + len(edits)))
         if not self._is_unanswered():
             self.under_way = None
             self.waiting = [it for it in self.waiting if len(it)]
@@ -346,7 +349,7 @@ class Session:
             more = self._answer({"t": "pull", "s": self.session, "have": self.version + len(edits), "max": MOST})["es"]
             edits += more
             if len(more) < MOST:
-                return self._play_all(edits)
+                return self._play_pulled(edits)
 
     def pull(self):
         """Submits what is waiting, as long as the room takes it, and brings the text up to the newest version. Gives the edits since

@@ -121,6 +121,10 @@ class Past:
             self.version = old[-1].version
             self.first = max(self.first, self.version - MOST)
 
+    def know(self, log):
+        """Takes the whole log, which goes on from here."""
+        self.start, self.log = 0, log[: self.end]
+
     def elements(self):
         """All in their order, those that are gone too, and those of the text of now."""
         start = last = Element("")
@@ -196,8 +200,7 @@ class Past:
         `kept` it has, where that is known, and the same text at its own version `begin`, where it has that. Gives the edits that lead there
         from the text of now, without what is pending, and what is lacking there of one's own, with it."""
         order, _ = self.elements()
-        goes_on = common == self.end
-        until = len(log) if goes_on else kept
+        until = kept
         if kept is None:
             now = [it for it in order if it.is_at(PENDING - 1)]
             set_places(now, log.written)  # what came behind it the log tells
@@ -225,10 +228,9 @@ class Past:
         if common is None or begin is None:
             self.__init__(len(log), text, log)
         else:
-            own = {it.stamp for it in self.steps if it.is_own and it.version > common} if goes_on else set()
             self.steps, self.start, self.log = [it for it in self.steps if it.version <= common], 0, list(log)
             for at, edit in enumerate(log.edits(common), common):
-                self.step(at + 1, edit, log[at].stamp in own, log[at].stamp)
+                self.step(at + 1, edit, stamp=log[at].stamp)
         return edits, lost
 
 
