@@ -16,7 +16,7 @@ from log import MOST, Log, Reading, is_of_run, operations
 from past import PENDING, Deletion, Insertion, Past, play
 
 FULL = 131_072  # operations of a room
-LONGEST = 5  # seconds between two tries, at most
+LONGEST = 1  # seconds between two tries, at most
 
 
 class Lost(Exception):
@@ -134,7 +134,7 @@ def carried(place, edits):
 class Session:
     """A session: the text and the version that it has, the number of its last accepted submission, and what is to be submitted."""
 
-    def __init__(self, ask, tries=20, pause=0.01):
+    def __init__(self, ask, tries=60, pause=0.01):
         self.ask = ask
         self.tries = tries  # how often a request is sent whose answer is lost
         self.pause = pause  # seconds before a request is sent again, at first; then each time twice as long
