@@ -318,7 +318,10 @@ def in_common(one, other, width=32):
         inner = []
     else:
         inner, before = [], (0, 0)
-        for at, to in [*alike(*texts, width), tuple(map(len, texts))]:
+        marks = [*alike(*texts, width), tuple(map(len, texts))]
+        for last, (at, to), following in zip([None, *marks], marks, [*marks[1:], None]):
+            if last == (at - 1, to - 1) and following == (at + 1, to + 1):
+                continue  # within a row
             parts = texts[0][before[0] : at], texts[1][before[1] : to]
             found = enumerate(range(len(parts[0]))) if parts[0] == parts[1] else in_common(*parts, width // 2)
             inner += [(before[0] + a, before[1] + b) for a, b in found]
@@ -336,6 +339,8 @@ def alike(one, other, width):
             once[part] = None if part in once else at
         places.append(once)
     pairs = sorted((at, places[1][part]) for part, at in places[0].items() if at is not None and places[1].get(part) is not None)
+    if all(one[1] < other[1] for one, other in zip(pairs, pairs[1:])):
+        return pairs
     ends, heads, before = [], [], {}  # the least place in `other` by which so many pairs may end, and those pairs
     for at, to in pairs:
         count = bisect.bisect_left(ends, to)
