@@ -61,7 +61,9 @@ export class Document {
   constructor(text = "", version = 0, last = []) {
     if (text !== "") this.#pieces.list.push(new Piece(text, "room"));
     this.version = version;
-    this.memory = new Memory(version, last);
+    this.memory = new Memory(version, last, new Int32Array(text.length));
+    /** How many units were there at first: whether the clients of who put them in are there still isn't known. */
+    this.inherited = text.length;
     /**
      * What the log has of the first submission that was accepted in the server's run, and from which version on.
      * @type {{from: number, known: Known[]} | null}
@@ -294,7 +296,7 @@ export class Document {
       if (isPut) this.#pieces.comes(piece);
       else list.splice(index--, 1);
       this.#remember(from, [...piece.text].map((sign) => (isPut ? sign : "")), true, [
-        isPut ? { at, taken: [], put: piece.text } : { at, taken: [remembered(piece)], put: "" },
+        isPut ? { at, taken: [], put: piece.text.length } : { at, taken: [remembered(piece)], put: 0 },
       ]);
       from += characters(piece.text);
     }
@@ -321,16 +323,17 @@ export class Document {
     let put = 0; // so many edits were put in with those before
     for (const [index, edit] of edits.entries()) {
       const isOwn = this.#isOwn(this.version);
-      const way = { at: edit[1] ?? 0, taken: NONE, put: "" };
+      const way = { at: edit[1] ?? 0, taken: NONE, put: 0 };
+      const sign = edit[0] === "i" ? edit[2] : "";
       if (edit[0] === "i") {
-        way.put = edit[2];
+        way.put = sign.length;
         if (isOwn) this.#pieces.settle(edit[1], edit[2], changes);
         else if (put > 0) put -= 1;
         else put = this.#putRun(edits, index, changes);
       } else if (edit[0] === "d") {
         way.taken = this.#pieces.take(edit[1], edit[2], changes).map(remembered);
       }
-      this.#remember(this.version, [way.put], isOwn, [way]);
+      this.#remember(this.version, [sign], isOwn, [way]);
       this.version += 1;
       if (isOwn && this.version === this.#sent.to) this.#sent = null;
     }
@@ -359,15 +362,15 @@ export class Document {
 
   /**
    * The room has another text by now, of a version whose way from this one isn't known: what both have in common stays. `isLost`: what it
-   * lacks it lost.
+   * lacks it lost, so what was put in here of that is new again.
    */
   follow({ roomText, version, memory }, isLost = false) {
     const changes = [];
     const ways = [];
+    const own = isLost ? this.memory.own : null;
     for (const { at, removed, text } of differences(this.roomText, roomText)) {
-      const pieces = this.#pieces.rooms(at, removed);
-      ways.push({ at, taken: pieces.map(remembered), put: text });
-      if (isLost) for (const piece of pieces) this.#pieces.lose(piece, changes);
+      ways.push({ at, taken: this.#pieces.rooms(at, removed).map(remembered), put: text.length });
+      if (isLost) this.#lose(at, removed, own, changes);
       else this.#pieces.take(at, removed, changes);
       if (text !== "") this.#pieces.put(at, text, changes);
     }
@@ -398,9 +401,17 @@ export class Document {
     return changes;
   }
 
+  /** The room lost so many units from a place on, of which some were put in here. */
+  #lose(at, units, own, changes) {
+    for (let [start, end] = [at + units, at + units]; end > at; end = start) {
+      while (start > at && own[start - 1] === own[end - 1]) start -= 1;
+      this.#undo({ at: start, taken: NONE, put: end - start }, own[start] === 1, changes);
+    }
+  }
+
   #undo({ at, taken, put }, isOwn, changes) {
     const { list } = this.#pieces;
-    for (const piece of this.#pieces.rooms(at, put.length)) {
+    for (const piece of this.#pieces.rooms(at, put)) {
       const index = list.indexOf(piece);
       if (isOwn && piece.isShown) {
         piece.owner = "new";
@@ -417,6 +428,6 @@ export class Document {
   /** The room has the text with another log, of which so many operations make it. */
   renew(version, last) {
     this.version = version;
-    this.memory = new Memory(version, last);
+    this.memory = this.memory.renewed(version, last);
   }
 }

@@ -28,6 +28,14 @@ export class Gap {
     return this.#numbers.length - (this.#end - this.#start);
   }
 
+  /** All of the list, as numbers of their own. */
+  get all() {
+    const all = new Int32Array(this.length);
+    all.set(this.#numbers.subarray(0, this.#start));
+    all.set(this.#numbers.subarray(this.#end), this.#start);
+    return all;
+  }
+
   /** Whether these are all of the list. */
   is(numbers) {
     if (numbers.length !== this.length) return false;

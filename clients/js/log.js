@@ -147,7 +147,7 @@ export class Log {
       }
       const last = memory.last(kept);
       if (kept === 0 || (last.length > 0 && (await this.#isAt(kept - last.length, last)))) break;
-      if (kept === joined) return this.#before(memory);
+      if (kept === joined) return this.#before(document);
     }
     const same = new Set(memory.last(kept).map(({ site }) => site));
     const firsts = new Map(); // where each site begins among what is as it was known
@@ -171,16 +171,16 @@ export class Log {
   }
 
   /** What is told of a log that isn't the known one where what is remembered begins: it may have ended before. */
-  async #before({ base, joined, sites, known: { start, known } }) {
+  async #before({ inherited, memory: { base, joined, sites, known: { start, known } } }) {
     const first = Math.max(start, joined - SIGNS);
     const found = await this.#singles(first, joined - first);
     const kept = found.findIndex((it, n) => !isLike(known[first - start + n], it));
     const next = kept < 0 ? undefined : found[kept];
     const isBefore = found.length > 0 && kept !== 0 && (next === undefined || next.sequence === 1);
     if (isBefore) return { kept: joined, isSure: true, isBefore };
-    const isWhole = first <= FEW && (await this.#isOfOneOf(sites));
-    if (await this.#isEmpty()) return isWhole ? { kept: base, isSure: true } : null;
-    return base === 0 ? { kept: base, isSure: false, isWhole } : null;
+    const isWhole = inherited <= FEW && (await this.#isOfOneOf(sites));
+    if (await this.#isEmpty()) return isWhole ? { kept: 0, isSure: true } : null;
+    return base === 0 || inherited <= FEW ? { kept: 0, isSure: false, isWhole } : null;
   }
 
   /** Whether one of some sites isn't that of the first operation, which may be known: a new document begins with a text of one site. */

@@ -17,27 +17,38 @@ export const SIGNS = 64;
  * @typedef {{sign: string, site: number | null, of?: string}} Known
  *
  * What took the room's text from a version to another: what was deleted at a place, each text with whether it was deleted here too, and
- * the number of the wait in which it came; and what was put in there. `known` are its last operations.
- * @typedef {{at: number, taken: {text: string, isMine: boolean, since: number}[], put: string}} Way
+ * the number of the wait in which it came; and how many units were put in there. `known` are its last operations.
+ * @typedef {{at: number, taken: {text: string, isMine: boolean, since: number}[], put: number}} Way
  * @typedef {{from: number, to: number, known: Known[], isOwn: boolean, ways: Way[], when: number}} Entry
  */
+
+const takenUnits = ({ taken }) => taken.reduce((sum, { text }) => sum + text.length, 0);
+
+/** Plays what an entry did in a list that tells of each unit of a text whether it was put in here. */
+function play({ isOwn, ways }, own) {
+  for (const way of ways) own.replace(way.at, takenUnits(way), new Int32Array(way.put).fill(Number(isOwn)));
+}
 
 export class Memory {
   /** @type {Entry[]} */
   #entries = [];
   /** @type {Known[]} */
   #before;
+  /** Of each unit of the text at the base whether it was put in here. @type {Gap} */
+  #own;
   /** What was asked for last, until the entries change. @type {{start: number, known: (Known | undefined)[]} | null} */
   #known = null;
 
   /**
-   * Remembers nothing but the version, and what the log has last up to there.
+   * Remembers nothing but the version, what the log has last up to there, and of each unit of the text whether it was put in here.
    * @param {Known[]} last
+   * @param {Int32Array} own
    */
-  constructor(version, last) {
+  constructor(version, last, own) {
     /** The version that can be gone back to. */
     this.base = version;
     this.#before = last;
+    this.#own = new Gap(own);
     /** The sites of all operations that were known at some time. @type {Set<number>} */
     this.sites = new Set();
     this.#meet(last);
@@ -59,7 +70,9 @@ export class Memory {
     const sure = Date.now() - SURE;
     let count = Math.max(0, this.#entries.length - EDITS);
     while (count < this.#entries.length && this.#entries[count].when < sure) count += 1;
-    for (const { to, known } of this.#entries.splice(0, count)) {
+    for (const entry of this.#entries.splice(0, count)) {
+      const { to, known } = entry;
+      play(entry, this.#own);
       this.#before = (known.length < to - this.base ? known : [...this.#before, ...known]).slice(-SIGNS);
       this.base = Math.max(this.base, to);
     }
@@ -93,21 +106,46 @@ export class Memory {
     return last;
   }
 
+  /** Of each unit of the text of now whether it was put in here. */
+  get own() {
+    const own = new Gap(this.#own.all);
+    for (const entry of this.#entries) play(entry, own);
+    return own.all;
+  }
+
+  /**
+   * What is remembered where another log has the text at a version: whose it is, and which sites were known.
+   * @param {Known[]} last
+   */
+  renewed(version, last) {
+    const memory = new Memory(version, last, this.own);
+    for (const site of this.sites) memory.sites.add(site);
+    return memory;
+  }
+
   /** How many entries lead to the document's version. */
   get length() {
     return this.#entries.length;
   }
 
-  /** How many entries lead to a version; fewer where the entries don't tell it alone. */
+  /** How many entries lead to a version; fewer where the entries don't tell it alone, and less than none before the base. */
   lengthAt(version) {
+    if (version < this.base) return -1;
     let length = this.#entries.length;
     while (length > 0 && this.#entries[length - 1].to > version) length -= 1;
     return length;
   }
 
-  /** Forgets all but so many entries, the last one first. */
+  /** Forgets all but so many entries, the last one first. Where these are less than none the text at the base goes, too. */
   *since(length) {
-    for (; this.#entries.length > length; this.#known = null) yield this.#entries.pop();
+    for (; this.#entries.length > Math.max(0, length); this.#known = null) yield this.#entries.pop();
+    if (length >= 0) return;
+    const own = this.#own.all;
+    for (let [start, end] = [own.length, own.length]; end > 0; end = start) {
+      while (start > 0 && own[start - 1] === own[end - 1]) start -= 1;
+      yield { from: 0, isOwn: own[start] === 1, ways: [{ at: start, taken: [], put: end - start }] };
+    }
+    [this.base, this.#before, this.#own] = [0, [], new Gap(new Int32Array(0))];
   }
 
   /** How many entries lead to the last of the room's texts, up to the one of now, that is the wanted one; null where none is. */
@@ -117,7 +155,7 @@ export class Memory {
     for (; !units.is(last); length -= 1) {
       if (length === 0) return null;
       for (const { at, taken, put } of [...this.#entries[length - 1].ways].reverse()) {
-        units.replace(at, put.length, unitsOf(taken.map((it) => it.text).join("")));
+        units.replace(at, put, unitsOf(taken.map((it) => it.text).join("")));
       }
     }
     return length;
@@ -127,14 +165,14 @@ export class Memory {
    * The entries that put in something here that the room's text of so many units still has, the last first: how many lead to each, and
    * where.
    */
-  *own(units) {
+  *ownEntries(units) {
     const now = new Gap(Int32Array.from({ length: units }, (_, place) => place));
     for (let length = this.#entries.length - 1; length >= 0; length -= 1) {
       const { isOwn, ways } = this.#entries[length];
       const places = [];
-      for (const { at, taken, put } of [...ways].reverse()) {
-        const old = taken.reduce((sum, it) => sum + it.text.length, 0);
-        for (const place of now.replace(at, put.length, new Int32Array(old).fill(-1))) if (place >= 0) places.push(place);
+      for (const way of [...ways].reverse()) {
+        const old = new Int32Array(takenUnits(way)).fill(-1);
+        for (const place of now.replace(way.at, way.put, old)) if (place >= 0) places.push(place);
       }
       if (isOwn && places.length > 0) yield { length, places };
     }

@@ -69,12 +69,12 @@ async function wayWithin(document, room, log, edits) {
   const isBefore = isOlder && ownIn(document, room.roomText) <= 0;
   if (isBefore) return goBack({ kept: memory.joined, isBefore });
   const isAgain = lost?.kept === 0 && first !== null && memory.sites.has(first.last[0].site);
-  if (isAgain && memory.joined === 0 && isOfOther(document, first, before)) return goBack(lost);
+  if (isAgain && (memory.joined === 0 || memory.base > 0) && isOfOther(document, first, before)) return goBack(lost);
   if (first?.isNew && isLike(before.text, first.text)) return () => renew(document, first, before);
-  if (isAgain) return goBack(memory.joined > 0 ? { kept: memory.joined, isBefore: true } : lost);
+  if (isAgain) return goBack(memory.base === 0 && memory.joined > 0 ? { kept: memory.joined, isBefore: true } : lost);
   if (first?.isNew) return null;
   if (goesOn) return () => settle(document, found, edits);
-  return lost?.isWhole || (lost !== null && isLike(document.roomText, room.roomText)) ? goBack(lost) : null;
+  return lost?.isWhole || (lost !== null && memory.base === 0 && isLike(document.roomText, room.roomText)) ? goBack(lost) : null;
 }
 
 /**
@@ -98,7 +98,7 @@ function isOfOther({ roomText }, first, before) {
 
 /** How many units more a text has than it lacks of those that were put in here since the room was joined. */
 function ownIn({ memory, roomText }, text) {
-  const others = without(roomText, memory.own(roomText.length));
+  const others = without(roomText, memory.ownEntries(roomText.length));
   return distance(others, text) - distance(roomText, text);
 }
 
@@ -161,7 +161,7 @@ function textBefore(document, wanted) {
   if (length !== null) return { length, text: wanted };
   if (hasCome(document, wanted)) return { length: memory.length, text: roomText, hasCome: true };
   const away = distance(roomText, wanted);
-  const own = [...memory.own(roomText.length)];
+  const own = [...memory.ownEntries(roomText.length)];
   const upTo = (entry) => without(roomText, own.slice(0, entry));
   const isMissing = (entry) => {
     const text = upTo(entry);

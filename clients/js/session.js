@@ -484,6 +484,7 @@ export class Session extends /** @type {{new (): Tells & EventTarget}} */ (Event
       return this.#tell("another text", ANOTHER);
     }
     const changes = go();
+    if (!this.#isJoined) this.document.inherited = room.inherited;
     this.document.first = null;
     this.#isServed = true;
     this.#tellChanges(changes);
