@@ -8,9 +8,9 @@
 import { along } from "./along.js";
 import { add } from "./changes.js";
 import { differences } from "./differences.js";
-import { Memory } from "./memory.js";
+import { Memory, runsOf } from "./memory.js";
 import { Piece } from "./piece.js";
-import { Pieces } from "./pieces.js";
+import { Pieces, SAME } from "./pieces.js";
 import { beginning, characters, isInside } from "./text.js";
 
 /** The most characters of an insertion, units of a deletion, edits of a pull and operations of an `ops`. */
@@ -38,6 +38,16 @@ const shownUnits = (piece) => (piece.isShown ? piece.text.length : 0);
 
 /** What is remembered of a piece of the room's that is deleted: also whether it was deleted here. */
 const remembered = ({ text, isShown, since }) => ({ text, isMine: !isShown, since });
+
+/** How a text was put in at a place, of which the parts that stand in a list were put in here. @returns {import("./memory.js").Way[]} */
+function waysOf(at, text, own) {
+  const part = own.find((it) => text.includes(it));
+  if (part === undefined) return [{ at, taken: NONE, put: text.length, isOwn: false }];
+  const start = text.indexOf(part);
+  const end = start + part.length;
+  const way = { at: at + start, taken: NONE, put: part.length, isOwn: true };
+  return [...waysOf(at, text.slice(0, start), own), way, ...waysOf(at + end, text.slice(end), own)];
+}
 
 /** What is known of operations, one object for those that are alike: many thousands are remembered. */
 const alike = new Map();
@@ -295,18 +305,18 @@ export class Document {
       const isPut = piece.owner === "sent";
       if (isPut) this.#pieces.comes(piece);
       else list.splice(index--, 1);
-      this.#remember(from, [...piece.text].map((sign) => (isPut ? sign : "")), true, [
-        isPut ? { at, taken: [], put: piece.text.length } : { at, taken: [remembered(piece)], put: 0 },
-      ]);
+      const way = isPut ? { at, taken: [], put: piece.text.length } : { at, taken: [remembered(piece)], put: 0 };
+      this.#remember(from, [...piece.text].map((sign) => (isPut ? sign : "")), { ...way, isOwn: true });
       from += characters(piece.text);
     }
     this.takeBack();
   }
 
-  #remember(from, signs, isOwn, ways) {
+  #remember(from, signs, way) {
+    const { isOwn } = way;
     const told = (n) => (isOwn && this.first !== null ? this.first.known[from + n - this.first.from] : undefined);
     const known = signs.map((sign, n) => told(n) ?? knownAs(sign, isOwn ? this.site : null));
-    this.memory.add({ from, to: from + signs.length, known, isOwn, ways });
+    this.memory.add({ from, to: from + signs.length, known, ways: [way] });
   }
 
   /**
@@ -323,7 +333,7 @@ export class Document {
     let put = 0; // so many edits were put in with those before
     for (const [index, edit] of edits.entries()) {
       const isOwn = this.#isOwn(this.version);
-      const way = { at: edit[1] ?? 0, taken: NONE, put: 0 };
+      const way = { at: edit[1] ?? 0, taken: NONE, put: 0, isOwn };
       const sign = edit[0] === "i" ? edit[2] : "";
       if (edit[0] === "i") {
         way.put = sign.length;
@@ -333,7 +343,7 @@ export class Document {
       } else if (edit[0] === "d") {
         way.taken = this.#pieces.take(edit[1], edit[2], changes).map(remembered);
       }
-      this.#remember(this.version, [sign], isOwn, [way]);
+      this.#remember(this.version, [sign], way);
       this.version += 1;
       if (isOwn && this.version === this.#sent.to) this.#sent = null;
     }
@@ -367,15 +377,19 @@ export class Document {
   follow({ roomText, version, memory }, isLost = false) {
     const changes = [];
     const ways = [];
-    const own = isLost ? this.memory.own : null;
-    for (const { at, removed, text } of differences(this.roomText, roomText)) {
-      ways.push({ at, taken: this.#pieces.rooms(at, removed).map(remembered), put: text.length });
-      if (isLost) this.#lose(at, removed, own, changes);
+    const { own } = this.memory;
+    const before = this.roomText;
+    const differ = differences(before, roomText);
+    const ownRuns = differ.flatMap(({ at, removed }) => [...runsOf(own, at, removed)]).filter(({ put, isOwn }) => isOwn && put >= SAME);
+    const moved = ownRuns.map(({ at, put }) => before.slice(at, at + put));
+    for (const { at, removed, text } of differ) {
+      ways.push({ at, taken: this.#pieces.rooms(at, removed).map(remembered), put: 0, isOwn: false }, ...waysOf(at, text, moved));
+      if (isLost) for (const way of runsOf(own, at, removed)) this.#undo(way, changes);
       else this.#pieces.take(at, removed, changes);
       if (text !== "") this.#pieces.put(at, text, changes);
     }
     const known = memory.last(version);
-    if (version > this.version || ways.length > 0) this.memory.add({ from: this.version, to: version, known, isOwn: false, ways });
+    if (version > this.version || ways.length > 0) this.memory.add({ from: this.version, to: version, known, ways });
     this.version = version;
     return changes;
   }
@@ -388,8 +402,8 @@ export class Document {
     const changes = [];
     this.takeBack();
     this.#pieces.awaitLost();
-    for (const { from, isOwn, ways } of this.memory.since(length)) {
-      for (const way of ways.reverse()) this.#undo(way, isOwn, changes);
+    for (const { from, ways } of this.memory.since(length)) {
+      for (const way of ways.reverse()) this.#undo(way, changes);
       this.version = Math.min(this.version, from);
     }
     for (const [index, piece] of this.#pieces.list.entries()) {
@@ -401,15 +415,7 @@ export class Document {
     return changes;
   }
 
-  /** The room lost so many units from a place on, of which some were put in here. */
-  #lose(at, units, own, changes) {
-    for (let [start, end] = [at + units, at + units]; end > at; end = start) {
-      while (start > at && own[start - 1] === own[end - 1]) start -= 1;
-      this.#undo({ at: start, taken: NONE, put: end - start }, own[start] === 1, changes);
-    }
-  }
-
-  #undo({ at, taken, put }, isOwn, changes) {
+  #undo({ at, taken, put, isOwn }, changes) {
     const { list } = this.#pieces;
     for (const piece of this.#pieces.rooms(at, put)) {
       const index = list.indexOf(piece);

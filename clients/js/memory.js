@@ -17,16 +17,24 @@ export const SIGNS = 64;
  * @typedef {{sign: string, site: number | null, of?: string}} Known
  *
  * What took the room's text from a version to another: what was deleted at a place, each text with whether it was deleted here too, and
- * the number of the wait in which it came; and how many units were put in there. `known` are its last operations.
- * @typedef {{at: number, taken: {text: string, isMine: boolean, since: number}[], put: number}} Way
- * @typedef {{from: number, to: number, known: Known[], isOwn: boolean, ways: Way[], when: number}} Entry
+ * the number of the wait in which it came; and how many units were put in there, and whether here. `known` are its last operations.
+ * @typedef {{at: number, taken: {text: string, isMine: boolean, since: number}[], put: number, isOwn: boolean}} Way
+ * @typedef {{from: number, to: number, known: Known[], ways: Way[], when: number}} Entry
  */
 
 const takenUnits = ({ taken }) => taken.reduce((sum, { text }) => sum + text.length, 0);
 
 /** Plays what an entry did in a list that tells of each unit of a text whether it was put in here. */
-function play({ isOwn, ways }, own) {
-  for (const way of ways) own.replace(way.at, takenUnits(way), new Int32Array(way.put).fill(Number(isOwn)));
+function play({ ways }, own) {
+  for (const way of ways) own.replace(way.at, takenUnits(way), new Int32Array(way.put).fill(Number(way.isOwn)));
+}
+
+/** Of so many units from a place on the runs that were all put in here, or all by others, the last first. */
+export function* runsOf(own, at, units) {
+  for (let [start, end] = [at + units, at + units]; end > at; end = start) {
+    while (start > at && own[start - 1] === own[end - 1]) start -= 1;
+    yield { at: start, taken: [], put: end - start, isOwn: own[start] === 1 };
+  }
 }
 
 export class Memory {
@@ -140,11 +148,7 @@ export class Memory {
   *since(length) {
     for (; this.#entries.length > Math.max(0, length); this.#known = null) yield this.#entries.pop();
     if (length >= 0) return;
-    const own = this.#own.all;
-    for (let [start, end] = [own.length, own.length]; end > 0; end = start) {
-      while (start > 0 && own[start - 1] === own[end - 1]) start -= 1;
-      yield { from: 0, isOwn: own[start] === 1, ways: [{ at: start, taken: [], put: end - start }] };
-    }
+    yield { from: 0, ways: [...runsOf(this.#own.all, 0, this.#own.length)].reverse() };
     [this.base, this.#before, this.#own] = [0, [], new Gap(new Int32Array(0))];
   }
 
@@ -168,13 +172,12 @@ export class Memory {
   *ownEntries(units) {
     const now = new Gap(Int32Array.from({ length: units }, (_, place) => place));
     for (let length = this.#entries.length - 1; length >= 0; length -= 1) {
-      const { isOwn, ways } = this.#entries[length];
       const places = [];
-      for (const way of [...ways].reverse()) {
+      for (const way of [...this.#entries[length].ways].reverse()) {
         const old = new Int32Array(takenUnits(way)).fill(-1);
-        for (const place of now.replace(way.at, way.put, old)) if (place >= 0) places.push(place);
+        for (const place of now.replace(way.at, way.put, old)) if (way.isOwn && place >= 0) places.push(place);
       }
-      if (isOwn && places.length > 0) yield { length, places };
+      if (places.length > 0) yield { length, places };
     }
   }
 }

@@ -21,6 +21,7 @@ export class Pieces {
   list = [];
   #lostUntil = 0; // what others put in and the room lost is waited for till then
   #waits = 0; // how often it was waited so
+  #soonUntil = 0; // as long as others put it in again, and some time more
 
   /** The text of some of them. */
   text(isWanted) {
@@ -95,9 +96,9 @@ export class Pieces {
     return this.#lostUntil > 0;
   }
 
-  /** Whether the wait for lost text has just begun. */
+  /** Whether the wait for lost text has just begun, or some has just come again. */
   get #isSoon() {
-    return Date.now() < this.#lostUntil - RETURNED + SOON;
+    return Date.now() < this.#soonUntil;
   }
 
   /** The number of the wait for lost text, or 0. */
@@ -109,6 +110,7 @@ export class Pieces {
   awaitLost() {
     if (!this.hasLost) this.#waits += 1;
     this.#lostUntil = Date.now() + RETURNED;
+    this.#soonUntil = Date.now() + SOON;
     this.list = this.list.filter(({ isLost, gone }) => !(isLost && gone === "others"));
   }
 
@@ -189,6 +191,7 @@ export class Pieces {
       const index = this.list.indexOf(piece);
       const isThere = piece !== null && this.roomPlace(index) === k;
       if (piece !== null) this.list.splice(index, 1);
+      if (piece !== null && this.#isSoon) this.#soonUntil = Date.now() + SOON;
       this.#place(isThere ? index : this.atRooms(k), part, piece === null || piece.gone === "others" ? null : "new", changes);
       k += part.length;
     }
