@@ -94,9 +94,10 @@ export class Log {
     return (await this.#singles(number, 1))[0]?.site ?? null;
   }
 
-  async #isAt(number, known) {
+  /** The operations from a number on, where they are as they are known; else none. */
+  async #at(number, known) {
     const found = await this.#singles(number, known.length);
-    return found.length === known.length && known.every((it, n) => isLike(it, found[n]));
+    return found.length === known.length && known.every((it, n) => isLike(it, found[n])) ? found : [];
   }
 
   /**
@@ -119,7 +120,7 @@ export class Log {
     const { version, memory, first } = document;
     const last = memory.last(version);
     const start = version - last.length;
-    if (last.length === 0 || !(await this.#isAt(start, last))) return version === 0;
+    if ((await this.#at(start, last)).length === 0) return version === 0;
     return first === null || first.from >= start || (await this.#most(document)) === version;
   }
 
@@ -146,7 +147,9 @@ export class Log {
         else while (!isKnown(kept)) kept -= 1;
       }
       const last = memory.last(kept);
-      if (kept === 0 || (last.length > 0 && (await this.#isAt(kept - last.length, last)))) break;
+      const same = await this.#at(kept - last.length, last);
+      const isChance = same.length < SIGNS && (await this.#isOfOneOf(new Set(same.map(({ site }) => site)))); // its site came again
+      if (kept === 0 || (same.length > 0 && !isChance)) break;
       if (kept === joined) return this.#before(document);
     }
     const same = new Set(memory.last(kept).map(({ site }) => site));

@@ -174,7 +174,36 @@ function textBefore(document, wanted) {
     if (isMissing(middle)) low = middle;
     else high = middle;
   }
+  low = lackingOf(own.slice(0, low), roomText, wanted);
   return { length: own[low - 1]?.length ?? memory.length, text: upTo(low) };
+}
+
+/**
+ * How many of the last entries a text lacks, of some that it doesn't have where they stood: what stands once in the room's text and is in
+ * the other one, too, may have come to stand elsewhere.
+ */
+function lackingOf(entries, roomText, wanted) {
+  const [before, there] = [piecesOf(roomText), piecesOf(wanted)];
+  const isOwn = new Set(entries.flatMap(({ places }) => places));
+  let [lacking, most, sum] = [0, 0, 0];
+  for (const [n, { places }] of entries.entries()) {
+    for (const place of places) {
+      const piece = roomText.slice(place, place + SAME);
+      if (before.get(piece) === 1 && isOwn.has(place + SAME - 1)) sum += there.has(piece) ? -1 : 1;
+    }
+    if (sum >= most) [lacking, most] = [n + 1, sum];
+  }
+  return lacking;
+}
+
+/** How often each piece of `SAME` units stands in a text. */
+function piecesOf(text) {
+  const pieces = new Map();
+  for (let end = SAME; end <= text.length; end += 1) {
+    const piece = text.slice(end - SAME, end);
+    pieces.set(piece, 1 + (pieces.get(piece) ?? 0));
+  }
+  return pieces;
 }
 
 /** Whether a text may have become of one before: it has at least a quarter of that, in pieces, or that is too short to tell. */
