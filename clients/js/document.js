@@ -63,6 +63,8 @@ export class Document {
   #orders = 0;
   /** What is under way: nothing, or what was sent; once it is accepted, from and to which version it leads. */
   #sent = null;
+  /** What has come in another run, and may stand elsewhere there. @type {string[]} */
+  #come = [];
 
   /**
    * The document of a room's text at a version, whose log has this last.
@@ -303,6 +305,7 @@ export class Document {
       rest -= characters(piece.text);
       const at = this.#pieces.roomPlace(index);
       const isPut = piece.owner === "sent";
+      if (isPut && piece.text.length >= SAME) this.#come.push(piece.text);
       if (isPut) this.#pieces.comes(piece);
       else list.splice(index--, 1);
       const way = isPut ? { at, taken: [], put: piece.text.length } : { at, taken: [remembered(piece)], put: 0 };
@@ -380,8 +383,8 @@ export class Document {
     const { own } = this.memory;
     const before = this.roomText;
     const differ = differences(before, roomText);
-    const ownRuns = differ.flatMap(({ at, removed }) => [...runsOf(own, at, removed)]).filter(({ put, isOwn }) => isOwn && put >= SAME);
-    const moved = ownRuns.map(({ at, put }) => before.slice(at, at + put));
+    const gone = differ.map(({ at, removed }) => before.slice(at, at + removed));
+    const moved = this.#come.splice(0).filter((it) => gone.some((text) => text.includes(it)));
     for (const { at, removed, text } of differ) {
       ways.push({ at, taken: this.#pieces.rooms(at, removed).map(remembered), put: 0, isOwn: false }, ...waysOf(at, text, moved));
       if (isLost) for (const way of runsOf(own, at, removed)) this.#undo(way, changes);

@@ -2,7 +2,7 @@
  * How a document goes on in a room that may be another run of the server: with the same log, with one that lost its end, or with a new log
  * of the same text. What was done here and the room doesn't have is pending then.
  */
-import { differences, distance } from "./differences.js";
+import { differences, distance, STEPS } from "./differences.js";
 import { Document } from "./document.js";
 import { SAME } from "./pieces.js";
 
@@ -167,33 +167,35 @@ function textBefore(document, wanted) {
     const text = upTo(entry);
     return distance(text, wanted) + roomText.length - text.length <= away;
   };
-  let [low, high] = [0, 1]; // all is missing of the last `low` entries, and not of the last `high`
-  for (; high <= own.length && isMissing(high); high *= 2) low = high;
-  for (high = Math.min(high, own.length + 1); high - low > 1; ) {
+  const [least, most] = lackingOf(own, roomText, wanted);
+  let low = away > 2 * STEPS ? least : 0; // all is missing of the last `low` entries, and not of the last `high`
+  let high = low + 1;
+  for (; high <= most && isMissing(high); high *= 2) low = high;
+  for (high = Math.min(high, most + 1); high - low > 1; ) {
     const middle = (low + high) >> 1;
     if (isMissing(middle)) low = middle;
     else high = middle;
   }
-  low = lackingOf(own.slice(0, low), roomText, wanted);
   return { length: own[low - 1]?.length ?? memory.length, text: upTo(low) };
 }
 
 /**
- * How many of the last entries a text lacks, of some that it doesn't have where they stood: what stands once in the room's text and is in
- * the other one, too, may have come to stand elsewhere.
+ * How many of the last entries a text lacks, at least and at most, as far as what stands once in the room's text and is in the other one,
+ * or isn't, tells: wherever it is there. Where the texts differ much their distance tells less.
  */
 function lackingOf(entries, roomText, wanted) {
   const [before, there] = [piecesOf(roomText), piecesOf(wanted)];
   const isOwn = new Set(entries.flatMap(({ places }) => places));
-  let [lacking, most, sum] = [0, 0, 0];
+  let [least, most, best, sum] = [0, 0, 0, 0];
   for (const [n, { places }] of entries.entries()) {
     for (const place of places) {
       const piece = roomText.slice(place, place + SAME);
       if (before.get(piece) === 1 && isOwn.has(place + SAME - 1)) sum += there.has(piece) ? -1 : 1;
     }
-    if (sum >= most) [lacking, most] = [n + 1, sum];
+    if (sum > best) [least, best] = [n + 1, sum];
+    if (sum === best) most = n + 1;
   }
-  return lacking;
+  return [least, most];
 }
 
 /** How often each piece of `SAME` units stands in a text. */
