@@ -185,12 +185,19 @@ function textBefore(document, wanted) {
  */
 function lackingOf(entries, roomText, wanted) {
   const [before, there] = [piecesOf(roomText), piecesOf(wanted)];
-  const isOwn = new Set(entries.flatMap(({ places }) => places));
+  const own = new Set(entries.flatMap(({ places }) => places));
+  const pieceWith = (place) => {
+    for (let start = place; start > place - SAME; start -= 1) {
+      const piece = roomText.slice(start, start + SAME);
+      if (own.has(start) && own.has(start + SAME - 1) && before.get(piece) === 1) return piece;
+    }
+    return null;
+  };
   let [least, most, best, sum] = [0, 0, 0, 0];
   for (const [n, { places }] of entries.entries()) {
     for (const place of places) {
-      const piece = roomText.slice(place, place + SAME);
-      if (before.get(piece) === 1 && isOwn.has(place + SAME - 1)) sum += there.has(piece) ? -1 : 1;
+      const piece = pieceWith(place);
+      if (piece !== null) sum += there.has(piece) ? -1 : 1;
     }
     if (sum > best) [least, best] = [n + 1, sum];
     if (sum === best) most = n + 1;

@@ -156,6 +156,36 @@ async function followsAReader() {
   await reader.close();
 }
 
+/** The edits of a text that is put in at a place. */
+const editsOf = (k, text) => [...text].map((sign, n) => ["i", k + n, sign]);
+
+/** What has come stands elsewhere in another run: it is one's own still, and is put in again where all is lost then. */
+function ownsWhatHasCome() {
+  const document = new Document();
+  document.play(editsOf(0, "of others"));
+  document.replace([{ at: 0, removed: 0, text: "own " }]);
+  document.next();
+  document.came(9, 4);
+  document.follow(new Document("of others, own text", 19));
+  document.goBack(-1);
+  assert.deepEqual([document.text, document.version], ["own ", 0]);
+}
+
+/** What others put in again in parts, for longer than a letter or two is waited for, is deleted again where it was deleted here. */
+function deletesAgainAsLongAsItComes() {
+  const { now } = Date;
+  const document = new Document();
+  document.play(editsOf(0, "one two three four"));
+  document.replace([{ at: 14, removed: 4, text: "" }]);
+  document.goBack(-1);
+  for (const [at, text] of ["one ", "two ", "three ", "four"].entries()) {
+    Date.now = () => now() + 7_000 * at;
+    document.play(editsOf(document.roomText.length, text));
+  }
+  Date.now = now;
+  assert.deepEqual([document.text, document.roomText], ["one two three ", "one two three four"]);
+}
+
 /** A list with a gap is the list that a plain one is. */
 function isAsAPlainList() {
   const roll = dice(3);
@@ -168,6 +198,7 @@ function isAsAPlainList() {
     assert.deepEqual([...gap.replace(at, removed, put)], plain.splice(at, removed, ...put));
     assert.equal(gap.length, plain.length);
     assert.ok(gap.is(Int32Array.from(plain)));
+    assert.deepEqual([...gap.all], plain);
     if (plain.length > 0) assert.ok(!gap.is(Int32Array.from(plain, (it, place) => it + Number(place === at % plain.length))));
   }
 }
@@ -179,5 +210,7 @@ await endsWhereItIsOtherwise();
 await endsInAPartThatIsNotSeen();
 await goesOver();
 await followsAReader();
+ownsWhatHasCome();
+deletesAgainAsLongAsItComes();
 isAsAPlainList();
 console.log("tests/lib/first_texts.mjs: the text that a room was renewed with is found in few requests");

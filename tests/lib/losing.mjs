@@ -56,6 +56,55 @@ async function losesItsFirstRun() {
   await goOn(new Room(1), ways, "hello world");
 }
 
+/** A room is renewed, more is typed, and then nothing of it was kept, twice: each puts in again what it put in at any time. */
+async function losesAllBehindARenewal(renew) {
+  const ways = await two("hello ", "world");
+  await goOver(await renew(ways[0].room), ways, "hello world");
+  ways[0].editor.change(11, 0, " again");
+  for (const way of ways) await way.comesTo("up to date", "hello world again");
+  await goOver(new Room(0), ways, "hello world again");
+  await goOn(new Room(0), ways, "hello world again");
+}
+
+/** The same, where another came first, and what it put in is kept: its operations are of the site that the known ones were of. */
+async function losesAllBehindARenewalAndComesLate() {
+  const ways = await two("hello ", WHALE);
+  await goOver(await renewedRun(ways[0].room), ways, `hello ${WHALE}`);
+  ways[0].cutOff();
+  await ways[0].comesTo("offline");
+  const room = new Room(0);
+  ways[1].cut(room);
+  await ways[1].comesTo("up to date", WHALE);
+  await typedBy(room, 0, "> ");
+  await goOn(await keptRun(room, 0, 1), ways, `hello > ${WHALE}`);
+}
+
+/** A first run is lost whole, where another had begun, and of the next one, at the same site, the first letter is alike. */
+async function losesItsFirstRunToOneThatBeginsAlike() {
+  const way = await begin(SIGNS.slice(0, 60), false);
+  way.editor.change(60, 0, "mine.");
+  await way.comesTo("up to date", `${SIGNS.slice(0, 60)}mine.`);
+  const next = new Room(1);
+  await typedBy(next, 0, `${SIGNS[0]}x`);
+  await goOn(next, [way], `${SIGNS[0]}mine.x`);
+}
+
+/** Another moves what one put in, and the room is renewed while that one is away: it is there once. */
+async function isRenewedWithItsOwnElsewhere() {
+  const own = "This is mine. ";
+  const way = new Way(await roomOf(WHALE, 0));
+  await way.comesTo("up to date", WHALE);
+  way.editor.change(0, 0, own);
+  await way.comesTo("up to date", own + WHALE);
+  way.cutOff();
+  await way.comesTo("offline");
+  await deletedBy(way.room, 0, own.length);
+  await typedBy(way.room, WHALE.length, own);
+  way.room = await renewedRun(way.room);
+  way.isUp = true;
+  await endsAs(way, WHALE + own);
+}
+
 /**
  * Nothing was kept of a run but what there was before, its site comes again, and another does the like there elsewhere: both are done.
  * `stays`: under the same number of a session.
@@ -576,6 +625,10 @@ await Promise.all([
   losesItsEndBehindABridge(),
   losesItsEndWhileAThirdTypes(),
   losesItsFirstRun(),
+  losesAllBehindARenewal(renewedRun),
+  losesAllBehindARenewal(anewRun),
+  losesAllBehindARenewalAndComesLate(),
+  losesItsFirstRunToOneThatBeginsAlike(),
   losesItsFirstRunAndMore(WHALE, " So it is.", true),
   losesItsFirstRunAndMore(WHALE, " So it is.", false),
   losesARunWhoseSiteComesAgain("hello", [5, 0, "!"], [{ t: "ins", k: 0, x: "!" }], "!hello!", false),
@@ -605,6 +658,7 @@ await Promise.all([
   isRenewedToOneLength(),
   isRenewedWithALetterLess(true),
   isRenewedWithALetterLess(false),
+  isRenewedWithItsOwnElsewhere(),
   isRenewedBehindALoss(renewedRun),
   isRenewedBehindALoss(async (room) => anewRun(await anewRun(room))),
   losesItsEndBehindARenewal(""),

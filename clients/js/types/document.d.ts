@@ -8,6 +8,8 @@ export class Document {
     constructor(text?: string, version?: number, last?: Known[]);
     version: number;
     memory: Memory;
+    /** How many units were there at first: whether the clients of who put them in are there still isn't known. */
+    inherited: number;
     /**
      * What the log has of the first submission that was accepted in the server's run, and from which version on.
      * @type {{from: number, known: Known[]} | null}
@@ -92,7 +94,7 @@ export class Document {
     play(edits: Edit[], from?: number): Change[];
     /**
      * The room has another text by now, of a version whose way from this one isn't known: what both have in common stays. `isLost`: what it
-     * lacks it lost.
+     * lacks it lost, so what was put in here of that is new again.
      */
     follow({ roomText, version, memory }: {
         roomText: any;

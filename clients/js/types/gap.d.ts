@@ -4,6 +4,8 @@ export class Gap {
     /** @param {Int32Array} numbers */
     constructor(numbers: Int32Array);
     get length(): number;
+    /** All of the list, as numbers of their own. */
+    get all(): Int32Array;
     /** Whether these are all of the list. */
     is(numbers: any): boolean;
     /** Takes so many off at a place, puts others in there, and gives what was taken off. */

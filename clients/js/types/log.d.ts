@@ -31,15 +31,13 @@ export class Log {
         isBefore: true;
         isWhole?: undefined;
     } | {
-        kept: any;
-        isSure: boolean;
-        isBefore?: undefined;
-        isWhole?: undefined;
-    } | {
-        kept: any;
+        kept: number;
         isSure: boolean;
         isWhole: boolean;
         isBefore?: undefined;
+    } | {
+        kept: any;
+        isSure: boolean;
     } | null>;
     /**
      * Whether a site is that of the server's run: that takes no operation of its own from elsewhere. This one deletes what isn't there, so
