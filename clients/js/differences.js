@@ -8,7 +8,7 @@
  */
 
 /** The most steps from either end that are looked for the way where both meet, and for one where it was too far. */
-export const STEPS = 1_000;
+const STEPS = 1_000;
 const FEWER = 128;
 
 const SIGNS = null; // single characters

@@ -19,7 +19,10 @@ import { SIGNS } from "./memory.js";
 /** So many operations behind what is known are looked through for what is under way: as many as a log takes. */
 const FAR = 131_072;
 
-/** A log of so few operations may be lost whole: a team types as many before the first turn of a server that keeps it each five seconds. */
+/**
+ * Where no more units than so were there at first nobody is asked if all is lost, though who put them in may be gone: a team types as many
+ * before the first turn of a server that keeps a log each five seconds.
+ */
 const FEW = 1_024;
 
 /** So often something is asked that others' typing spoils. */

@@ -149,7 +149,7 @@ export class Memory {
     for (; this.#entries.length > Math.max(0, length); this.#known = null) yield this.#entries.pop();
     if (length >= 0) return;
     yield { from: 0, ways: [...runsOf(this.#own.all, 0, this.#own.length)].reverse() };
-    [this.base, this.#before, this.#own] = [0, [], new Gap(new Int32Array(0))];
+    [this.base, this.#before, this.#own, this.#known] = [0, [], new Gap(new Int32Array(0)), null];
   }
 
   /** How many entries lead to the last of the room's texts, up to the one of now, that is the wanted one; null where none is. */

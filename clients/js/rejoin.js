@@ -2,7 +2,7 @@
  * How a document goes on in a room that may be another run of the server: with the same log, with one that lost its end, or with a new log
  * of the same text. What was done here and the room doesn't have is pending then.
  */
-import { differences, distance, STEPS } from "./differences.js";
+import { differences, distance } from "./differences.js";
 import { Document } from "./document.js";
 import { SAME } from "./pieces.js";
 
@@ -19,6 +19,9 @@ const PIECE = 8;
 
 /** Two don't put in the same so many units at one time. */
 const LONG = 16;
+
+/** The distance of texts that differ in more units is told only about. */
+const FAR = 2_000;
 
 /**
  * How a document comes to a room's text, as far as the room is known: a call that does so, and gives the changes of what is shown. Null
@@ -69,9 +72,10 @@ async function wayWithin(document, room, log, edits) {
   const isBefore = isOlder && ownIn(document, room.roomText) <= 0;
   if (isBefore) return goBack({ kept: memory.joined, isBefore });
   const isAgain = lost?.kept === 0 && first !== null && memory.sites.has(first.last[0].site);
-  if (isAgain && (memory.joined === 0 || memory.base > 0) && isOfOther(document, first, before)) return goBack(lost);
+  const isOfOthers = memory.base === 0 && memory.joined > 0; // what was joined last: one's own was lost before, and came in again behind it
+  if (isAgain && !isOfOthers && isOfOther(document, first, before)) return goBack(lost);
   if (first?.isNew && isLike(before.text, first.text)) return () => renew(document, first, before);
-  if (isAgain) return goBack(memory.base === 0 && memory.joined > 0 ? { kept: memory.joined, isBefore: true } : lost);
+  if (isAgain) return goBack(isOfOthers ? { kept: memory.joined, isBefore: true } : lost);
   if (first?.isNew) return null;
   if (goesOn) return () => settle(document, found, edits);
   return lost?.isWhole || (lost !== null && memory.base === 0 && isLike(document.roomText, room.roomText)) ? goBack(lost) : null;
@@ -168,7 +172,7 @@ function textBefore(document, wanted) {
     return distance(text, wanted) + roomText.length - text.length <= away;
   };
   const [least, most] = lackingOf(own, roomText, wanted);
-  let low = away > 2 * STEPS ? least : 0; // all is missing of the last `low` entries, and not of the last `high`
+  let low = away > FAR ? least : 0; // all is missing of the last `low` entries, and not of the last `high`
   let high = low + 1;
   for (; high <= most && isMissing(high); high *= 2) low = high;
   for (high = Math.min(high, most + 1); high - low > 1; ) {

@@ -6,16 +6,6 @@ export function differences(from: any, to: any): Change[];
 /** How many units are put in or removed between two texts. */
 export function distance(from: any, to: any): any;
 /**
- * What differs between two texts: the fewest changes of single characters that lead from one to the other (Myers, 1986). Where these are
- * too many the texts are compared by lines, what differs then by words, and only within those by characters again.
- * @typedef {import("./changes.js").Change} Change
- *
- * Where a stretch of a list, and what stands in its place in another one, begin and end.
- * @typedef {[start: number, end: number, putStart: number, putEnd: number]} Stretch
- */
-/** The most steps from either end that are looked for the way where both meet, and for one where it was too far. */
-export const STEPS: 1000;
-/**
  * Where a stretch of a list, and what stands in its place in another one, begin and end.
  */
 export type Change = import("./changes.js").Change;
