@@ -83,12 +83,14 @@ async function wayWithin(document, room, log, edits) {
 
 /**
  * Whether a log may be the one that was joined, and have lost more than is known of it: its first site has as many operations as it had
- * there. A room that is renewed by hand begins with a text of site 0, which may be as long: then another site has to have as many, too.
+ * there. A room that is renewed by hand begins with a text of site 0, which may be as long: then another site has to have as many, too, or
+ * what was put in here is missing.
  */
-function isShorter({ counts }, room, first) {
+function isShorter(document, room, first) {
+  const { counts } = document;
   const same = [...counts.keys()].filter((site) => room.counts.get(site) === counts.get(site));
   const site = first?.last[0].site;
-  return same.includes(site) && (same.length > 1 || site > 0 || first.version < counts.get(site));
+  return same.includes(site) && (same.length > 1 || site > 0 || first.version < counts.get(site) || ownIn(document, room.roomText) < 0);
 }
 
 /**

@@ -293,6 +293,18 @@ async function losesItsEndBehindARenewal(brought) {
   await goOn(await keptRun(room, 93 + brought.length, 3), [way], `${text} And the end.`);
 }
 
+/** The same, where hardly anything was kept but what site 0 had renewed it with. */
+async function losesMostBehindARenewal() {
+  const room = await anewRun(await roomOf(WHALE, 1));
+  const typed = RABBIT + SIGNS;
+  for (let at = 0; at < typed.length; at += 64) await typedBy(room, at, typed.slice(at, at + 64));
+  const way = new Way(room);
+  await way.comesTo("up to date", typed + WHALE);
+  way.editor.change(typed.length + WHALE.length, 0, " And the end.");
+  await way.comesTo("up to date", `${typed}${WHALE} And the end.`);
+  await goOn(await keptRun(room, typed.length + 13, 3), [way], `${WHALE} And the end.`);
+}
+
 /** An editor has pasted 80 digits in front of the text of a room, and then another one joined. */
 async function joinedBehindAPaste(room) {
   const pasted = "0123456789".repeat(8);
@@ -663,6 +675,7 @@ await Promise.all([
   isRenewedBehindALoss(async (room) => anewRun(await anewRun(room))),
   losesItsEndBehindARenewal(""),
   losesItsEndBehindARenewal("Elsewhere "),
+  losesMostBehindARenewal(),
   isRenewedTwiceWhileAway(WHALE.length),
   isRenewedTwiceWhileAway(WHALE.length + RABBIT.length),
   typesWhatWasDeleted(),
