@@ -431,7 +431,9 @@ export class Document {
       }
     }
     const old = taken.map(({ text, isMine, since }) => new Piece(text, "room", isMine ? "new" : "others", 0, since));
-    list.splice(this.#pieces.atRooms(at), 0, ...old);
+    const index = this.#pieces.atRooms(at);
+    list.splice(index, 0, ...old);
+    if (old.length === 1) this.#pieces.joinAt(index); // (what another took out letter by letter would be as many pieces)
   }
 
   /** The room has the text with another log, of which so many operations make it. */
