@@ -5,7 +5,7 @@ import { COUNTS, gone, goneBack, size } from "./count.js";
 import { EditorText } from "./editor_text.js";
 import { linesOf, textOf } from "./lines.js";
 import { Ended, Full, inTime, open, Undo } from "./module.js";
-import { lacking, standing } from "./words.js";
+import { flushed, lacking, standing } from "./words.js";
 
 const [address, room, counted = "units", ...more] = process.argv.slice(2);
 const count = Object.hasOwn(COUNTS, counted) ? COUNTS[counted] : undefined;
@@ -14,11 +14,15 @@ const count = Object.hasOwn(COUNTS, counted) ? COUNTS[counted] : undefined;
 const ENDING = 2_000;
 const SILENCE = 200;
 
+/** What tells a change of the editor. */
+const CHANGES = ["replace", "whole"];
+
 /** A line that isn't as it should be. Nothing of it was done. */
 class Wrong extends Error {}
 
 const isPlace = (it) => Number.isInteger(it) && it >= 0;
-const isChange = (it) => Array.isArray(it) && it.length === 3 && isPlace(it[0]) && isPlace(it[1]) && typeof it[2] === "string";
+const isText = (it) => typeof it === "string";
+const isChange = (it) => Array.isArray(it) && it.length === 3 && isPlace(it[0]) && isPlace(it[1]) && isText(it[2]);
 const isTime = (it) => isPlace(it) && it > 0;
 const isTrue = (it) => it === true;
 
@@ -100,6 +104,7 @@ class Conversation {
   /** What a line asks, by its key: whether the value is right, and what is done; `answer` tells the answer to it. */
   #asks = {
     replace: [isChange, (change, { more, caret }) => this.#replace(change, more, caret)],
+    whole: [isText, (text, { more, caret }) => this.#replace([0, size(this.#text.text, count), text], more, caret)],
     take: [isTrue, (_, { answer }) => answer({ changes: this.#take() })],
     undo: [isTrue, (_, { answer }) => answer(this.#turn(false))],
     redo: [isTrue, (_, { answer }) => answer(this.#turn(true))],
@@ -107,7 +112,7 @@ class Conversation {
     unsent: [isTrue, (_, { answer }) => answer({ unsent: this.#session.unsent, words: lacking(this.#session) })],
     text: [isTrue, (_, { answer }) => answer({ text: (this.#take(), this.#text.text) })],
     other: [isTrue, (_, { answer }) => answer(this.#other())],
-    choose: [(it) => it === "mine" || it === "theirs", (whose) => this.#choose(whose)],
+    choose: [(it) => it === "mine" || it === "theirs", (whose, { answer }) => answer(this.#choose(whose))],
     close: [isTrue, (_, { answer }) => this.close(answer)],
   };
 
@@ -131,7 +136,7 @@ class Conversation {
     const [[key, value] = [], ...others] = Object.entries(request);
     if (key === undefined || !Object.hasOwn(this.#asks, key)) throw new Wrong(`it asks for nothing that is known: ${key ?? ""}`);
     const [isRight, does] = this.#asks[key];
-    const isPlain = others.length === 0 && (key === "replace" || (more === false && caret === null));
+    const isPlain = others.length === 0 && (CHANGES.includes(key) || (more === false && caret === null));
     if (!isPlain) throw new Wrong(`a key is too many beside ${key}`);
     if (!isRight(value)) throw new Wrong(`the value of ${key} isn't as it should be`);
     if (typeof more !== "boolean") throw new Wrong("more is true or false");
@@ -162,15 +167,18 @@ class Conversation {
     this.#tellNews();
   }
 
-  /** Makes a change, or says why it isn't made. */
+  /** Makes a change, or says why it isn't made, and gives that. */
   #change(make) {
+    let refused = "";
     try {
       make();
     } catch (fault) {
       if (!(fault instanceof Full || fault instanceof Ended)) throw fault;
-      tell({ refused: fault.message });
+      refused = fault.message;
+      tell({ refused });
     }
     if (this.#session.mayBeLost !== this.#told.ahead || this.#heard !== this.#told.heard) this.#tellState();
+    return refused;
   }
 
   #take() {
@@ -198,14 +206,15 @@ class Conversation {
   }
 
   #choose(whose) {
-    this.#change(() => (whose === "mine" ? this.#session.putMine() : this.#session.takeTheirs()));
+    const refused = this.#change(() => (whose === "mine" ? this.#session.putMine() : this.#session.takeTheirs()));
+    return { chosen: whose, words: refused || standing(this.#session) };
   }
 
   /** Says whether the room has all that was done here until now: once that is known, in so many milliseconds at most. */
   #flush(milliseconds, answer) {
     const isSent = this.#session.sent().then(() => true, () => false);
     const isLate = pause(inTime("flush", milliseconds), false, { ref: false });
-    Promise.race([isSent, isLate]).then((sent) => answer({ flushed: milliseconds, sent }));
+    Promise.race([isSent, isLate]).then((sent) => answer({ flushed: milliseconds, sent, words: flushed(this.#session, sent) }));
   }
 
   #other() {

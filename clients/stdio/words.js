@@ -24,3 +24,12 @@ export function lacking({ unsent, other }) {
   if (other !== null) return "the room has another text";
   return unsent.length === 0 ? "the room has all" : unsent.map(({ kind, text }) => `${kind}: ${text}`).join("\n");
 }
+
+/**
+ * Whether the room has what was done until a flush.
+ * @param {Session} session
+ * @param {boolean} sent
+ */
+export function flushed(session, sent) {
+  return sent ? "the room has it" : `the room doesn't have all of it: ${standing(session)}`;
+}

@@ -151,6 +151,14 @@ class Editor {
 /** What a program that has sent all says at its end, and its status. */
 const ALL = { sent: true, unsent: [], words: "the room has all", status: 0 };
 
+/** What a flush is answered: that the room has what was done before it, or how the session stands instead. */
+const flushed = (milliseconds, standing = null, id = undefined) => ({
+  flushed: milliseconds,
+  sent: standing === null,
+  words: standing === null ? "the room has it" : `the room doesn't have all of it: ${standing}`,
+  ...(id === undefined ? {} : { id }),
+});
+
 /** A room that has a text. */
 const roomOf = (text) => new MemoryRoom({ log: [{ c: [[0, 1]], k: "r", s: 0, p: null, x: text }], site: 1 });
 
@@ -161,7 +169,7 @@ async function replacesAtManyPlaces(server) {
   const places = Array.from({ length: 10_000 }, (_, n) => ({ replace: [13 * (n >> 1) + (n % 2) * 9 + (n >> 1), 3, "some"], more: n > 0 }));
   const starts = [...text.matchAll(/the/g)].map(({ index }) => index);
   const back = starts.reverse().map((at, n) => ({ replace: [at, 3, "some"], more: n > 0 }));
-  for (const changes of [[{ replace: [0, text.length, done] }], places, back]) {
+  for (const changes of [[{ whole: done }], places, back]) {
     server.turn(roomOf(text));
     const editor = new Editor(server);
     await editor.hears(({ news }) => news);
@@ -182,7 +190,7 @@ async function replacesAtManyPlaces(server) {
   }
 }
 
-/** Steps of changes at random places, in each count, become what a plain list becomes; half a pair (the last sign) is U+FFFD. */
+/** Steps of changes at random places, or told by whole texts, in each count, become what a plain list becomes; half a pair (the last sign) is U+FFFD. */
 async function stepsAtRandom(server) {
   const signs = ["a", "\r", "\n", "é", "漢", "😀", "😁", "\ud83d"];
   const counts = { units: (it) => it.length, characters: () => 1, bytes: (it) => (it === signs.at(-1) ? 1 : Buffer.byteLength(it)) };
@@ -194,8 +202,9 @@ async function stepsAtRandom(server) {
       const removed = roll(2) * roll(Math.min(6, list.length - at + 1));
       const put = Array.from({ length: roll(4) }, () => signs[roll(signs.length)]);
       const places = [list.slice(0, at), list.slice(at, at + removed)].map((it) => it.reduce((sum, sign) => sum + size(sign), 0));
-      editor.say({ replace: [...places, put.join("")], more: roll(6) > 0 });
       list.splice(at, removed, ...put);
+      const change = roll(8) > 0 ? { replace: [...places, put.join("")] } : { whole: list.join("") };
+      editor.say({ ...change, more: roll(6) > 0 });
       if (roll(40) > 0) continue;
       list.splice(0, list.length, ...list.map((it) => it.toWellFormed()));
       assert.equal(await editor.asks({ text: true }, "text"), list.join(""));
@@ -250,17 +259,17 @@ async function flushesWhatWasBefore(server) {
   types();
   editor.say({ flush: 10_000 });
   const typing = setInterval(types, 20);
-  assert.deepEqual(await editor.hears((it) => "flushed" in it), { flushed: 10_000, sent: true });
+  assert.deepEqual(await editor.hears((it) => "flushed" in it), flushed(10_000));
   clearInterval(typing);
   assert.ok(typed < 100, `it took till ${typed} characters were typed`);
   server.isSilent = true;
   types();
   editor.say({ flush: 100 }, { flush: Number.MAX_SAFE_INTEGER });
-  assert.deepEqual(await editor.hears((it) => "flushed" in it), { flushed: 100, sent: false });
+  assert.deepEqual(await editor.hears((it) => "flushed" in it), flushed(100, "sending"));
   await editor.comesTo("no answer");
   server.isSilent = false;
   server.turn(server.room);
-  assert.deepEqual(await editor.hears((it) => "flushed" in it), { flushed: Number.MAX_SAFE_INTEGER, sent: true });
+  assert.deepEqual(await editor.hears((it) => "flushed" in it), flushed(Number.MAX_SAFE_INTEGER));
   editor.say({ flush: 0 });
   assert.match((await editor.hears((it) => "wrong" in it)).wrong, /the value of flush/);
   assert.equal((await editor.closes()).status, 0);
@@ -300,7 +309,7 @@ async function answersById(server) {
   editor.say({ replace: [0, 0, "a"], id: 0 }, { flush: 100, id: 1 }, { flush: 100, id: [2] }, { text: true, id: "3" }, { take: true });
   assert.deepEqual(await editor.hears((it) => "text" in it), { text: "a", id: "3" });
   assert.deepEqual(await editor.hears((it) => "changes" in it), { changes: [] });
-  for (const id of [1, [2]]) assert.deepEqual(await editor.hears((it) => "flushed" in it), { flushed: 100, sent: false, id });
+  for (const id of [1, [2]]) assert.deepEqual(await editor.hears((it) => "flushed" in it), flushed(100, "sending", id));
   server.isSilent = false;
   server.turn(server.room);
   editor.say({ undo: true, id: null }, { close: true, id: { n: 4 } });
@@ -351,7 +360,8 @@ async function givesUpAtAnotherText(server) {
   server.turn(new MemoryRoom({ site: 7 }));
   for (const it of editors) assert.equal((await it.comesTo("another text")).ahead, true);
   editors[0].say({ flush: 10_000 }, { choose: "theirs" });
-  assert.deepEqual(await editors[0].hears((it) => "flushed" in it), { flushed: 10_000, sent: false });
+  assert.deepEqual(await editors[0].hears((it) => "flushed" in it), flushed(10_000, "up to date"));
+  assert.deepEqual(await editors[0].hears((it) => "chosen" in it), { chosen: "theirs", words: "up to date" });
   assert.deepEqual(await editors[0].closes(), ALL);
   assert.deepEqual(await editors[1].closes(), { sent: false, unsent: [], words: "the room has another text", status: 1 });
 }
@@ -368,7 +378,7 @@ async function endsBeforeItIsThere(server) {
   const alone = new Editor(nowhere);
   alone.say({ replace: [0, 0, text] }, { flush: 10_000 });
   assert.deepEqual(await alone.closes(), { sent: false, unsent: [{ kind: "put in", text }], words: `put in: ${text}`, status: 1 });
-  assert.deepEqual(await alone.hears((it) => "flushed" in it), { flushed: 10_000, sent: false });
+  assert.deepEqual(await alone.hears((it) => "flushed" in it), flushed(10_000, "closed"));
   const deaf = new Editor(nowhere);
   await deaf.hears(({ state }) => state !== undefined);
   deaf.child.stdout.pause();

@@ -135,7 +135,7 @@ class StdioTypist(threading.Thread):
                 raise EOFError
             if state == "another text" and time.monotonic() > chosen + 1:
                 chosen = time.monotonic()
-                self.say(choose=self.answer)
+                self.ask("chosen", choose=self.answer)
             if not self.reports.empty():
                 self.report()
             if self.is_typing and state not in ("joining", "another text", "refused"):
