@@ -486,7 +486,7 @@ def tries_commands():
             it.do("text-mode")
             it.put("typed ")
             it.save()
-            until(lambda: "The room has it" in it.screen, "it is saved")
+            until(lambda: "the room has it" in it.screen, "it is saved")
             assert room_text("left") == "typed unsent a\nb\n", "another major mode"
         it.clear()
         until(lambda: room_text("left") == "", "none")
