@@ -121,10 +121,10 @@ no character of a text becomes U+FFFD."
 
 (defun rgatext--step (room)
   "Tell and take what is new in a ROOM, once no command waits for its user.
-It may know places by their numbers, as a list of completions does.
+It may know places by their numbers, as a search and a list of completions do.
 That which reads a command's name knows none."
   (cond ((not (buffer-live-p room)))
-        ((or this-command
+        ((or this-command isearch-mode
              (> (recursion-depth) (if (eq minibuffer-history-variable 'extended-command-history) 1 0))
              (get-buffer-window "*Completions*" 'visible))
          (run-with-timer 0.1 nil #'rgatext--step room))
@@ -137,11 +137,18 @@ That which reads a command's name knows none."
 
 (defun rgatext--play (key)
   "Make the changes that a request by a KEY brings to the room. Gives the answer.
-Point and markers stay where they are in the text."
+Point and markers stay where they are in the text. So does the region: what
+others put in where it begins stands before it."
   (let* ((inhibit-quit t)
          (room (rgatext--room))
          (answer (rgatext--ask key t)))
-    (rgatext--make room (plist-get answer :changes))
+    (with-current-buffer (window-buffer)
+      (let* ((caret (point))
+             (mark (or (mark t) caret))
+             (start (copy-marker (min caret mark) t)))
+        (rgatext--make room (plist-get answer :changes))
+        (cond ((< mark caret) (set-marker (mark-marker) start))
+              ((and (< caret mark) (or mark-active (eq last-command 'yank))) (goto-char start)))))
     answer))
 
 (defun rgatext--make (room changes)

@@ -397,7 +397,7 @@ def tries_waiting():
 
 
 def tries_waiting_in_commands():
-    """While a command of Emacs waits for its user others' changes wait: it may know places by their numbers. A search and M-x know none."""
+    """While a command of Emacs or a search waits for its user others' changes wait: it may know places by their numbers. M-x knows none."""
     for it in of(Emacs):
         other = other_than(it)
         it.put("one two\rone two")
@@ -409,7 +409,7 @@ def tries_waiting_in_commands():
             ([*query, ["C-r"]], [["C-M-c"], "!"], "> one six\none six", True),
             ([rectangle, "six"], [["Enter"]], "> one six\none six", True),
             ([["M-<", "M-x"]], [["C-g"]], "> one two\none two", False),
-            ([["M-<", "C-s"], "two"], [["C-g"]], "> one two\none two", False),
+            ([["M-<", "C-s"], "two"], [["C-g"]], "> one two\none two", True),
         ):
             it.keys(*begins)
             other.put("> ")
@@ -434,6 +434,23 @@ def tries_waiting_in_commands():
         it.do("unexpand-abbrev")
         it.put("!", is_end=True)
         same("others' text stays", "> bar!")
+        it.clear()
+        for begins, ends, wanted in (
+            (["C-y"], ["M-y"], "> one two"),
+            (["C-u", "C-y"], ["M-y"], "> one two"),
+            (["C-y", "M-<", "C-Space", "M-f"], ["C-w"], ">  four"),
+            (["C-y", "M-<", "M-f", "C-Space", "M-<"], ["C-w"], ">  four"),
+            (["C-y", "M-<", "C-s"], ["f", "Enter", "C-w"], "> our"),
+        ):
+            same("none", "")
+            it.keys(["M-:"], '(progn (setq kill-ring nil) (kill-new "one two") (kill-new "three four"))', ["Enter"])
+            it.keys(begins)
+            other.put("> ")
+            until(lambda: room_text().startswith("> "), "others' text")
+            time.sleep(1)
+            it.keys(ends)
+            same(f"others' text at the beginning of the region of {begins} and {ends}", wanted)
+            it.clear()
         clear("waiting in commands")
 
 
