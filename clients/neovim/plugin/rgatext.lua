@@ -4,12 +4,15 @@ local folder = fn.fnamemodify(debug.getinfo(1, "S").source:sub(2), ":p:h:h:h")
 local program = { "--experimental-websocket", "--no-warnings", folder .. "/stdio/rgatext-stdio.mjs" }
 local carets, began = api.nvim_create_namespace("rgatext"), api.nvim_create_namespace("rgatext began")
 
--- Milliseconds: until it is told that the program is waited for, until the room has all, and until a busy editor is looked at again.
+-- Milliseconds: until it is told that the program is waited for, until the room has all, and until what is busy or late is looked at again.
 local ANSWER, SENDING, BUSY = 2000, 5000, 50
 
--- Whether others' text would come between what is done. (Replace mode knows by its place what stood under each letter that was typed.)
+local mode_before -- that which was left last
+
+-- Whether others' text would come between what is done. (Replace mode knows by its place what stood under each letter that was typed, and
+-- insertion in a block its lines by their numbers.)
 local function is_busy()
-  local is_free = { n = true, niI = true, i = true, t = true, nt = true }
+  local is_free = { n = true, niI = true, i = mode_before ~= "\22", t = true, nt = true }
   return not is_free[api.nvim_get_mode().mode] or fn.pumvisible() == 1
 end
 
@@ -33,8 +36,7 @@ end
 function Room:receive(line)
   local told = vim.json.decode(line)
   if told.closed then
-    self.closed = told
-    self:ends("has ended")
+    self:ends(told)
   elseif told.state or told.news or told.refused or told.wrong then
     vim.schedule(function() self:hear(told) end)
   else
@@ -59,22 +61,20 @@ end
 -- CTRL-C gives the program up.
 function Room:ask(request)
   local function is_done() return self.answer ~= nil or self.over ~= nil end
-  local late = uv.now() + (request.flush or 0) + ANSWER
+  local late, is_told = uv.now() + (request.flush or 0) + ANSWER, false
   self.answer = nil
   self:send(request)
-  while not is_done() and uv.now() < late do
-    vim.wait(late - uv.now(), is_done, 1, true) -- (CTRL-C ends it, too)
+  while not is_done() do
+    local _, why = vim.wait(math.max(late - uv.now(), BUSY), is_done, 1, true) -- (CTRL-C ends it, too)
+    if is_told and why == -2 then self:give_up() end
+    if not is_told and uv.now() >= late then
+      is_told = true
+      say("rgatext: waiting for its program; CTRL-C gives it up", "WarningMsg")
+      vim.cmd("redraw")
+    end
   end
-  if not is_done() then
-    say("rgatext: waiting for its program; CTRL-C gives it up", "WarningMsg")
-    vim.cmd("redraw")
-    repeat
-      local _, why = vim.wait(ANSWER, is_done, 1, true)
-      if why == -2 then self:give_up() end
-    until is_done()
-    say("")
-  end
-  return self.answer or self.closed or { words = "what the room doesn't have isn't known: its program " .. self.over }
+  if is_told then say("") end
+  return self.answer or self.over
 end
 
 -- What the program has isn't known any more. It sends what was written to it, and says what the room doesn't have.
@@ -83,14 +83,15 @@ function Room:give_up()
   self:ends("is still ending")
 end
 
--- Nobody carries changes any more.
-function Room:ends(how)
-  self.over = how
+-- Nobody carries changes any more: `last` is what the program told, or how it ended.
+function Room:ends(last)
+  local is_known = type(last) == "table"
+  self.over = is_known and last or { words = "what the room doesn't have isn't known: its program " .. last }
   vim.schedule(function()
     if not self:is_there() then return end
-    local last = self.closed or { sent = not vim.bo[self.buffer].modified, heard = self.sent }
-    local ahead = not last.sent or self:whole() ~= self.text
-    self:show({ state = "closed", words = "closed: its program has ended", ahead = ahead, heard = last.heard })
+    local ahead = vim.bo[self.buffer].modified
+    if is_known then ahead = not last.sent or self:whole() ~= self.text end
+    self:show({ state = "closed", words = "closed: its program has ended", ahead = ahead, heard = self.over.heard or self.sent })
   end)
 end
 
@@ -131,7 +132,7 @@ function Room:flush()
   local text = self:whole()
   if text ~= self.text then
     local is_current = api.nvim_get_current_buf() == self.buffer
-    self:send({ replace = { 0, #self.text, text }, caret = is_current and before(".") + fn.col(".") - 1 or nil })
+    self:send({ whole = text, caret = is_current and before(".") + fn.col(".") - 1 or nil })
     self.text, self.sent = text, self.sent + 1
   end
   self:show(self.told)
@@ -145,12 +146,15 @@ function Room:position(place)
   end))
 end
 
--- Plays changes that the program knows. Carets stay where they are in the text, and their lines where they are seen.
+-- Plays changes that the program knows. Carets stay where they are in the text: on their character, or in Insert mode behind that before.
+-- Their lines stay where they are seen.
 function Room:play(told)
-  local views = {}
+  local views, current = {}, api.nvim_get_current_win()
+  local is_inserting = api.nvim_get_mode().mode:find("i") ~= nil
   for _, window in ipairs(fn.win_findbuf(self.buffer)) do
     local view = api.nvim_win_call(window, fn.winsaveview)
-    view.mark = api.nvim_buf_set_extmark(self.buffer, carets, view.lnum - 1, view.col, { right_gravity = false })
+    local is_on_character = not (is_inserting and window == current)
+    view.mark = api.nvim_buf_set_extmark(self.buffer, carets, view.lnum - 1, view.col, { right_gravity = is_on_character })
     views[window] = view
   end
   vim.bo[self.buffer].modifiable = true
@@ -165,15 +169,16 @@ function Room:play(told)
   end
   for window, view in pairs(views) do
     local row, column = unpack(api.nvim_buf_get_extmark_by_id(self.buffer, carets, view.mark, {}))
-    if told.caret and window == api.nvim_get_current_win() then row, column = self:position(told.caret) end
+    if told.caret and window == current then row, column = self:position(told.caret) end
     view.topline = math.max(1, view.topline + row + 1 - view.lnum)
     view.lnum, view.col, view.curswant = row + 1, column, column == view.col and view.curswant or nil
     api.nvim_win_call(window, function() fn.winrestview(view) end)
   end
   api.nvim_buf_clear_namespace(self.buffer, carets, 0, -1)
-  row, column = self:began()
-  self:mark_began(row, column, false)
-  self.text, self.has_moved = self:whole(), true
+  local last_row, last_column = self:began()
+  self:mark_began(last_row, last_column, false)
+  self.has_moved = self.has_moved or last_row ~= row or last_column ~= column
+  self.text = self:whole()
   self:show(self.told)
 end
 
@@ -199,13 +204,14 @@ function Room:begin()
   self:mark_began(fn.line(".") - 1, fn.col(".") - 1, false)
 end
 
--- Deletes back to where Insert mode began, or else the line before the caret. Neovim's own CTRL-U knows that place by a column: it does until
--- others' changes come.
-function Room:erase()
-  if not self.has_moved then return api.nvim_feedkeys("\7u\21", "ni", false) end -- (CTRL-G u CTRL-U, as Neovim maps it)
+-- Deletes what a pattern finds before the caret: of what was typed since Insert mode began, or else of the line. Neovim's own key knows where
+-- that began by a row and a column: it does until others' changes come before it.
+function Room:erase(key, pattern)
   local row, column = fn.line(".") - 1, fn.col(".") - 1
+  if column == 0 or not self.has_moved then return api.nvim_feedkeys("\7u" .. key, "ni", false) end -- (CTRL-G u, as Neovim maps it)
   local began_row, began_column = self:began()
   local start = began_row == row and began_column < column and began_column or 0
+  start = start + fn.match(fn.getline("."):sub(start + 1, column), pattern)
   api.nvim_buf_set_text(self.buffer, row, start, row, column, { "" })
   fn.cursor(row + 1, start + 1)
 end
@@ -214,12 +220,9 @@ end
 function Room:write()
   self:flush()
   local answer = self:ask({ flush = SENDING })
-  if answer.flushed and answer.sent then
-    self.told.ahead, self.told.heard = false, self.sent
-    vim.bo[self.buffer].modified = false -- also where news is due
-  else
-    api.nvim_err_writeln("rgatext: the room doesn't have all of it: " .. self.told.words)
-  end
+  if not (answer.flushed and answer.sent) then return api.nvim_err_writeln("rgatext: " .. answer.words) end
+  self.told.ahead, self.told.heard = false, self.sent
+  vim.bo[self.buffer].modified = false -- also where news is due
 end
 
 -- Leaves the room. The program ends once what is new was sent, in two seconds.
@@ -236,7 +239,9 @@ local function open(buffer)
   local self = setmetatable({ buffer = buffer, text = "", sent = 0, is_due = false, input = uv.new_pipe() }, Room)
   local output, held, why = uv.new_pipe(), "", nil
   local arguments = vim.list_extend({ unpack(program) }, { address, name, "bytes" })
-  local function ends() self:ends("has ended without a word") end
+  local function ends()
+    if not (self.over and self.over.closed) then self:ends("has ended without a word") end
+  end
   self.process, why = uv.spawn("node", { args = arguments, stdio = { self.input, output, nil } }, ends)
   if not self.process then return api.nvim_err_writeln("rgatext: node can't be started: " .. why) end
   output:read_start(function(_, block)
@@ -256,7 +261,9 @@ local function open(buffer)
   for key, does in pairs({ u = "undo", U = "undo", ["<C-r>"] = "redo" }) do
     vim.keymap.set("n", key, function() self:turn(does) end, { buffer = buffer })
   end
-  vim.keymap.set("i", "<C-u>", function() self:erase() end, { buffer = buffer })
+  for key, pattern in pairs({ ["\21"] = "^", ["\23"] = [[\%(\k\+\|\%(\k\@!\S\)\+\)\?\s*$]] }) do -- CTRL-U and CTRL-W
+    vim.keymap.set("i", key, function() self:erase(key, pattern) end, { buffer = buffer })
+  end
 end
 
 -- A command for the room of the current buffer.
@@ -265,7 +272,6 @@ local function command(name, request)
     local room = rooms[api.nvim_get_current_buf()]
     if not room then return api.nvim_err_writeln("rgatext: this is no room") end
     room:step()
-    if request.choose then return room:send(request) end
     say(room:ask(request).words)
   end, {})
 end
@@ -283,10 +289,12 @@ local function of_room(does)
     if rooms[it.buf] then does(rooms[it.buf]) end
   end
 end
+on("ModeChanged", function() mode_before = vim.v.event.old_mode end, "*")
 on("BufReadCmd", function(it) open(it.buf) end)
 on("BufWriteCmd", function(it)
   local room = rooms[it.buf]
-  if not room or it.match ~= api.nvim_buf_get_name(it.buf) then return api.nvim_err_writeln("rgatext: a room is written only by its own buffer") end
+  local is_own = room and it.match == api.nvim_buf_get_name(it.buf)
+  if not is_own then return api.nvim_err_writeln("rgatext: a room is written only by its own buffer") end
   room:write()
 end)
 on("BufWritePost", of_room(Room.keep_in_step), "*") -- (a copy may set 'modified' off)
