@@ -2,7 +2,7 @@
 local api, fn, uv = vim.api, vim.fn, vim.loop
 local folder = fn.fnamemodify(debug.getinfo(1, "S").source:sub(2), ":p:h:h:h")
 local program = { "--experimental-websocket", "--no-warnings", folder .. "/stdio/rgatext-stdio.mjs" }
-local carets, began = api.nvim_create_namespace("rgatext"), api.nvim_create_namespace("rgatext began")
+local marks = api.nvim_create_namespace("rgatext")
 
 -- Milliseconds: until it is told that the program is waited for, until the room has all, and until what is busy or late is looked at again.
 local ANSWER, SENDING, BUSY = 2000, 5000, 50
@@ -85,6 +85,7 @@ end
 
 -- Nobody carries changes any more: `last` is what the program told, or how it ended.
 function Room:ends(last)
+  if self.over and self.over.closed then return end
   local is_known = type(last) == "table"
   self.over = is_known and last or { words = "what the room doesn't have isn't known: its program " .. last }
   vim.schedule(function()
@@ -146,21 +147,29 @@ function Room:position(place)
   end))
 end
 
+-- A mark that stays in the text: on the character behind it, or else behind the one before.
+function Room:mark(row, column, is_on_character)
+  return api.nvim_buf_set_extmark(self.buffer, marks, row, column, { right_gravity = is_on_character })
+end
+
+-- The row and the column of a mark.
+function Room:marked(mark) return unpack(api.nvim_buf_get_extmark_by_id(self.buffer, marks, mark, {})) end
+
 -- Plays changes that the program knows. Carets stay where they are in the text: on their character, or in Insert mode behind that before.
 -- Their lines stay where they are seen.
 function Room:play(told)
-  local views, current = {}, api.nvim_get_current_win()
-  local is_inserting = api.nvim_get_mode().mode:find("i") ~= nil
+  local views, current, had_moved = {}, api.nvim_get_current_win(), self.has_moved
+  local typing = api.nvim_get_mode().mode:find("i") and current -- the window that is typed in
   for _, window in ipairs(fn.win_findbuf(self.buffer)) do
     local view = api.nvim_win_call(window, fn.winsaveview)
-    local is_on_character = not (is_inserting and window == current)
-    view.mark = api.nvim_buf_set_extmark(self.buffer, carets, view.lnum - 1, view.col, { right_gravity = is_on_character })
+    view.mark = self:mark(view.lnum - 1, view.col, window ~= typing and self.text ~= "")
     views[window] = view
   end
   vim.bo[self.buffer].modifiable = true
-  local row, column = self:began()
+  local began_row, began_column = self:marked(self.began)
   local caret = api.nvim_win_get_cursor(0)
-  self:mark_began(row, column, caret[1] ~= row + 1 or caret[2] ~= column) -- (what comes there stands before what was typed)
+  local has_typed = caret[1] ~= began_row + 1 or caret[2] ~= began_column
+  local began = self:mark(began_row, began_column, has_typed)
   for _, it in ipairs(told.changes or {}) do -- (none where the program is over)
     local at, removed, text = unpack(it)
     local row, column = self:position(at)
@@ -168,16 +177,15 @@ function Room:play(told)
     api.nvim_buf_set_text(self.buffer, row, column, last_row, last_column, vim.split(text, "\n", { plain = true }))
   end
   for window, view in pairs(views) do
-    local row, column = unpack(api.nvim_buf_get_extmark_by_id(self.buffer, carets, view.mark, {}))
+    local row, column = self:marked(view.mark)
     if told.caret and window == current then row, column = self:position(told.caret) end
     view.topline = math.max(1, view.topline + row + 1 - view.lnum)
     view.lnum, view.col, view.curswant = row + 1, column, column == view.col and view.curswant or nil
     api.nvim_win_call(window, function() fn.winrestview(view) end)
   end
-  api.nvim_buf_clear_namespace(self.buffer, carets, 0, -1)
-  local last_row, last_column = self:began()
-  self:mark_began(last_row, last_column, false)
-  self.has_moved = self.has_moved or last_row ~= row or last_column ~= column
+  local row, column = self:marked(began)
+  self:begin(row, column)
+  self.has_moved = had_moved or row ~= began_row or column ~= began_column
   self.text = self:whole()
   self:show(self.told)
 end
@@ -190,26 +198,18 @@ function Room:turn(does)
   end
 end
 
--- Where Insert mode began: a row and a column.
-function Room:began() return unpack(api.nvim_buf_get_extmark_by_id(self.buffer, began, 1, {})) end
-
-function Room:mark_began(row, column, right_gravity)
-  api.nvim_buf_del_extmark(self.buffer, began, 1) -- (one that stays at its place would keep its gravity)
-  api.nvim_buf_set_extmark(self.buffer, began, row, column, { id = 1, right_gravity = right_gravity })
+-- Insert mode begins at a place.
+function Room:begin(row, column)
+  api.nvim_buf_clear_namespace(self.buffer, marks, 0, -1)
+  self.began, self.has_moved = self:mark(row, column, false), false
 end
 
--- Insert mode begins.
-function Room:begin()
-  self.has_moved = false
-  self:mark_began(fn.line(".") - 1, fn.col(".") - 1, false)
-end
-
--- Deletes what a pattern finds before the caret: of what was typed since Insert mode began, or else of the line. Neovim's own key knows where
--- that began by a row and a column: it does until others' changes come before it.
+-- Deletes what a pattern finds before the caret: in what was typed since Insert mode began, or else in the line. Neovim's key knows that
+-- place by its row and column: it does until others' changes come before it.
 function Room:erase(key, pattern)
   local row, column = fn.line(".") - 1, fn.col(".") - 1
   if column == 0 or not self.has_moved then return api.nvim_feedkeys("\7u" .. key, "ni", false) end -- (CTRL-G u, as Neovim maps it)
-  local began_row, began_column = self:began()
+  local began_row, began_column = self:marked(self.began)
   local start = began_row == row and began_column < column and began_column or 0
   start = start + fn.match(fn.getline("."):sub(start + 1, column), pattern)
   api.nvim_buf_set_text(self.buffer, row, start, row, column, { "" })
@@ -239,9 +239,7 @@ local function open(buffer)
   local self = setmetatable({ buffer = buffer, text = "", sent = 0, is_due = false, input = uv.new_pipe() }, Room)
   local output, held, why = uv.new_pipe(), "", nil
   local arguments = vim.list_extend({ unpack(program) }, { address, name, "bytes" })
-  local function ends()
-    if not (self.over and self.over.closed) then self:ends("has ended without a word") end
-  end
+  local function ends() self:ends("has ended without a word") end
   self.process, why = uv.spawn("node", { args = arguments, stdio = { self.input, output, nil } }, ends)
   if not self.process then return api.nvim_err_writeln("rgatext: node can't be started: " .. why) end
   output:read_start(function(_, block)
@@ -252,7 +250,7 @@ local function open(buffer)
     end
   end)
   rooms[buffer] = self
-  self:mark_began(0, 0, false)
+  self:begin(0, 0)
   for option, value in pairs({ swapfile = false, undolevels = -1, fileformat = "unix", fixendofline = false, endofline = false }) do
     vim.bo[buffer][option] = value
   end
@@ -299,6 +297,6 @@ on("BufWriteCmd", function(it)
 end)
 on("BufWritePost", of_room(Room.keep_in_step), "*") -- (a copy may set 'modified' off)
 on("BufUnload", of_room(Room.leave))
-on("InsertEnter", of_room(Room.begin))
+on("InsertEnter", of_room(function(room) room:begin(fn.line(".") - 1, fn.col(".") - 1) end))
 on("BufWinEnter", function() vim.wo.statusline = "%<%f  %{get(b:,'rgatext','')} %m%=%l,%c" end)
 vim.cmd("autocmd rgatext BufFilePre ws://*,wss://* throw 'rgatext: a room keeps its name; :w FILE saves a copy'") -- (Lua can't stop it)
