@@ -13,13 +13,15 @@
 (defconst rgatext--program
   (expand-file-name "../stdio/rgatext-stdio.mjs" (file-name-directory (or load-file-name buffer-file-name))))
 
+(defvar rgatext--has-typed nil "Whether the last command in a room changed its text.")
+
 (defvar-local rgatext--process nil "The program between the buffer and its room.")
 (defvar-local rgatext--held "" "The beginning of a line of the program.")
 (defvar-local rgatext--answer nil "What was answered since something was asked.")
 (defvar-local rgatext--told '(:state "joining" :words "joining" :heard 0) "How the session stands, as the program told it.")
 (defvar-local rgatext--over nil "What the program told at its end, where it carries no changes any more.")
 (defvar-local rgatext--sent 0 "How many times the text was sent.")
-(defvar-local rgatext--seen nil "The `buffer-chars-modified-tick' of the text that the program knows; nil while it changes.")
+(defvar-local rgatext--seen nil "The tick of the text that the program knows; nil while that changes.")
 (defvar-local rgatext--has-news nil "Whether there is something to take.")
 (defvar-local rgatext--is-due nil "Whether `rgatext--step' is to come.")
 
@@ -97,20 +99,19 @@ no character of a text becomes U+FFFD."
       (unless enable-multibyte-characters (set-buffer-multibyte t)) ; places are characters
       (when (rgatext--is-untold)
         (save-match-data
-          (save-excursion
-            (save-restriction
-              (widen)
-              (goto-char 1)
-              (while (re-search-forward "[^\0-\ud7ff\ue000-\U0010ffff]" nil t)
-                (replace-match "\ufffd" t t))
-              (setq rgatext--seen (buffer-chars-modified-tick)
-                    rgatext--sent (1+ rgatext--sent))
-              (rgatext--send :whole (buffer-substring-no-properties 1 (point-max)) :caret caret))))))))
+          (save-restriction
+            (widen)
+            (replace-regexp-in-region "[^\0-\ud7ff\ue000-\U0010ffff]" "\ufffd" 1)
+            (setq rgatext--seen (buffer-chars-modified-tick)
+                  rgatext--sent (1+ rgatext--sent))
+            (rgatext--send :whole (buffer-substring-no-properties 1 (point-max)) :caret caret)))))))
 
 (defun rgatext--command-ends ()
-  "Tell what was changed, also in an indirect buffer: that tells nothing itself."
-  (unless (or (null (buffer-local-value 'rgatext--process (rgatext--room))) (input-pending-p))
-    (rgatext--tell)))
+  "Tell what was changed, also in an indirect buffer: that tells nothing itself.
+What a macro does, or what is typed ahead, is told together."
+  (when (buffer-local-value 'rgatext--process (rgatext--room))
+    (setq rgatext--has-typed (with-current-buffer (rgatext--room) (rgatext--is-untold)))
+    (unless (or executing-kbd-macro (input-pending-p)) (rgatext--tell))))
 
 (defun rgatext--keep-in-step (&rest _)
   "Tell and take what is new, as soon as nothing else is done."
@@ -137,18 +138,22 @@ That which reads a command's name knows none."
 
 (defun rgatext--play (key)
   "Make the changes that a request by a KEY brings to the room. Gives the answer.
-Point and markers stay where they are in the text. So does the region: what
-others put in where it begins stands before it."
+Point and markers stay where they are in the text: what others put in at either
+end of the region isn't in it. Elsewhere point goes with the character behind
+it, but right after a change with that before it."
   (let* ((inhibit-quit t)
          (room (rgatext--room))
          (answer (rgatext--ask key t)))
     (with-current-buffer (window-buffer)
       (let* ((caret (point))
              (mark (or (mark t) caret))
-             (start (copy-marker (min caret mark) t)))
+             (is-region (or mark-active (eq last-command 'yank)))
+             (goes-on (if is-region (< caret mark) (not (or rgatext--has-typed (zerop (buffer-size))))))
+             (place (copy-marker caret goes-on))
+             (start (copy-marker mark t)))
         (rgatext--make room (plist-get answer :changes))
-        (cond ((< mark caret) (set-marker (mark-marker) start))
-              ((and (< caret mark) (or mark-active (eq last-command 'yank))) (goto-char start)))))
+        (goto-char place)
+        (when (< mark caret) (set-marker (mark-marker) start))))
     answer))
 
 (defun rgatext--make (room changes)
@@ -209,14 +214,16 @@ It shows in words what a REQUEST is answered."
 (defun rgatext--show (told)
   "Show how the session stands, as TOLD, in the mode line and by the flags."
   (setq rgatext--told told)
-  (dolist (it (buffer-list))
-    (when (memq (current-buffer) (list it (buffer-base-buffer it)))
-      (with-current-buffer it (setq buffer-read-only (and (member (plist-get told :state) '("refused" "closed")) t)))))
+  (let ((is-fixed (and (member (plist-get told :state) '("refused" "closed")) t)))
+    (unless (eq is-fixed buffer-read-only)
+      (dolist (it (buffer-list))
+        (when (memq (current-buffer) (list it (buffer-base-buffer it)))
+          (with-current-buffer it (setq buffer-read-only is-fixed))))))
   (restore-buffer-modified-p (rgatext--is-ahead))
   (force-mode-line-update t))
 
 (defun rgatext--ends (last)
-  "Nobody carries changes any more. LAST is what the program told, or a text of what became of it."
+  "Nobody carries changes any more. LAST is what the program told, or how it ended."
   (setq rgatext--over
         (if (stringp last) (list :words (concat "what the room doesn't have isn't known: its program " last)) last))
   (rgatext--show (list :state "closed" :words "closed: its program has ended"
@@ -251,7 +258,7 @@ It shows in words what a REQUEST is answered."
   (add-hook 'kill-buffer-query-functions #'rgatext--may-leave nil t))
 
 (defun rgatext--is-copied ()
-  "A copy of a room by `clone-buffer' is an ordinary buffer, and what was started for it ends."
+  "A copy of a room is an ordinary buffer, and what was started for it ends."
   (when rgatext--process
     (let ((copy (get-buffer-process (current-buffer))))
       (when copy

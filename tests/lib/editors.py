@@ -459,6 +459,7 @@ def tries_waiting_in_commands():
             (["C-y", "M-<", "C-Space", "M-f"], ["C-w"], ">  four"),
             (["C-y", "M-<", "M-f", "C-Space", "M-<"], ["C-w"], ">  four"),
             (["C-y", "M-<", "C-s"], ["f", "Enter", "C-w"], "> our"),
+            (["C-y", "M-<"], ["M-d"], ">  four"),
         ):
             same("none", "")
             it.keys(["M-:"], '(progn (setq kill-ring nil) (kill-new "one two") (kill-new "three four"))', ["Enter"])
@@ -511,6 +512,7 @@ def tries_commands():
             os.kill(program, signal.SIGSTOP)
             it.do("edit!")
             until(lambda: it.text == "unsent a\nb\n" and it.state == "up to date", "opened anew")
+            assert it.ask("line('.')") == "1", "it is shown from its beginning"
             os.kill(program, signal.SIGCONT)
             until(lambda: not pathlib.Path(f"/proc/{program}").exists(), "the program of before ends")
             time.sleep(0.5)
