@@ -459,6 +459,8 @@ def tries_waiting_in_commands():
             (["C-y", "M-<", "C-Space", "M-f"], ["C-w"], ">  four"),
             (["C-y", "M-<", "M-f", "C-Space", "M-<"], ["C-w"], ">  four"),
             (["C-y", "M-<", "C-s"], ["f", "Enter", "C-w"], "> our"),
+            (["C-y", "M-<", "C-Space", "M-f", "M-x"], [*"kill-region", "Enter"], ">  four"),
+            (["C-y", "M-<", "M-f", "C-Space", "M-<", "M-x"], [*"kill-region", "Enter"], ">  four"),
             (["C-y", "M-<"], ["M-d"], ">  four"),
         ):
             same("none", "")
