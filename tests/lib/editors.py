@@ -705,9 +705,12 @@ def tries_another_text():
         for site, whose in ((2, "mine"), (3, "theirs")):
             it.paste("here")
             until(lambda: room_text("another") == "here", "a text")
+            program = program_of(it)
+            os.kill(program, signal.SIGSTOP)  # (into an empty room it would put its text in again)
             server.kill()
             server.start(site)
             fill("another", "there")
+            os.kill(program, signal.SIGCONT)
             until(lambda: it.state.startswith("another text"), "another text", 60)
             assert it.text == "here"
             it.show_unsent()
