@@ -116,7 +116,7 @@ What a macro does, or what is typed ahead, is told together."
 (defun rgatext--keep-in-step (&rest _)
   "Tell and take what is new, as soon as nothing else is done."
   (with-current-buffer (rgatext--room)
-    (unless rgatext--is-due
+    (when (and rgatext--process (not rgatext--is-due)) ; (a copy of a room has the hook, too)
       (setq rgatext--is-due t)
       (run-with-timer 0 nil #'rgatext--step (current-buffer)))))
 

@@ -466,6 +466,7 @@ def tries_waiting_in_commands():
             same("none", "")
             it.keys(["M-:"], '(progn (setq kill-ring nil) (kill-new "one two") (kill-new "three four"))', ["Enter"])
             it.keys(begins)
+            until(lambda: room_text() == other.text == "three four", "what is yanked")
             other.put("> ")
             until(lambda: room_text().startswith("> "), "others' text")
             time.sleep(1)
