@@ -463,7 +463,9 @@ def tries_renewed_run():
         both = [Window(PAGES, kept.port), Mirror(PAGES, kept.port, "notes")]
         reader = Mirror(PAGES, kept.port, "notes")
         all_show = lambda text: all(it.text == text and it.state == "up to date" for it in (*both, reader))
-        both[0].type("one three.", Keys.BACKSPACE)
+        both[0].type("one three.")
+        until(lambda: all_show("one three."), "before a letter is deleted that the room has")
+        both[0].type(Keys.BACKSPACE)
         until(lambda: all_show("one three"), "before the room is renewed")
         both[1].select(4, 4)
         both[1].type("two ")
