@@ -267,13 +267,16 @@ export class Log {
       if (it === undefined || (site !== null && it.site !== site) || (n > 0 && it.site !== found[at].site)) return false;
       return isPut ? it.sign === signs[n] && (n === 0 || it.of === found[at + n - 1].stamp) : it.sign === "";
     };
+    const since = new Set(found.map(({ stamp }) => stamp));
+    const isOfSince = (operations) => operations.slice(0, isPut ? 1 : MOST).some(({ of }) => since.has(of)); // it wasn't there when it was sent
     for (let at = 0; at < (from === undefined ? found.length : 1); at += 1) {
       let count = 0;
       while (count < signs.length && isNext(at, count)) count += 1;
       const end = found[at + count];
       const isWhole = count === signs.length || (count > 0 && (end === undefined || end.sequence === 1));
       if (!isWhole) continue;
-      const isFound = document.accepted !== null || (await this.#areOf(found.slice(at, at + count), isPut ? [before] : signs));
+      const own = found.slice(at, at + count);
+      const isFound = document.accepted !== null || (!isOfSince(own) && (await this.#areOf(own, isPut ? [before] : signs)));
       if (isFound) return { from: first + at, count };
     }
     return null;

@@ -580,6 +580,16 @@ async function knowsThatItLeft() {
   assert.ok(!way.states.includes("another text"), "it is the same run");
 }
 
+/** A word is under way to a run that is kept, and another types it too, behind a letter that is alike but wasn't there when it was sent. */
+async function typesAWordBehindALikeLetter() {
+  const way = await begin("one two ");
+  const isLost = way.loseOnce("request", "ins");
+  way.editor.change(8, 0, "what ");
+  await isLost;
+  await typedBy(way.room, 8, "is what ");
+  await goOn(await keptRun(way.room), [way], "one two what is what ");
+}
+
 /** A word didn't come, and another typed the same elsewhere before the room was renewed: both are there. */
 async function typesAWordToo() {
   const way = await begin("one two three four five six");
@@ -692,6 +702,7 @@ await Promise.all([
   isPlayedInParts(3),
   knowsThatItLeft(),
   typesAWordToo(),
+  typesAWordBehindALikeLetter(),
   readsTheSame(),
 ]);
 await keepsWhatIsTypedAnew();
