@@ -580,23 +580,25 @@ async function knowsThatItLeft() {
   assert.ok(!way.states.includes("another text"), "it is the same run");
 }
 
+/** In a text a word is under way whose request is lost, and another types somewhere. */
+async function losesAWord(text, [at, word], [place, theirs]) {
+  const way = await begin(text);
+  const isLost = way.loseOnce("request", "ins");
+  way.editor.change(at, 0, word);
+  await isLost;
+  await typedBy(way.room, place, theirs);
+  return way;
+}
+
 /** A word is under way to a run that is kept, and another types it too, behind a letter that is alike but wasn't there when it was sent. */
 async function typesAWordBehindALikeLetter() {
-  const way = await begin("one two ");
-  const isLost = way.loseOnce("request", "ins");
-  way.editor.change(8, 0, "what ");
-  await isLost;
-  await typedBy(way.room, 8, "is what ");
+  const way = await losesAWord("one two ", [8, "what "], [8, "is what "]);
   await goOn(await keptRun(way.room), [way], "one two what is what ");
 }
 
 /** A word didn't come, and another typed the same elsewhere before the room was renewed: both are there. */
 async function typesAWordToo() {
-  const way = await begin("one two three four five six");
-  const isLost = way.loseOnce("request", "ins");
-  way.editor.change(4, 0, "the ");
-  await isLost;
-  await typedBy(way.room, 24, "the ");
+  const way = await losesAWord("one two three four five six", [4, "the "], [24, "the "]);
   const renewed = await renewedRun(way.room);
   way.isUp = true;
   way.cut(renewed);
