@@ -6,7 +6,6 @@
  * deletion that is new or under way. What is shown are the pieces that aren't gone. The room's text are the pieces that are its own.
  */
 import { along } from "./along.js";
-import { add } from "./changes.js";
 import { differences } from "./differences.js";
 import { Memory, runsOf } from "./memory.js";
 import { Piece } from "./piece.js";
@@ -307,7 +306,7 @@ export class Document {
       const isPut = piece.owner === "sent";
       if (isPut && piece.text.length >= SAME) this.#come.push(piece.text);
       if (isPut) this.#pieces.comes(piece);
-      else list.splice(index--, 1);
+      else this.#pieces.remove(index--);
       const way = isPut ? { at, taken: [], put: piece.text.length } : { at, taken: [remembered(piece)], put: 0 };
       this.#remember(from, [...piece.text].map((sign) => (isPut ? sign : "")), { ...way, isOwn: true });
       from += characters(piece.text);
@@ -380,14 +379,15 @@ export class Document {
   follow({ roomText, version, memory }, isLost = false) {
     const changes = [];
     const ways = [];
-    const { own } = this.memory;
+    const own = isLost ? this.memory.own : [];
     const before = this.roomText;
     const differ = differences(before, roomText);
     const gone = differ.map(({ at, removed }) => before.slice(at, at + removed));
     const moved = this.#come.splice(0).filter((it) => gone.some((text) => text.includes(it)));
     for (const { at, removed, text } of differ) {
-      ways.push({ at, taken: this.#pieces.rooms(at, removed).map(remembered), put: 0, isOwn: false }, ...waysOf(at, text, moved));
-      if (isLost) for (const way of runsOf(own, at, removed)) this.#undo(way, changes);
+      const taken = this.#pieces.rooms(at, removed);
+      ways.push({ at, taken: taken.map(remembered), put: 0, isOwn: false }, ...waysOf(at, text, moved));
+      if (isLost) for (const run of runsOf(own, at, removed)) this.#pieces.lose(run, changes);
       else this.#pieces.take(at, removed, changes);
       if (text !== "") this.#pieces.put(at, text, changes);
     }
@@ -402,38 +402,13 @@ export class Document {
    * undone: they do it again. Gives the changes of the shown text.
    */
   goBack(length) {
-    const changes = [];
+    const ways = [];
     this.takeBack();
-    this.#pieces.awaitLost();
-    for (const { from, ways } of this.memory.since(length)) {
-      for (const way of ways.reverse()) this.#undo(way, changes);
-      this.version = Math.min(this.version, from);
+    for (const entry of this.memory.since(length)) {
+      ways.push(...entry.ways.reverse());
+      this.version = Math.min(this.version, entry.from);
     }
-    for (const [index, piece] of this.#pieces.list.entries()) {
-      if (!piece.isRooms || piece.gone !== "others") continue;
-      piece.gone = null;
-      add(changes, { at: this.#pieces.shownPlace(index), removed: 0, text: piece.text });
-    }
-    this.#pieces.join();
-    return changes;
-  }
-
-  #undo({ at, taken, put, isOwn }, changes) {
-    const { list } = this.#pieces;
-    for (const piece of this.#pieces.rooms(at, put)) {
-      const index = list.indexOf(piece);
-      if (isOwn && piece.isShown) {
-        piece.owner = "new";
-      } else if (isOwn || piece.gone === "others") {
-        list.splice(index, 1); // it was deleted since
-      } else {
-        this.#pieces.lose(piece, changes);
-      }
-    }
-    const old = taken.map(({ text, isMine, since }) => new Piece(text, "room", isMine ? "new" : "others", 0, since));
-    const index = this.#pieces.atRooms(at);
-    list.splice(index, 0, ...old);
-    if (old.length === 1) this.#pieces.joinAt(index); // (what another took out letter by letter would be as many pieces)
+    return this.#pieces.goBack(ways);
   }
 
   /** The room has the text with another log, of which so many operations make it. */

@@ -36,6 +36,11 @@ export class Gap {
     return all;
   }
 
+  /** The number at a place. */
+  at(place) {
+    return this.#numbers[place < this.#start ? place : place + this.#end - this.#start];
+  }
+
   /** Whether these are all of the list. */
   is(numbers) {
     if (numbers.length !== this.length) return false;

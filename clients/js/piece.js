@@ -55,6 +55,17 @@ export class Piece {
     return isShort && ["owner", "gone", "order", "since"].every((it) => this[it] === other[it]);
   }
 
+  /**
+   * The room lost it: what was put in here is new again, and what others put in stands unseen. Gives whether it is still there: it may have
+   * been deleted since.
+   */
+  lose(isOwn) {
+    if (isOwn ? !this.isShown : this.gone === "others") return false;
+    this.owner = isOwn ? "new" : "lost";
+    if (!isOwn) this.gone ??= "others";
+    return true;
+  }
+
   /** Takes in a piece of its kind that stands behind it. */
   join(next) {
     this.text += next.text;

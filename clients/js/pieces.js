@@ -4,6 +4,7 @@
  */
 import { joined } from "./along.js";
 import { add } from "./changes.js";
+import { Gap } from "./gap.js";
 import { Piece } from "./piece.js";
 
 /**
@@ -18,10 +19,20 @@ export const SAME = 3;
 
 export class Pieces {
   /** @type {Piece[]} */
-  list = [];
+  #list = [];
+  #signs = null; // how often each character stands in what isn't lost, once that was asked for
   #lostUntil = 0; // what others put in and the room lost is waited for till then
   #waits = 0; // how often it was waited so
   #soonUntil = 0; // as long as others put it in again, and some time more
+
+  get list() {
+    return this.#list;
+  }
+
+  set list(list) {
+    this.#list = list;
+    this.#signs = null;
+  }
 
   /** The text of some of them. */
   text(isWanted) {
@@ -30,17 +41,18 @@ export class Pieces {
 
   /** The number of the piece of the room's that begins at the place of its text: one that the place is inside of is cut there. */
   atRooms(k) {
-    let before = 0;
-    for (const [index, piece] of this.list.entries()) {
-      if (!piece.isRooms) continue;
-      if (k === before) return index;
-      if (k < before + piece.text.length) {
-        this.cut(index, k - before);
+    let rest = k;
+    for (let index = 0; index < this.list.length; index += 1) {
+      const { isRooms, text } = this.list[index];
+      if (!isRooms) continue;
+      if (rest === 0) return index;
+      if (rest < text.length) {
+        this.cut(index, rest);
         return index + 1;
       }
-      before += piece.text.length;
+      rest -= text.length;
     }
-    if (k !== before) throw new RangeError("beyond the room's text");
+    if (rest !== 0) throw new RangeError("beyond the room's text");
     return this.list.length;
   }
 
@@ -75,6 +87,12 @@ export class Pieces {
   /** Cuts a piece: what stands behind the place is the next one. */
   cut(index, place) {
     if (place < this.list[index].text.length) this.list.splice(index + 1, 0, this.list[index].cut(place));
+  }
+
+  /** Takes a piece out that isn't lost. */
+  remove(index) {
+    const [{ text }] = this.list.splice(index, 1);
+    this.#count(text, -1);
   }
 
   /** Joins the pieces round a number that are of one kind, but for what is lost, which may be looked at. */
@@ -144,6 +162,20 @@ export class Pieces {
     return rest;
   }
 
+  /** How often a character stands in what isn't lost. */
+  #countOf(sign) {
+    if (this.#signs === null) {
+      this.#signs = new Map();
+      for (const { text, isLost } of this.list) if (!isLost) this.#count(text, 1);
+    }
+    return this.#signs.get(sign) ?? 0;
+  }
+
+  /** A text is there once more, or less, that isn't lost. */
+  #count(text, by) {
+    if (this.#signs !== null) for (const sign of text) this.#signs.set(sign, (this.#signs.get(sign) ?? 0) + by);
+  }
+
   /**
    * The parts of a text that others put in, each with the lost piece that it is where they put it in again. That is so where the text was
    * lost there in one piece; but a letter or two may be anybody's, so they count soon, and where nothing else was lost there. Else it is so
@@ -165,10 +197,9 @@ export class Pieces {
       }
       return parts;
     }
-    const others = this.text((piece) => !piece.isLost) + text;
+    const standsOnce = (sign, within) => within.includes(sign) && within.indexOf(sign) === within.lastIndexOf(sign);
     for (const sign of text) {
-      const isOnce = all.includes(sign) && all.indexOf(sign) === all.lastIndexOf(sign) && others.indexOf(sign) === others.lastIndexOf(sign);
-      if (isOnce) {
+      if (standsOnce(sign, all) && standsOnce(sign, text) && this.#countOf(sign) === 0) {
         const it = lost.find((piece) => piece.text.includes(sign));
         const piece = this.#lostPart(it, it.text.indexOf(sign), sign.length);
         lost = this.#lostAt(k);
@@ -188,9 +219,9 @@ export class Pieces {
    */
   put(k, text, changes) {
     for (const { text: part, piece } of this.hasLost ? this.#parts(k, text) : [{ text, piece: null }]) {
-      const index = this.list.indexOf(piece);
-      const isThere = piece !== null && this.roomPlace(index) === k;
-      if (piece !== null) this.list.splice(index, 1);
+      const index = piece === null ? -1 : this.list.indexOf(piece);
+      const isThere = index >= 0 && this.roomPlace(index) === k;
+      if (index >= 0) this.list.splice(index, 1);
       if (piece !== null && this.#isSoon) this.#soonUntil = Date.now() + SOON;
       this.#place(isThere ? index : this.atRooms(k), part, piece === null || piece.gone === "others" ? null : "new", changes);
       k += part.length;
@@ -200,6 +231,7 @@ export class Pieces {
   #place(index, text, gone, changes) {
     const { list } = this;
     if (gone === null) add(changes, { at: this.shownPlace(index), removed: 0, text });
+    this.#count(text, 1);
     const piece = new Piece(text, "room", gone, 0, this.#now);
     const left = list[index - 1];
     if (left?.isLike(piece)) left.text += text;
@@ -215,17 +247,76 @@ export class Pieces {
     for (const piece of taken) {
       index = list.indexOf(piece);
       if (piece.isShown) add(changes, { at: this.shownPlace(index), removed: piece.text.length, text: "" });
-      list.splice(index, 1);
+      this.remove(index);
     }
     this.joinAt(index);
     return taken;
   }
 
-  /** The room lost what others put in: it stands unseen where it stood. */
-  lose(piece, changes) {
-    if (piece.isShown) add(changes, { at: this.shownPlace(this.list.indexOf(piece)), removed: piece.text.length, text: "" });
-    piece.owner = "lost";
-    piece.gone ??= "others";
+  /** The room lost so many units from a place on, all put in here, or all by others. */
+  lose({ at, put, isOwn }, changes) {
+    for (const piece of this.rooms(at, put)) {
+      const index = this.list.indexOf(piece);
+      if (piece.isShown && !isOwn) add(changes, { at: this.shownPlace(index), removed: piece.text.length, text: "" });
+      if (!piece.lose(isOwn)) this.remove(index);
+      else if (!isOwn) this.#count(piece.text, -1);
+    }
+  }
+
+  /**
+   * The room lost what came in these ways, the last one first, and others are waited for to do it again. Each unit has a number meanwhile:
+   * the room's text is a list of these, and of each unit it is told which one stands before it, and who put it in where it is lost.
+   * @param {import("./memory.js").Way[]} ways
+   */
+  goBack(ways) {
+    this.awaitLost();
+    const units = [];
+    const number = (piece) => {
+      for (let place = 0; place < piece.text.length; place += 1) units.push({ piece, place, before: units.length - 1, isOwn: null });
+    };
+    for (const piece of [...this.list, new Piece(" ", "room")]) number(piece); // the last one is the end
+    const end = units.at(-1);
+    const rooms = new Gap(Int32Array.from(units.keys()).filter((n) => units[n].piece.isRooms));
+    for (const { at, taken, put, isOwn } of ways) {
+      const first = units.length;
+      for (const { text, isMine, since } of taken) number(new Piece(text, "room", isMine ? "new" : "others", 0, since));
+      const old = Array.from({ length: units.length - first }, (_, n) => first + n);
+      for (const n of rooms.replace(at, put, old)) units[n].isOwn = isOwn;
+      const next = units[rooms.at(at + old.length)];
+      if (old.length > 0) [units[first].before, next.before] = [next.before, units.length - 1];
+    }
+    const list = [];
+    for (let last = end.before; last >= 0; ) {
+      const { piece, place, isOwn } = units[last];
+      let first = last;
+      while (units[first].place > 0 && units[first].before === first - 1 && units[first - 1].isOwn === isOwn) first -= 1;
+      const part = piece.part(units[first].place, place + 1);
+      if (isOwn === null || part.lose(isOwn)) list.push(part);
+      last = units[first].before;
+    }
+    this.list = list.reverse();
+    return this.#seen();
+  }
+
+  /** What others put in and the room lost is shown no more, and what they deleted is shown again. Gives the changes of the shown text. */
+  #seen() {
+    const changes = [];
+    const isUnseen = ({ isLost, gone }) => isLost && gone === "others";
+    const before = this.list.filter((piece) => piece.isShown || isUnseen(piece));
+    let at = before.reduce((sum, { text }) => sum + text.length, 0);
+    for (const piece of before.reverse()) {
+      at -= piece.text.length;
+      if (isUnseen(piece)) add(changes, { at, removed: piece.text.length, text: "" });
+    }
+    for (const piece of this.list) {
+      if (piece.isRooms && piece.gone === "others") {
+        piece.gone = null;
+        add(changes, { at, removed: 0, text: piece.text });
+      }
+      if (piece.isShown) at += piece.text.length;
+    }
+    this.join();
+    return changes;
   }
 
   /** A character that was under way is the room's now. Where it stands elsewhere than it is shown, what is pending there moves. */

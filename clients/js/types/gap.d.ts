@@ -6,6 +6,8 @@ export class Gap {
     get length(): number;
     /** All of the list, as numbers of their own. */
     get all(): Int32Array;
+    /** The number at a place. */
+    at(place: any): number;
     /** Whether these are all of the list. */
     is(numbers: any): boolean;
     /** Takes so many off at a place, puts others in there, and gives what was taken off. */

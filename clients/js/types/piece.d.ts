@@ -18,6 +18,11 @@ export class Piece {
     cut(place: any): Piece;
     /** Whether both are of one kind, so that they may be one piece. Two of the room's that are long stay two, since a cut copies a piece. */
     isLike(other: any): boolean;
+    /**
+     * The room lost it: what was put in here is new again, and what others put in stands unseen. Gives whether it is still there: it may have
+     * been deleted since.
+     */
+    lose(isOwn: any): boolean;
     /** Takes in a piece of its kind that stands behind it. */
     join(next: any): void;
 }

@@ -1,8 +1,8 @@
 /** So many units of a text are surely the same where they come again. */
 export const SAME: 3;
 export class Pieces {
-    /** @type {Piece[]} */
-    list: Piece[];
+    set list(arg: Piece[]);
+    get list(): Piece[];
     /** The text of some of them. */
     text(isWanted: any): string;
     /** The number of the piece of the room's that begins at the place of its text: one that the place is inside of is cut there. */
@@ -15,6 +15,8 @@ export class Pieces {
     shownPlace(index: any): number;
     /** Cuts a piece: what stands behind the place is the next one. */
     cut(index: any, place: any): void;
+    /** Takes a piece out that isn't lost. */
+    remove(index: any): void;
     /** Joins the pieces round a number that are of one kind, but for what is lost, which may be looked at. */
     joinAt(index: any): void;
     /** Joins all neighbours of one kind. */
@@ -31,8 +33,18 @@ export class Pieces {
     put(k: any, text: any, changes: any): void;
     /** Units of the room's text that are deleted, by whom ever. What was gone is gone for good. Gives the pieces. */
     take(k: any, units: any, changes: any): Piece[];
-    /** The room lost what others put in: it stands unseen where it stood. */
-    lose(piece: any, changes: any): void;
+    /** The room lost so many units from a place on, all put in here, or all by others. */
+    lose({ at, put, isOwn }: {
+        at: any;
+        put: any;
+        isOwn: any;
+    }, changes: any): void;
+    /**
+     * The room lost what came in these ways, the last one first, and others are waited for to do it again. Each unit has a number meanwhile:
+     * the room's text is a list of these, and of each unit it is told which one stands before it, and who put it in where it is lost.
+     * @param {import("./memory.js").Way[]} ways
+     */
+    goBack(ways: import("./memory.js").Way[]): any[];
     /** A character that was under way is the room's now. Where it stands elsewhere than it is shown, what is pending there moves. */
     settle(k: any, ch: any, changes: any): void;
     /** What was under way is the room's now. */
