@@ -62,14 +62,16 @@ async function wayWithin(document, room, log, edits) {
     }
     return changes;
   };
-  const mayBeNew = lost?.kept > 0 && lost.kept <= memory.joined && ownIn(document, room.roomText) > 0;
+  let told = null;
+  const own = () => (told ??= ownIn(document, room.roomText)); // once at most: of a long text it takes a while
+  const mayBeNew = lost?.kept > 0 && lost.kept <= memory.joined && own() > 0;
   if (lost?.isSure && !mayBeNew) return goBack(lost);
   const first = await log.firstText(room);
   if (lost?.isSure && first?.version < lost.kept) return goBack(lost);
-  const isOlder = memory.joined > 0 && !(lost?.kept > 0) && isShorter(document, room, first);
+  const isOlder = memory.joined > 0 && !(lost?.kept > 0) && isShorter(document, room, first, own);
   const before = first === null ? null : textBefore(document, first.text);
   if (first?.text === document.roomText) return () => renew(document, first, before);
-  const isBefore = isOlder && ownIn(document, room.roomText) <= 0;
+  const isBefore = isOlder && own() <= 0;
   if (isBefore) return goBack({ kept: memory.joined, isBefore });
   const isAgain = lost?.kept === 0 && first !== null && memory.sites.has(first.last[0].site);
   const isOfOthers = memory.base === 0 && memory.joined > 0; // what was joined last: one's own was lost before, and came in again behind it
@@ -86,11 +88,10 @@ async function wayWithin(document, room, log, edits) {
  * there. A room that is renewed by hand begins with a text of site 0, which may be as long: then another site has to have as many, too, or
  * what was put in here is missing.
  */
-function isShorter(document, room, first) {
-  const { counts } = document;
+function isShorter({ counts }, room, first, own) {
   const same = [...counts.keys()].filter((site) => room.counts.get(site) === counts.get(site));
   const site = first?.last[0].site;
-  return same.includes(site) && (same.length > 1 || site > 0 || first.version < counts.get(site) || ownIn(document, room.roomText) < 0);
+  return same.includes(site) && (same.length > 1 || site > 0 || first.version < counts.get(site) || own() < 0);
 }
 
 /**
