@@ -360,6 +360,7 @@ def edits_to(elements, text):
         if it.place is None:
             edits.append(["d", at])
         else:
-            edits += (["i", n, text[n]] for n in range(at, it.place))
+            for n in range(at, it.place):
+                edits.append(["i", n, text[n]])
             at = it.place + 1
     return edits + [["i", n, text[n]] for n in range(at, len(text))]
