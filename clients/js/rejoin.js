@@ -148,13 +148,22 @@ function inCommon(from, to) {
   return units;
 }
 
-/** Whether a text has what was put in and is under way, where it is shown or, in one piece and as nobody else types it, elsewhere. */
+/**
+ * Whether a text has what was put in and is under way: in one piece, as nobody else types it; or where it is shown, since the text is
+ * nearer with it and has it in one piece beside what it was put in beside, or is no further with it in pieces.
+ */
 function hasCome({ roomText, textToCome, underWay }, text) {
   if (!underWay?.isPut) return false;
   const put = underWay.signs.join("");
+  const [old, now] = [roomText, text].map((it) => `\0${it}\0`);
+  const isMore = (piece) => now.split(piece).length > old.split(piece).length;
   const isRare = put.length >= LONG || (put.length >= SAME && underWay.signs.some((sign) => !roomText.includes(sign)));
-  const isElsewhere = isRare && text.split(put).length > roomText.split(put).length;
-  return isElsewhere || distance(textToCome, text) < distance(roomText, text);
+  if (isRare && isMore(put)) return true;
+  const isBeside = isMore(old[underWay.k] + put) || isMore(put + old[underWay.k + 1]);
+  if (isBeside && distance(textToCome, text) < distance(roomText, text)) return true;
+  const signs = new Map();
+  const [before, come, there] = [roomText, textToCome, text].map((it) => inPieces(it, signs));
+  return distance(come, there) <= distance(before, there);
 }
 
 /**
@@ -210,6 +219,20 @@ function lackingOf(entries, roomText, wanted) {
     if (sum === best) most = n + 1;
   }
   return [least, most];
+}
+
+/**
+ * A text as its pieces of `SAME` units, and what is shorter at its ends, each as the sign that stands for it: letters of another text are
+ * like its own in their order, and hardly ever these.
+ */
+function inPieces(text, signs) {
+  let pieces = "";
+  for (let end = 1; end < text.length + SAME; end += 1) {
+    const piece = text.slice(Math.max(0, end - SAME), end);
+    if (!signs.has(piece)) signs.set(piece, String.fromCodePoint(0x10000 + signs.size));
+    pieces += signs.get(piece);
+  }
+  return pieces;
 }
 
 /** How often each piece of `SAME` units stands in a text. */

@@ -606,6 +606,23 @@ async function typesAWordToo() {
   await endsAs(way, "one the two three four five the six");
 }
 
+/** A word didn't come, and what another typed at its place has its letters in their order, when the room was renewed: both are there. */
+async function typesMuchBesideAWord() {
+  const way = await losesAWord("one two ", [8, "keeps "], [8, "like he has some pies "]);
+  await goOn(await anewRun(way.room), [way], "one two keeps like he has some pies ");
+}
+
+/** A word came, another typed beside it, and deleted of it or typed a little in it, before the room was renewed: it is there once. */
+async function typesBesideAWordThatCame(word, change, text) {
+  const way = await begin("one two ");
+  const isLost = way.loseOnce("answer", "ins");
+  way.editor.change(8, 0, word);
+  await isLost;
+  await typedBy(way.room, 8, "what ");
+  await change(way.room);
+  await goOn(await anewRun(way.room), [way], text);
+}
+
 /** What was lost and is typed anew, some time after another deleted it, is wanted: it stays. */
 async function keepsWhatIsTypedAnew() {
   const [one, other] = await two("Sum: ", "7 apples");
@@ -705,6 +722,10 @@ await Promise.all([
   knowsThatItLeft(),
   typesAWordToo(),
   typesAWordBehindALikeLetter(),
+  typesMuchBesideAWord(),
+  typesBesideAWordThatCame("I", () => {}, "one two what I"),
+  typesBesideAWordThatCame("three four", (room) => deletedBy(room, 14, 4), "one two what t four"),
+  typesBesideAWordThatCame("three four", (room) => typedBy(room, 16, "-"), "one two what thr-ee four"),
   readsTheSame(),
 ]);
 await keepsWhatIsTypedAnew();
