@@ -242,16 +242,19 @@ export class Log {
    * @param {number} to
    */
   async is(document, from, to) {
-    const found = await this.find(document, from);
+    const found = await this.find(document, 0, from);
     return found !== null && found.count === document.underWay.signs.length && found.from + found.count === to;
   }
 
   /**
    * Where the log has what a document has under way: behind what the document knows, and in one piece; or its beginning alone, where the
-   * log lost the end. Null where it hasn't. `from`: the version that it leads from, where that is known.
+   * log lost the end. Null where it hasn't. `others`: so many operations are surely others'; `from`: the version that it leads from, where
+   * that is known.
    * @param {Document} document
+   * @param {number} others
+   * @param {number} [from]
    */
-  async find(document, from = document.accepted?.[0]) {
+  async find(document, others, from = document.accepted?.[0]) {
     const { version, site, roomText, underWay } = document;
     const { isPut, k, signs } = underWay;
     const before = k === 0 ? "" : [...roomText.slice(0, k)].at(-1);
@@ -269,7 +272,7 @@ export class Log {
     };
     const since = new Set(found.map(({ stamp }) => stamp));
     const isOfSince = (operations) => operations.slice(0, isPut ? 1 : MOST).some(({ of }) => since.has(of)); // it wasn't there when it was sent
-    for (let at = 0; at < (from === undefined ? found.length : 1); at += 1) {
+    for (let at = from === undefined ? others : 0; at < (from === undefined ? found.length : 1); at += 1) {
       let count = 0;
       while (count < signs.length && isNext(at, count)) count += 1;
       const end = found[at + count];

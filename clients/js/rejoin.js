@@ -25,15 +25,16 @@ const FAR = 2_000;
 
 /**
  * How a document comes to a room's text, as far as the room is known: a call that does so, and gives the changes of what is shown. Null
- * where the room has another text. `edits` are such as lead from the document's version on.
+ * where the room has another text. `edits` are such as lead from the document's version on, and so many of them are surely `others`'.
  * @param {Document} document
  * @param {Document} room
  * @param {import("./log.js").Log} log
  * @param {Edit[]} edits
+ * @param {number} [others]
  * @returns {Promise<(() => Change[]) | null>}
  */
-export async function wayTo(document, room, log, edits) {
-  const way = await wayWithin(document, room, log, edits);
+export async function wayTo(document, room, log, edits, others = 0) {
+  const way = await wayWithin(document, room, log, edits, others);
   const isSame = room.roomText === document.textToCome;
   if (way === null && !isSame && document.roomText !== "") return null; // who shows nothing has nothing to choose
   return () => {
@@ -47,10 +48,10 @@ export async function wayTo(document, room, log, edits) {
 }
 
 /** How a document comes to what its log has in common with the room's. */
-async function wayWithin(document, room, log, edits) {
+async function wayWithin(document, room, log, edits, others) {
   const { memory } = document;
   const goesOn = await log.goesOn(document);
-  const found = goesOn && document.isWaiting ? await log.find(document) : null;
+  const found = goesOn && document.isWaiting ? await log.find(document, others) : null;
   const knows = document.version > 0 || found !== null || !document.isWaiting; // any log goes on from nothing, a new document's too
   if (goesOn && knows) return () => settle(document, found, edits);
   const lost = await log.upTo(document);

@@ -17,6 +17,9 @@ export class OutOfStep extends Error {
 
 export const pause = (milliseconds) => new Promise((resolve) => setTimeout(resolve, milliseconds));
 
+/** Whether this answers an empty submission, by the first number of a session, where nothing has come of that. */
+const isUnused = ({ n }) => n === 8 || n === 10;
+
 /** What a refused request leads to. */
 function refusal(number) {
   if (number === 25) return new Lost();
@@ -98,8 +101,7 @@ export class Seat {
   /** Leaves what was joined on a line that was lost before its log was known, where it is unused and its text leads to the room's. */
   async #leaveUnknown({ s, v, x }, { version, roomText }, number) {
     if (s >= number) return; // another run: the numbers of one go up
-    const { n } = await this.#again(1, s);
-    if (n !== 8 && n !== 10) return;
+    if (!isUnused(await this.#again(1, s))) return;
     const document = new Document(x, v);
     const edits = await this.editsSince(document, s);
     if (edits === null) return;
@@ -157,7 +159,7 @@ export class Seat {
     }
     if (reply.n === 13) throw new Refused(13);
     if (isSame) return (await this.log.goesOn(document)) ? "same" : "another";
-    return n === 0 && (reply.n === 8 || reply.n === 10) ? "unused" : "another";
+    return n === 0 && isUnused(reply) ? "unused" : "another";
   }
 
   /**
@@ -169,6 +171,11 @@ export class Seat {
   async isOwn(found, document) {
     if (found !== "unused" || !(await this.log.goesOn(document))) return found === "same";
     return (await this.ask({ t: "pull", s: this.#number, have: document.version, max: 1 })).r === "edits";
+  }
+
+  /** Whether nothing has come of the session until now: what is under way may come yet, but isn't among what was pulled. */
+  async isUnused() {
+    return isUnused(await this.#again(1));
   }
 
   /** Asks for edits from a version on. */

@@ -473,10 +473,11 @@ export class Session extends /** @type {{new (): Tells & EventTarget}} */ (Event
    */
   async #joinAnew(isOwn) {
     const edits = isOwn && this.#current === this.document ? await this.#seat.editsSince(this.document) : null;
+    const others = edits !== null && (await this.#seat.isUnused()) ? edits.length : 0;
     if (isOwn) await this.#seat.giveUp();
     const room = await this.#seat.join();
     this.#joined = room; // where the line is lost before the way is found, the session that is left is known by this
-    const go = await wayTo(this.document, room, this.#seat.log, edits ?? []);
+    const go = await wayTo(this.document, room, this.#seat.log, edits ?? [], others);
     this.#joined = null;
     if (go === null) {
       this.#other = room;

@@ -270,6 +270,17 @@ async function comesLate(kind) {
   await endsAs(way, "minetheirs");
 }
 
+/** The first letter of a session doesn't come, and another types the same at its place, in the same run: both are there. */
+async function typesALetterToo() {
+  const way = await begin("", false);
+  const isLost = way.loseOnce("request", "ins");
+  way.editor.change(0, 0, "a");
+  await isLost;
+  await typedBy(way.room, 0, "a");
+  way.isUp = true;
+  await endsAs(way, "aa");
+}
+
 /** An `ok` was seen, and the pull behind it lost; others deleted most of what came, and the run is a kept one. */
 async function isAcceptedAndDeleted() {
   const way = await begin("text ");
@@ -433,6 +444,7 @@ await Promise.all([
   isRefusedAtTheRepeat(),
   comesLate("leave"),
   comesLate("pull"),
+  typesALetterToo(),
   isAcceptedAndDeleted(),
   losesMuchOfItsOwn(),
   leavesWhatItJoined(),

@@ -53,10 +53,13 @@ export class Log {
     is(document: Document, from: number, to: number): Promise<boolean>;
     /**
      * Where the log has what a document has under way: behind what the document knows, and in one piece; or its beginning alone, where the
-     * log lost the end. Null where it hasn't. `from`: the version that it leads from, where that is known.
+     * log lost the end. Null where it hasn't. `others`: so many operations are surely others'; `from`: the version that it leads from, where
+     * that is known.
      * @param {Document} document
+     * @param {number} others
+     * @param {number} [from]
      */
-    find(document: Document, from?: any): Promise<{
+    find(document: Document, others: number, from?: number | undefined): Promise<{
         from: number;
         count: number;
     } | null>;

@@ -47,6 +47,8 @@ export class Seat {
      * @param {Document} document
      */
     isOwn(found: "same" | "unused" | "another", document: Document): Promise<boolean>;
+    /** Whether nothing has come of the session until now: what is under way may come yet, but isn't among what was pulled. */
+    isUnused(): Promise<boolean>;
     /** Asks for edits from a version on. */
     pull(have: any): Promise<import("./connection.js").Reply>;
     /** The edits of a reply to a pull; none where memory was refused, which is waited for. */
