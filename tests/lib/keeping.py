@@ -102,6 +102,15 @@ def environment(failing):
     return {**os.environ, "LD_PRELOAD": library(), **failing} if failing else None
 
 
+def wait_for(title, holds, seconds=60):
+    """Waits until something holds."""
+    end = time.monotonic() + seconds
+    while not (got := holds()) and time.monotonic() < end:
+        time.sleep(0.02)
+    expect(title, bool(got), True)
+    return got
+
+
 def warned(told):
     """What was warned of, without where in the program."""
     return [re.sub(r"^\[WARN  rgatext::\w+\] ", "", line) for line in told.decode().splitlines()]

@@ -14,6 +14,8 @@
  *   SHORT_READS=N         every read that isn't refused gives at most N bytes
  *   SHORT_WRITES          every write that isn't refused takes one byte
  *   TELL=FILE             a file that gets a byte for each call that is refused
+ *   DONE=FILE             a file that gets a letter for each time that a folder is synced (s), a file gets another name (l), or is renamed to
+ *                         that of a room (r)
  *   COUNT=FILE            a file that gets the number of allocations at the end, where one is refused or would be
  * Reads and writes are those of descriptors 0 and 1. */
 #define _GNU_SOURCE
@@ -25,6 +27,7 @@
 #include <stdio.h>
 #include <stdlib.h>
 #include <string.h>
+#include <sys/stat.h>
 #include <unistd.h>
 
 /* The C library's own function of this name. */
@@ -35,13 +38,14 @@
 
 static atomic_long allocations, reads, writes, syncs, links, renames, threads;
 
-static void tell(void)
+/* Appends a letter to the file of this name, where one is told. */
+static void tell(const char *name, const char *letter)
 {
     UNDER(write);
-    const char *file = getenv("TELL");
+    const char *file = getenv(name);
     int to = file ? open(file, O_WRONLY | O_APPEND) : -1;
     if (to >= 0) {
-        under(to, "x", 1);
+        under(to, letter, 1);
         close(to);
     }
 }
@@ -55,7 +59,7 @@ static int is_refused(atomic_long *calls, const char *name, int error)
     long at = atomic_fetch_add(calls, 1) + 1, first = atol(number);
     if (at < first || (at > first && !getenv("REFUSE_ON")))
         return 0;
-    tell();
+    tell("TELL", "x");
     errno = error;
     return 1;
 }
@@ -157,6 +161,9 @@ static int sync_fails(int file)
 int fsync(int file)
 {
     UNDER(fsync);
+    struct stat known;
+    if (!fstat(file, &known) && S_ISDIR(known.st_mode))
+        tell("DONE", "s");
     return sync_fails(file) ? -1 : under(file);
 }
 
@@ -176,12 +183,14 @@ int ftruncate(int file, off_t size)
 int link(const char *from, const char *to)
 {
     UNDER(link);
+    tell("DONE", "l");
     return is_refused(&links, "FAIL_LINK", EPERM) ? -1 : under(from, to);
 }
 
 int linkat(int at, const char *from, int other, const char *to, int how)
 {
     UNDER(linkat);
+    tell("DONE", "l");
     return is_refused(&links, "FAIL_LINK", EPERM) ? -1 : under(at, from, other, to, how);
 }
 
@@ -190,6 +199,8 @@ int rename(const char *from, const char *to)
     UNDER(rename);
     size_t length = strlen(to);
     int is_room = length > 4 && !memcmp(to + length - 4, ".ops", 4);
+    if (is_room)
+        tell("DONE", "r");
     return is_room && is_refused(&renames, "FAIL_RENAME", EIO) ? -1 : under(from, to);
 }
 
