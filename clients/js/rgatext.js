@@ -34,11 +34,21 @@ export { carried, difference, differences, Document, Ended, Full, GivenUp, Lost,
  * @returns {Session}
  */
 export function open(address, room, { Socket = globalThis.WebSocket, ...options } = {}) {
-  if (!/^wss?:\/\/[^/]/.test(address)) throw new TypeError("an address is ws://HOST:PORT");
+  if (!isAddress(address)) throw new TypeError("an address is ws://HOST:PORT");
   const isThere = typeof Socket === "function";
   if (!isThere) throw new TypeError("there is no WebSocket: start Node 20 with --experimental-websocket, or name a class");
   const times = withUsual(options);
   const session = new Session((signal) => Connection.open(address, room, Socket, times, signal), options);
   session.isHidden = globalThis.document?.hidden ?? false;
   return session;
+}
+
+/** Whether it is an address as a WebSocket takes it: with a path or none, but with no user, query or fragment. */
+function isAddress(address) {
+  try {
+    const { username, password } = new URL(address);
+    return /^wss?:\/\/[^?#]+$/.test(address) && username === "" && password === "";
+  } catch {
+    return false;
+  }
 }

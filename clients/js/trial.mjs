@@ -6,6 +6,7 @@ import { promisify } from "node:util";
 import { MemoryRoom } from "./memory_room.js";
 import { Ended, Full, GivenUp, Lost, open, played, Refused, Session } from "./rgatext.js";
 import { bindTextarea } from "./textarea.js";
+import { Clock } from "../../tests/lib/clock.mjs";
 import { dice } from "../../tests/lib/room.mjs";
 
 const pause = (milliseconds) => new Promise((resolve) => setTimeout(resolve, milliseconds));
@@ -30,9 +31,9 @@ function fault(every) {
 
 /** What a call takes, in milliseconds. */
 async function timed(call) {
-  const began = performance.now();
+  const began = Date.now();
   await call();
-  return performance.now() - began;
+  return Date.now() - began;
 }
 
 async function isReady() {
@@ -209,25 +210,27 @@ async function endsForGood() {
   assert.deepEqual([told, busy.state], [["closed"], "closed"]);
 }
 
-/** A program ends once its session is closed, also where that comes to a fault of another kind. */
+/** A program ends once its session is closed, also where that comes to a fault of another kind: no time that it was given holds it. */
 async function ends() {
-  let program = `
+  const times = "{ silence: 3_600_000, idle: 3_600_000, closing: 3_600_000 }";
+  const run = async (program) => {
+    const words = ["--input-type=module", "--eval", program];
+    return (await promisify(execFile)(process.execPath, words, { timeout: 60_000 })).stdout;
+  };
+  const flushed = await run(`
     import { MemoryRoom } from ${JSON.stringify(new URL("memory_room.js", import.meta.url))};
     import { Session } from ${JSON.stringify(new URL("rgatext.js", import.meta.url))};
     const room = new MemoryRoom();
-    const session = new Session(() => room.connect());
+    const session = new Session(() => room.connect(), ${times});
     session.insert(0, "hello");
-    console.log(await session.close({ flush: 5_000 }), room.text);`;
-  const run = () => promisify(execFile)(process.execPath, ["--input-type=module", "--eval", program]);
-  const took = await timed(async () => assert.equal((await run()).stdout, "true hello\n"));
-  assert.ok(took < 2_000, `${took} ms`);
-  program = `
+    console.log(await session.close({ flush: 3_600_000 }), room.text);`);
+  assert.equal(flushed, "true hello\n");
+  const failed = await run(`
     import { Session } from ${JSON.stringify(new URL("rgatext.js", import.meta.url))};
-    const session = new Session(async () => none());
+    const session = new Session(async () => none(), ${times});
     session.insert(0, "hello");
-    await session.close({ flush: 10_000 }).catch((fault) => console.log(fault.name));`;
-  const failed = await timed(async () => assert.equal((await run()).stdout, "ReferenceError\n"));
-  assert.ok(failed < 2_000, `${failed} ms`);
+    await session.close({ flush: 3_600_000 }).catch((fault) => console.log(fault.name));`);
+  assert.equal(failed, "ReferenceError\n");
 }
 
 /** The example of a room in memory does what it says. */
@@ -285,6 +288,24 @@ async function tellsChanges() {
     assert.throws(() => other.replace(at, removed, ""), RangeError);
   }
   await Promise.all([one.close(), other.close()]);
+}
+
+/** An address that can't be opened is refused at once, and no socket is made for it. */
+async function takesAddresses() {
+  const made = [];
+  class Socket extends EventTarget {
+    constructor(address) {
+      super();
+      made.push(address);
+    }
+    close() {}
+  }
+  const wrong = ["", "nowhere", "ws://", "http://h:7", "ws:h:7", "ws://127.0.0.1:99999", "ws://a b", "ws://h:7#", "ws://h:7#x", "ws://h:7/?x"];
+  for (const it of [...wrong, "ws://me@h:7", "ws://:word@h:7"]) assert.throws(() => open(it, "notes", { Socket }), TypeError, it);
+  const right = ["ws://127.0.0.1:7878", "ws://[::1]:7878/", "wss://text.example/room"];
+  const sessions = right.map((it) => open(it, "notes", { Socket, closing: 1 }));
+  assert.deepEqual(made, right);
+  await Promise.all(sessions.map((it) => it.close()));
 }
 
 async function takesOptions() {
@@ -405,6 +426,34 @@ async function replacesAtRandom() {
   }
 }
 
+/** What five seconds of keys cost in calls: two for each stretch that is put in or taken out in a round, of which five begin in a second. */
+async function countsCalls() {
+  const calls = async (keys, does) => {
+    const room = new MemoryRoom({ log: [{ c: [[0, 1]], k: "r", s: 0, p: null, x: "some words in a line\n".repeat(20) }], site: 1 });
+    const asked = [];
+    const session = new Session(() => room.connect({ meets: ({ t }) => (asked.push(t), "") }), { idle: 3_600_000 });
+    await until(() => asked.includes("pull")); // the first brings nothing
+    for (let n = 0; n < keys; n += 1) {
+      does(session, n);
+      await pause(50);
+    }
+    await session.sent();
+    await session.close();
+    return asked.filter((it) => ["ins", "del", "pull"].includes(it)).length - 1;
+  };
+  const places = Array.from({ length: 20 }, (_, n) => ({ at: 21 * (19 - n), removed: 4, text: "more" }));
+  for (const [keys, does, wanted] of [
+    [100, (session, n) => session.insert(n, "x"), 50],
+    [100, (session) => session.remove(5, 1), 50],
+    [100, (session, n) => session.replace(n, 1, "x"), 100],
+    [100, (session, n) => session.remove(400 - n, 1), 200],
+    [1, (session) => session.replaceAll(places), 80],
+  ]) {
+    const count = await calls(keys, does);
+    assert.ok(count >= wanted && count <= wanted + 4, `${count} calls of ${keys} keys: ${does}`); // (a round more at an end)
+  }
+}
+
 /** What a text area has of a page, as far as a binding asks for it. */
 class Area extends EventTarget {
   #value = "";
@@ -463,6 +512,8 @@ async function composesAlone() {
   }
 }
 
-const trials = [isReady, isSent, isFlushed, endsInTime, sendsBeforeItEnds, endsForGood, ends, isAsThePageTells, isAPackage];
-await Promise.all([...trials, tellsChanges, takesOptions, hasAnother, losesNothing, composesAlone, replacesAtRandom].map((it) => it()));
+await Promise.all([ends, isAsThePageTells, isAPackage].map((it) => it()));
+const trials = [isReady, isSent, isFlushed, endsInTime, sendsBeforeItEnds, endsForGood, tellsChanges, takesAddresses, takesOptions, hasAnother, countsCalls];
+const clock = new Clock(1); // so that a busy machine misses no time
+await clock.run(Promise.all([...trials, losesNothing, composesAlone, replacesAtRandom].map((it) => it())));
 console.log("the module: what is ready, sent, closed, told and asked is as the page says");

@@ -348,12 +348,13 @@ def tries_bad_address_beside_a_room():
     window = Window(PAGES, server.port, "walk")
     until(lambda: window.told == "walk: saved", "a room")
     field = window.driver.find_element(By.ID, "server")
-    field.clear()
-    field.send_keys("nowhere")
-    window.press_open()
-    until(lambda: "nowhere can't be opened" in window.told, "a bad address is told")
-    window.type("x")
-    until(lambda: window.told == "walk: saved", "the room goes on")
+    for address in ("nowhere", "ws://127.0.0.1:99999"):
+        field.clear()
+        field.send_keys(address)
+        window.press_open()
+        until(lambda: f"{address} can't be opened" in window.told, "a bad address is told")
+        window.type("x")
+        until(lambda: window.told == "walk: saved", "the room goes on")
     window.quit()
 
 
