@@ -228,10 +228,9 @@ class Conversation {
     if (!this.#isClosing) tell({ state, why, ahead, left, heard: this.#heard, words: this.#told.words });
   }
 
-  /** Does what was written before, as far as it comes in time, and closes. */
+  /** Does what was written before, as far as it comes in time, and closes. Looks are counted: a busy machine may take longer for one. */
   async end() {
-    const till = Date.now() + ENDING;
-    for (let lines = -1; lines !== this.#lines && Date.now() < till; ) {
+    for (let lines = -1, looks = 0; lines !== this.#lines && looks < ENDING / SILENCE; looks += 1) {
       lines = this.#lines;
       await pause(SILENCE);
       await new Promise(setImmediate); // what came meanwhile is read by then

@@ -42,6 +42,13 @@ export class Clock {
     }
   }
 
+  /** Lets so much time pass at once. */
+  pass(milliseconds) {
+    const until = this.now + milliseconds;
+    while (this.#timers.some(({ when }) => when <= until)) this.#next();
+    this.now = until;
+  }
+
   #next() {
     const isBefore = (one, other) => one.when < other.when || (one.when === other.when && one.number < other.number);
     const timer = this.#timers.reduce((first, it) => (isBefore(it, first) ? it : first));

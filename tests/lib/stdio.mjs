@@ -1,7 +1,8 @@
-// What tests/try_editors plays of the program of clients/stdio, as an editor starts it, at rooms in memory: it needs no server.
+// What tests/try_merging plays of the program of clients/stdio, as an editor starts it, at rooms in memory: it needs no server.
 import assert from "node:assert/strict";
 import { spawn } from "node:child_process";
 import { createHash } from "node:crypto";
+import { once } from "node:events";
 import { createServer } from "node:http";
 import { createInterface } from "node:readline";
 import { fileURLToPath } from "node:url";
@@ -10,6 +11,9 @@ import { pause } from "../../clients/js/seat.js";
 import { dice } from "./room.mjs";
 
 const PROGRAM = fileURLToPath(new URL("../../clients/stdio/rgatext-stdio.mjs", import.meta.url));
+const TICKS = new URL("ticks.mjs", import.meta.url).href;
+const TICK = 40; // so many milliseconds pass for the program at a time, and here
+const LIMIT = 300_000; // milliseconds until something is missed, also on a busy machine
 const [TEXT, END] = [1, 8]; // kinds of frames (RFC 6455)
 
 /** A server of WebSockets with one room, which may be another one later, and may be silent. */
@@ -94,13 +98,20 @@ class Editor {
   #looks = () => {};
 
   constructor({ address }, count = "units") {
-    const words = ["--experimental-websocket", "--no-warnings", PROGRAM, address, "notes", count];
-    this.child = spawn(process.execPath, words, { stdio: ["pipe", "pipe", "inherit"] });
+    const words = ["--experimental-websocket", "--no-warnings", "--import", TICKS, PROGRAM, address, "notes", count];
+    this.child = spawn(process.execPath, words, { stdio: ["pipe", "pipe", "inherit", "ipc"] });
+    this.child.on("message", () => setTimeout(() => this.child.connected && this.child.send(TICK, () => {}), TICK));
     this.ended = new Promise((resolve) => this.child.on("close", resolve));
     createInterface({ input: this.child.stdout }).on("line", (line) => {
       this.told.push(JSON.parse(line));
       this.#looks();
     });
+  }
+
+  /** The seconds of a processor that the program has taken. */
+  async processor() {
+    const [{ user, system }] = await once(this.child, "message");
+    return (user + system) / 1_000_000;
   }
 
   say(...requests) {
@@ -112,7 +123,7 @@ class Editor {
     for (let since = Date.now(); ; ) {
       const found = this.told.findIndex(isWanted);
       if (found >= 0) return this.told.splice(found, 1)[0];
-      if (Date.now() - since > 20_000) throw new Error(`it isn't told: ${isWanted}: ${JSON.stringify(this.told.slice(-5))}`);
+      if (Date.now() - since > LIMIT) throw new Error(`it isn't told: ${isWanted}: ${JSON.stringify(this.told.slice(-5))}`);
       await Promise.race([new Promise((resolve) => (this.#looks = resolve)), pause(1_000)]);
     }
   }
@@ -162,7 +173,7 @@ const flushed = (milliseconds, standing = null, id = undefined) => ({
 /** A room that has a text. */
 const roomOf = (text) => new MemoryRoom({ log: [{ c: [[0, 1]], k: "r", s: 0, p: null, x: text }], site: 1 });
 
-/** A word is replaced at 10,000 places, by one change or by many in both orders, and that is undone: each in two seconds of a processor. */
+/** A word is replaced at 10,000 places, by one change or by many in both orders, and that is undone: each in four seconds of a processor at most. */
 async function replacesAtManyPlaces(server) {
   const text = "the cat the\n".repeat(5_000);
   const done = text.replaceAll("the", "some");
@@ -176,12 +187,12 @@ async function replacesAtManyPlaces(server) {
     await editor.take();
     assert.equal(editor.text, text);
     for (const does of ["replace", "undo"]) {
-      const began = performance.now();
+      const before = await editor.processor();
       if (does === "replace") editor.say(...changes);
       await editor.take(does === "replace" ? undefined : { undo: true });
-      const took = performance.now() - began;
-      console.log(`tests/lib/stdio.mjs: ${does} at 10,000 places, told by ${changes.length}: ${(took / 1_000).toFixed(1)} s`);
-      assert.ok(took < 4_000, `${took} ms`);
+      const took = (await editor.processor()) - before;
+      console.log(`tests/lib/stdio.mjs: ${does} at 10,000 places, told by ${changes.length}: ${took.toFixed(1)} s of a processor`);
+      assert.ok(took < 4, `${took} s`);
       if (does === "replace") editor.text = done;
       assert.equal(await editor.asks({ text: true }, "text"), editor.text);
     }
@@ -241,7 +252,7 @@ async function endsWithASignal(server) {
     const editor = new Editor(server);
     await editor.comesTo("up to date");
     const lines = Array.from({ length: 600 }, (_, n) => `${JSON.stringify({ replace: [n, 0, "abc"[n % 3]] })}${" ".repeat(8_000)}\n`);
-    editor.child.stdin.write(lines.join("")); // more than is read at once
+    await new Promise((resolve) => editor.child.stdin.write(lines.join(""), resolve)); // the last of it is more than is read at once
     editor.child.kill(signal);
     assert.deepEqual(await editor.isClosed(), ALL, signal);
     assert.equal(editor.heard, 600, signal);
@@ -383,7 +394,7 @@ async function endsBeforeItIsThere(server) {
   await deaf.hears(({ state }) => state !== undefined);
   deaf.child.stdout.pause();
   deaf.say({ replace: [0, 0, text] }, { close: true });
-  const status = await Promise.race([new Promise((resolve) => deaf.child.on("exit", resolve)), pause(10_000)]);
+  const [status] = await once(deaf.child, "exit", { signal: AbortSignal.timeout(LIMIT) });
   assert.equal(status, 1, "it ends, though nobody reads");
   deaf.child.stdout.destroy();
 }

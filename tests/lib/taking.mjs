@@ -1,4 +1,4 @@
-// What tests/try_editors plays of clients/stdio without a server: an editor's text beside the session's, each character of which is known by
+// What tests/try_merging plays of clients/stdio without a server: an editor's text beside the session's, each character of which is known by
 // itself, while both change at random. What is right is told by plain lists of characters.
 import assert from "node:assert/strict";
 import { COUNTS, gone, size } from "../../clients/stdio/count.js";
