@@ -252,7 +252,7 @@ async function endsWithASignal(server) {
     const editor = new Editor(server);
     await editor.comesTo("up to date");
     const lines = Array.from({ length: 600 }, (_, n) => `${JSON.stringify({ replace: [n, 0, "abc"[n % 3]] })}${" ".repeat(8_000)}\n`);
-    await new Promise((resolve) => editor.child.stdin.write(lines.join(""), resolve)); // the last of it is more than is read at once
+    editor.child.stdin.write(lines.join("")); // more than is read at once, and than goes out before the signal
     editor.child.kill(signal);
     assert.deepEqual(await editor.isClosed(), ALL, signal);
     assert.equal(editor.heard, 600, signal);
