@@ -623,6 +623,17 @@ async function typesBesideAWordThatCame(word, change, text) {
   await goOn(await anewRun(way.room), [way], text);
 }
 
+/** So is a letter or two that came, where others changed what stands on both sides of it. */
+async function typesBetweenOthers() {
+  const way = await begin("");
+  const isLost = way.loseOnce("answer", "ins");
+  way.editor.change(0, 0, "hi");
+  await isLost;
+  await typedBy(way.room, 0, "A");
+  await typedBy(way.room, 3, "B");
+  await goOn(await anewRun(way.room), [way], "AhiB");
+}
+
 /** What was lost and is typed anew, some time after another deleted it, is wanted: it stays. */
 async function keepsWhatIsTypedAnew() {
   const [one, other] = await two("Sum: ", "7 apples");
@@ -726,6 +737,7 @@ await Promise.all([
   typesBesideAWordThatCame("I", () => {}, "one two what I"),
   typesBesideAWordThatCame("three four", (room) => deletedBy(room, 14, 4), "one two what t four"),
   typesBesideAWordThatCame("three four", (room) => typedBy(room, 16, "-"), "one two what thr-ee four"),
+  typesBetweenOthers(),
   readsTheSame(),
 ]);
 await keepsWhatIsTypedAnew();
