@@ -152,7 +152,7 @@ function inCommon(from, to) {
 /**
  * Whether a text has what was put in and is under way: in one piece, as nobody else types it; or where it is shown, since the text is
  * nearer with it and has it in one piece beside what it was put in beside, or is no further with it in pieces. Up to three units are told
- * by the first alone.
+ * by the first alone, and so is all in texts that differ much.
  */
 function hasCome({ roomText, textToCome, underWay }, text) {
   if (!underWay?.isPut) return false;
@@ -161,10 +161,12 @@ function hasCome({ roomText, textToCome, underWay }, text) {
   const isMore = (piece) => now.split(piece).length > old.split(piece).length;
   const isRare = put.length >= LONG || (put.length >= SAME && underWay.signs.some((sign) => !roomText.includes(sign)));
   if (isRare && isMore(put)) return true;
-  const isNearer = () => distance(textToCome, text) < distance(roomText, text);
-  if (put.length <= SAME) return isNearer(); // all its pieces have a neighbour, which may be another's by now
+  const away = distance(roomText, text);
+  const isNearer = distance(textToCome, text) < away;
+  // all pieces of a short one have a neighbour, which may be another's by now; and those of texts that differ much are told only about
+  if (put.length <= SAME || SAME * away > FAR) return isNearer;
   const isBeside = isMore(old[underWay.k] + put) || isMore(put + old[underWay.k + 1]);
-  if (isBeside && isNearer()) return true;
+  if (isBeside && isNearer) return true;
   const signs = new Map();
   const [before, come, there] = [roomText, textToCome, text].map((it) => inPieces(it, signs));
   return distance(come, there) <= distance(before, there);
