@@ -152,16 +152,15 @@ function inCommon(from, to) {
 /**
  * Whether a text has what was put in and is under way: in one piece, as nobody else types it; or where it is shown, since the text is
  * nearer with it and has it in one piece beside what it was put in beside, or is no further with it in pieces. Up to three units are told
- * by the first alone, and so is all in texts that differ much.
+ * by the first alone, and so is all in texts that differ much. `away` is the distance of the room's text.
  */
-function hasCome({ roomText, textToCome, underWay }, text) {
+function hasCome({ roomText, textToCome, underWay }, text, away) {
   if (!underWay?.isPut) return false;
   const put = underWay.signs.join("");
   const [old, now] = [roomText, text].map((it) => `\0${it}\0`);
   const isMore = (piece) => now.split(piece).length > old.split(piece).length;
   const isRare = put.length >= LONG || (put.length >= SAME && underWay.signs.some((sign) => !roomText.includes(sign)));
   if (isRare && isMore(put)) return true;
-  const away = distance(roomText, text);
   const isNearer = distance(textToCome, text) < away;
   // all pieces of a short one have a neighbour, which may be another's by now; and those of texts that differ much are told only about
   if (put.length <= SAME || SAME * away > FAR) return isNearer;
@@ -181,8 +180,8 @@ function textBefore(document, wanted) {
   const { memory, roomText } = document;
   const length = memory.lengthWhere(wanted, roomText);
   if (length !== null) return { length, text: wanted };
-  if (hasCome(document, wanted)) return { length: memory.length, text: roomText, hasCome: true };
   const away = distance(roomText, wanted);
+  if (hasCome(document, wanted, away)) return { length: memory.length, text: roomText, hasCome: true };
   const own = [...memory.ownEntries(roomText.length)];
   const upTo = (entry) => without(roomText, own.slice(0, entry));
   const isMissing = (entry) => {
