@@ -9,7 +9,7 @@ use Rattle.opid.specs.Operations.{Operation}
 use Rattle.opid.specs.Delivery.{clock_of, count_of}
 use Rattle.opid.proofs.Counts.{length-clock_of}
 use Rattle.causal_clock.specs.declared.row.Row.{Row}
-use Rattle.causal_clock.specs.Kinds.{IsOperation}
+use Rattle.opid.specs.Kinds.{IsOperation}
 use Rattle.causal_clock.specs.Stored.{changes, is_marked, is_whole, latest, entries_of}
 use Rattle.causal_clock.specs.Internal.Packed.{no_row, no_op, row_at, operation_at, fill, row_clock, after, no_clocks, logged, IsRow}
 use Rattle.causal_clock.specs.Internal.Packed.{AreRows, IsLastBefore, IsSite, IsPacked, base_of, marks_of, unmarked}

@@ -1,4 +1,3 @@
-pub mod Kinds
 pub mod Listing
 pub mod Stored
 pub mod Logged

@@ -3,7 +3,7 @@ ghost use Rattle.std.specs.Prelude.{◌≡◌, ◌↔◌, ◌<◌, ◌+◌, sum,
 ghost use Rattle.opid.specs.declared.refusal.Refusal.TheVariants.{BadClock};
 ghost use Rattle.opid.specs.Clocks.{entry, raised};
 ghost use Rattle.opid.specs.Operations.{stamp_of, number_of};
-ghost use Rattle.causal_clock.specs.Kinds.{IsOperation};
+ghost use Rattle.opid.specs.Kinds.{IsOperation};
 
 use crate::clock::{Clock, MAX_SUM};
 use opid::{OpKind, Refusal, Site, Stamp};
@@ -21,7 +21,7 @@ pub struct Op {
 
 impl Model for Op {
     ghost use Rattle.opid.specs.Operations.{Operation};
-    ghost use Rattle.causal_clock.specs.Kinds.{IsOperation};
+    ghost use Rattle.opid.specs.Kinds.{IsOperation};
 
     ghost Value = { Operation };
 

@@ -34,7 +34,7 @@ pub struct OpLog {
     clocks: [Clock; SITES],
     lasts: [u32; SITES],
     numbers: [u32; SITES],
-    room: usize,
+    reserved: usize,
 }
 
 impl Model for OpLog {
@@ -47,7 +47,7 @@ impl Model for OpLog {
 
     ghost view = { λ l. record {
       ops = logged l.entries.items l.rows.items;
-      room = l.room;
+      reserved = l.reserved;
       entries = length l.entries.items;
       marks = length l.marks.items;
     } };
@@ -55,13 +55,13 @@ impl Model for OpLog {
     ghost invariant = { λ l. IsPacked l.entries.items l.marks.items l.rows.items (logged l.entries.items l.rows.items) l.clocks l.lasts
         l.numbers
         × AreReserved (vec_len l.rows) (vec_capacity l.rows) (vec_len l.entries) (vec_capacity l.entries) (vec_len l.marks)
-        (vec_capacity l.marks) (unmarked l.numbers) l.room };
+        (vec_capacity l.marks) (unmarked l.numbers) l.reserved };
 }
 
 impl OpLog {
     /// The log of no operations. Constant time: it sets 32 counts for each of 32 sites. Takes no memory.
     pub fn new(alloc: Global) -> OpLog
-        ensures { result ≡ record { ops = []; room = 0; entries = 0; marks = 0 } }
+        ensures { result ≡ record { ops = []; reserved = 0; entries = 0; marks = 0 } }
     {
         OpLog {
             rows: Vec::new(alloc),
@@ -70,7 +70,7 @@ impl OpLog {
             clocks: [Clock::zero(); SITES],
             lasts: [0; SITES],
             numbers: [0; SITES],
-            room: 0,
+            reserved: 0,
         }
     }
 
@@ -126,13 +126,13 @@ impl OpLog {
     /// entries; and 3,584 for the marks that are next in turn. Constant time; nothing grows where so many are reserved already.
     /// Refused with `Memory`, only where fewer are: for want of it, or above 67,108,864 operations.
     pub fn reserve(&mut self, n: usize) -> Result<(), Refusal>
-        ensures ok { OnOk result (self.new ≡ record self.old { room = max self.old.room n }) }
+        ensures ok { OnOk result (self.new ≡ record self.old { reserved = max self.old.reserved n }) }
         ensures err { OnErr result (self.new ≡ self.old) }
-        ensures memory { IfErr result (λ e. (e ≡ Memory) × (self.old.room < n)) }
+        ensures memory { IfErr result (λ e. (e ≡ Memory) × (self.old.reserved < n)) }
     {
-        if self.room < n {
+        if self.reserved < n {
             reserve_each(&mut self.rows, &mut self.entries, &mut self.marks, n)?;
-            self.room = n;
+            self.reserved = n;
         }
         Ok(())
     }
@@ -141,7 +141,7 @@ impl OpLog {
     /// operation of a site one for each of its mark. Where nothing is reserved it asks for memory as `reserve` does, the first time
     /// 3,584 bytes for marks among it. Refused with `Memory`, only there, also above 67,108,864 operations.
     pub fn push(&mut self, op: Op) -> Result<(), Refusal>
-        ensures ok { OnOk result ((self.new.ops ≡ self.old.ops ++ op ∷ []) × (self.new.room ≡ self.old.room - 1)) }
+        ensures ok { OnOk result ((self.new.ops ≡ self.old.ops ++ op ∷ []) × (self.new.reserved ≡ self.old.reserved - 1)) }
 
         // The entries that are stored grow by those that the operation tells, and what is kept beside them by at most one whole clock
         // for eight operations of a site.
@@ -149,7 +149,7 @@ impl OpLog {
         ensures entries { OnOk result (self.new.entries ≡ self.old.entries + length (entries_of self.old.ops op)) }
         ensures marks { OnOk result (self.new.marks ≤ self.old.marks + (if is_marked (count_of self.old.ops op.site) then 32 else 0)) }
         ensures err { OnErr result (self.new ≡ self.old) }
-        ensures memory { IfErr result (λ e. (e ≡ Memory) × (self.old.room ≡ 0)) }
+        ensures memory { IfErr result (λ e. (e ≡ Memory) × (self.old.reserved ≡ 0)) }
     {
         self.push_copy(&op)
     }
@@ -158,7 +158,7 @@ impl OpLog {
     /// of a site the counts of the one before are kept once more, those of 0 apart. Takes the steps of `push`. Refused with `Memory`,
     /// only where nothing is reserved, also above 67,108,864 operations.
     pub fn push_copy(&mut self, op: &Op) -> Result<(), Refusal>
-        ensures ok { OnOk result ((self.new.ops ≡ self.old.ops ++ op.now ∷ []) × (self.new.room ≡ self.old.room - 1)) }
+        ensures ok { OnOk result ((self.new.ops ≡ self.old.ops ++ op.now ∷ []) × (self.new.reserved ≡ self.old.reserved - 1)) }
 
         // What is kept of clocks grows as with `push`.
         ensures stored { OnOk result
@@ -167,9 +167,9 @@ impl OpLog {
         ensures marks { OnOk result
             (self.new.marks ≤ self.old.marks + (if is_marked (count_of self.old.ops op.now.site) then 32 else 0)) }
         ensures err { OnErr result (self.new ≡ self.old) }
-        ensures memory { IfErr result (λ e. (e ≡ Memory) × (self.old.room ≡ 0)) }
+        ensures memory { IfErr result (λ e. (e ≡ Memory) × (self.old.reserved ≡ 0)) }
     {
-        if self.room == 0 {
+        if self.reserved == 0 {
             reserve_each(&mut self.rows, &mut self.entries, &mut self.marks, 1)?;
         }
         append(
@@ -181,7 +181,7 @@ impl OpLog {
             &mut self.numbers,
             op,
         );
-        self.room = self.room.saturating_sub(1);
+        self.reserved = self.reserved.saturating_sub(1);
         Ok(())
     }
 }
@@ -197,11 +197,11 @@ fn reserve_each(
     ensures rows { rows.new.items ≡ rows.old.items }
     ensures entries { entries.new.items ≡ entries.old.items }
     ensures marks { marks.new.items ≡ marks.old.items }
-    ensures kept { (since room : ℕ)
+    ensures kept { (since reserved : ℕ)
         → AreReserved (vec_len rows.old) (vec_capacity rows.old) (vec_len entries.old) (vec_capacity entries.old)
-        (vec_len marks.old) (vec_capacity marks.old) since room
+        (vec_len marks.old) (vec_capacity marks.old) since reserved
         → AreReserved (vec_len rows.new) (vec_capacity rows.new) (vec_len entries.new) (vec_capacity entries.new)
-        (vec_len marks.new) (vec_capacity marks.new) since room }
+        (vec_len marks.new) (vec_capacity marks.new) since reserved }
     ensures ok { OnOk result ((since : ℕ) → since ≤ SINCE
         → AreReserved (vec_len rows.new) (vec_capacity rows.new) (vec_len entries.new) (vec_capacity entries.new)
         (vec_len marks.new) (vec_capacity marks.new) since n) }

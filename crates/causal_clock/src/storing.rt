@@ -27,7 +27,7 @@ pub(crate) const PART: usize = SITES / MARK as usize;
 // Keeps the counts, those of 0 apart, as the mark of an operation that has one, and tells where it begins, or else the place that is
 // given; and how many they are.
 fn push_mark(marks: &mut Vec<Changed>, marked: bool, before: &Clock, last: u32) -> (u32, u8)
-    requires room { marked ≡ true → vec_len marks.old + 32 ≤ vec_capacity marks.old }
+    requires reserved { marked ≡ true → vec_len marks.old + 32 ≤ vec_capacity marks.old }
     requires few { vec_len marks.old ≤ PART * MAX_ROWS }
     ensures items { marks.new.items ≡ marks.old.items ++ marks_of marked before.now }
     ensures place { result.0 ≡ (if marked then length marks.old.items else last) }
@@ -57,7 +57,7 @@ fn back_of(rows: &[Row], marked: bool, number: u32, last: u32) -> u8
     rows[last as usize].back + 1
 }
 
-/// Adds an operation that there is room for.
+/// Adds an operation for which memory is reserved.
 pub(crate) fn append(
     rows: &mut Vec<Row>,
     entries: &mut Vec<Changed>,

@@ -27,7 +27,7 @@ pub(crate) fn push_changes(
     before: &[u32; SITES],
     clock: &Clock,
 ) -> u8
-    requires room { vec_len entries.old + 32 ≤ vec_capacity entries.old }
+    requires reserved { vec_len entries.old + 32 ≤ vec_capacity entries.old }
     ensures items { entries.new.items ≡ entries.old.items ++ changes whole before.now clock.now 32 }
     ensures count { result ≡ length (changes whole before.now clock.now 32) }
     ensures few { result ≤ 32 }

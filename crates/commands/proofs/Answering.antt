@@ -7,9 +7,9 @@ use Rattle.std.proofs.Math.Logic.{⊎_elim}
 use Rattle.std.proofs.lemmas.Bool.{cases_lt}
 use Rattle.opid.specs.declared.refusal.Refusal.{Refusal}
 use Rattle.opid.specs.declared.refusal.Refusal.TheVariants.{TooLong, Memory}
-use Rattle.room.specs.History.{Account}
-use Rattle.room_calls.specs.declared.reply.Reply.TheVariants.{No}
-use Rattle.replica_world.specs.declared.event.Event.{Event}
+use Rattle.room_model.specs.History.{Account}
+use Rattle.room_model.specs.declared.reply.Reply.TheVariants.{No}
+use Rattle.room_model.specs.declared.event.Event.{Event}
 use Rattle.wire_json.specs.Text.{text}
 use Rattle.commands.specs.Script.{Asks}
 use Rattle.commands.specs.Worlds.{AnswersEventAsked, AnswersEvent, AnswersLine}

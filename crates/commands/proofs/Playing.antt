@@ -4,7 +4,7 @@ use Rattle.std.proofs.Common.{append_assoc, append-nil}
 use Rattle.std.specs.Io.KnownBytes.{IsAtEnd}
 use Rattle.opid.specs.Operations.{Operation}
 use Rattle.room.specs.declared.owned.RoomDesk.{RoomDesk}
-use Rattle.room.specs.History.{Account}
+use Rattle.room_model.specs.History.{Account}
 use Rattle.room.specs.OwnedDesk.{room_step, room_fault}
 use Rattle.line_engine.specs.AnsweredRequests.{AnswersRequest}
 use Rattle.line_engine.specs.Lines.{cut}

@@ -11,8 +11,8 @@ use Rattle.opid.specs.declared.refusal.Refusal.TheVariants.{BadSnapshot, SiteUse
 use Rattle.opid.specs.Operations.{Operation}
 use Rattle.opid.specs.Reading.{reading_at}
 use Rattle.room.specs.declared.owned.RoomDesk.{RoomDesk}
-use Rattle.room.specs.Machine.{room_over}
-use Rattle.room.specs.History.{Account, account_over}
+use Rattle.room_model.specs.Machine.{room_over}
+use Rattle.room_model.specs.History.{Account, account_over}
 use Rattle.room.specs.OwnedDesk.{room_step, room_fault}
 use Rattle.snapshot.specs.Snapshot.{StandsFor, StandsForNone, LacksSite, HasSite, log_text}
 use Rattle.line_engine.specs.AnsweredRequests.{AnswersRequest}
@@ -22,7 +22,7 @@ use Rattle.line_engine.specs.declared.fault.ServeFault.{ServeFault}
 use Rattle.line_engine.specs.declared.fault.ServeFault.TheVariants.{Read, Write, Memory}
 use Rattle.commands.specs.declared.stop.Stop.{Stop}
 use Rattle.commands.specs.declared.stop.Stop.TheVariants.{Refused, Fault, Socket, Files}
-use Rattle.replica_world.specs.World.{empty_rooms}
+use Rattle.room_model.specs.World.{empty_rooms}
 use Rattle.commands.specs.Worlds.{AnswersLine, readings}
 
 -- why a refusal stops a run: for want of memory it is a fault

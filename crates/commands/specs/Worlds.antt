@@ -5,12 +5,12 @@ use Rattle.opid.specs.Clocks.{sites}
 use Rattle.opid.specs.Reading.{reading}
 use Rattle.opid.specs.declared.refusal.Refusal.{Refusal}
 use Rattle.opid.specs.declared.refusal.Refusal.TheVariants.{Memory}
-use Rattle.room.specs.History.{Account}
-use Rattle.room_calls.specs.declared.reply.Reply.TheVariants as reply
-use Rattle.replica_world.specs.declared.event.Event.{Event}
-use Rattle.replica_world.specs.declared.event.WorldReply.{WorldReply}
-use Rattle.replica_world.specs.declared.event.WorldReply.TheVariants.{Room, Forked, No}
-use Rattle.replica_world.specs.World.{room_of, step}
+use Rattle.room_model.specs.History.{Account}
+use Rattle.room_model.specs.declared.reply.Reply.TheVariants as reply
+use Rattle.room_model.specs.declared.event.Event.{Event}
+use Rattle.room_model.specs.declared.world_reply.WorldReply.{WorldReply}
+use Rattle.room_model.specs.declared.world_reply.WorldReply.TheVariants.{Room, Forked, No}
+use Rattle.room_model.specs.World.{room_of, step}
 use Rattle.wire_json.specs.Text.{text}
 use Rattle.json_bytes.specs.Quote.{quote}
 use Rattle.line_engine.specs.Lines.{ended}

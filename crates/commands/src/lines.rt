@@ -1,8 +1,8 @@
 //! Runs `lines`: a room over a log, its requests, and its snapshot.
 ghost use Rattle.std.specs.Prelude.{◌≡◌, ◌+◌, ◌^◌, ◌<◌, ◌++◌, ℕ, List, [], true, Ok, MatchResult, IfOk, string_bytes};
 ghost use Rattle.std.specs.Io.KnownBytes.{Appends, Consumes, IsAtEnd};
-ghost use Rattle.room.specs.Machine.{room_over};
-ghost use Rattle.room.specs.History.{account_over};
+ghost use Rattle.room_model.specs.Machine.{room_over};
+ghost use Rattle.room_model.specs.History.{account_over};
 ghost use Rattle.room.specs.OwnedDesk.{room_step, room_fault};
 ghost use Rattle.snapshot.specs.Snapshot.{log_text};
 ghost use Rattle.line_engine.specs.AnsweredRequests.{AnswersRequest};

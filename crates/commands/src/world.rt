@@ -4,7 +4,7 @@ ghost use Rattle.std.specs.Io.KnownBytes.{Appends, Consumes};
 ghost use Rattle.line_engine.specs.Counting.{Rises};
 ghost use Rattle.line_engine.specs.Lines.{ended};
 ghost use Rattle.commands.specs.Script.{spaced};
-ghost use Rattle.replica_world.specs.World.{room_of};
+ghost use Rattle.room_model.specs.World.{room_of};
 ghost use Rattle.commands.specs.Worlds.{readings, site_lines};
 ghost use Rattle.commands.specs.Played.{PlaysWorld, Writes, served_end};
 ghost use Rattle.json.specs.Print as print;

@@ -19,12 +19,13 @@ pub record IsAppended (a b : Store) (n : Node) (k : ℕ) : Type 0 where
   pub tree : tree_in b (Some k) ≡ tree_of (trees a.nodes) n
 
 appended : (a b : Store) (n : Node) (k : ℕ) → AreSound a.nodes → IsSoundNode (trees a.nodes) n → b.nodes ≡ a.nodes ++ n ∷ []
-    → b.node_room + 1 ≡ a.node_room → b.keys_and_widths ≡ a.keys_and_widths → b.key_and_width_room ≡ a.key_and_width_room
+    → b.reserved_nodes + 1 ≡ a.reserved_nodes → b.keys_and_widths ≡ a.keys_and_widths
+    → b.reserved_keys_and_widths ≡ a.reserved_keys_and_widths
     → k ≡ length a.nodes → IsAppended a b n k
-appended a b n k sound node nodes room keys_and_widths key_and_width_room number =
+appended a b n k sound node nodes reserved keys_and_widths reserved_keys_and_widths number =
     let long : length b.nodes ≡ length a.nodes + 1 = ap length nodes ∙ length_push a.nodes n in
     record {
-      adds = adds_push a b n sound node nodes room keys_and_widths key_and_width_room;
+      adds = adds_push a b n sound node nodes reserved keys_and_widths reserved_keys_and_widths;
       count = long;
       number = omega (arith, long, number);
       tree = tree_pushed a b n k nodes number;
@@ -33,7 +34,8 @@ appended a b n k sound node nodes room keys_and_widths key_and_width_room number
 pub copied_left : (a b : Store) (n : Node) (s : Option ℕ) (size : Size) (k : ℕ) → AreSound a.nodes → IsSoundNode (trees a.nodes) n
     → IsLinkBelow (length a.nodes) s → DifferByAtMost 1 (height (tree_in a s)) (height (tree_in a n.right))
     → IsSizeOf size (entries (tree_in a s)) → b.nodes ≡ a.nodes ++ record n { left = s; left_size = size } ∷ []
-    → b.node_room + 1 ≡ a.node_room → b.keys_and_widths ≡ a.keys_and_widths → b.key_and_width_room ≡ a.key_and_width_room
+    → b.reserved_nodes + 1 ≡ a.reserved_nodes → b.keys_and_widths ≡ a.keys_and_widths
+    → b.reserved_keys_and_widths ≡ a.reserved_keys_and_widths
     → k ≡ length a.nodes → IsAppended a b (record n { left = s; left_size = size }) k
 copied_left a b n s size k sound node below near shows =
     let right = link_later _ _ n.right (omega (arith, length-trees a.nodes)) node.right_earlier in
@@ -44,7 +46,8 @@ copied_left a b n s size k sound node below near shows =
 pub copied_right : (a b : Store) (n : Node) (s : Option ℕ) (k : ℕ) → AreSound a.nodes → IsSoundNode (trees a.nodes) n
     → IsLinkBelow (length a.nodes) s → DifferByAtMost 1 (height (tree_in a n.left)) (height (tree_in a s))
     → b.nodes ≡ a.nodes ++ record n { right = s } ∷ []
-    → b.node_room + 1 ≡ a.node_room → b.keys_and_widths ≡ a.keys_and_widths → b.key_and_width_room ≡ a.key_and_width_room
+    → b.reserved_nodes + 1 ≡ a.reserved_nodes → b.keys_and_widths ≡ a.keys_and_widths
+    → b.reserved_keys_and_widths ≡ a.reserved_keys_and_widths
     → k ≡ length a.nodes → IsAppended a b (record n { right = s }) k
 copied_right a b n s k sound node below near =
     let left = link_later _ _ n.left (omega (arith, length-trees a.nodes)) node.left_earlier in

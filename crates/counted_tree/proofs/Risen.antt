@@ -94,10 +94,10 @@ grown_node below x n = record n {
 
 pub stepped_left : (a b d : Store) (tb mid : List Row) (top : ℕ) (path : List Side) (x : Entry) (below k : ℕ) (rank : Size) (n : Node)
     → IsLift a b tb mid top Left path x (record { top = Settled below; rank = rank }) → slice_get b.nodes top ≡ Some n
-    → d.nodes ≡ b.nodes ++ grown_node below x n ∷ [] → d.node_room + 1 ≡ b.node_room
-    → d.keys_and_widths ≡ b.keys_and_widths → d.key_and_width_room ≡ b.key_and_width_room → k ≡ length b.nodes
+    → d.nodes ≡ b.nodes ++ grown_node below x n ∷ [] → d.reserved_nodes + 1 ≡ b.reserved_nodes
+    → d.keys_and_widths ≡ b.keys_and_widths → d.reserved_keys_and_widths ≡ b.reserved_keys_and_widths → k ≡ length b.nodes
     → IsInserted a d tb mid (tree_in a (Some top)) (Left ∷ path) x (record { top = Settled k; rank = rank })
-stepped_left a b d tb mid top path x below k rank n h o nodes room keys_and_widths key_and_width_room number =
+stepped_left a b d tb mid top path x below k rank n h o nodes reserved keys_and_widths reserved_keys_and_widths number =
     let made : Inserted = record { top = Settled below; rank = rank } in
     let up = lift_up_left a b tb mid top path x made n h o in
     let s = tree_in b (Some below) in
@@ -109,7 +109,8 @@ stepped_left a b d tb mid top path x below k rank n h o nodes room keys_and_widt
     let size = (grown_node below x n).left_size in
     let shows = more_size size n.left_size (size_of x) (entries s) (entries (tree_in b n.left)) refl
     (gains_size x (entries (tree_in b n.left)) (entries s) up.gains) up.node.left_size in
-    let copied = copied_left b d n (Some below) size k sound up.node up.told.0 near shows nodes room keys_and_widths key_and_width_room
+    let copied = copied_left b d n (Some below) size k sound up.node up.told.0 near shows nodes
+    reserved keys_and_widths reserved_keys_and_widths
     number in
     let plain = plain_fork s r n.entry (linked_balanced b.nodes (Some below) sound up.told.0) balanced.1 near in
     let one : length d.nodes - length b.nodes ≡ 1 = omega (arith, copied.count) in
@@ -126,10 +127,10 @@ stepped_left a b d tb mid top path x below k rank n h o nodes room keys_and_widt
 
 pub stepped_right : (a b d : Store) (tb mid : List Row) (top : ℕ) (path : List Side) (x : Entry) (below k : ℕ) (rank : Size) (n : Node)
     → IsLift a b tb mid top Right path x (record { top = Settled below; rank = rank }) → slice_get b.nodes top ≡ Some n
-    → d.nodes ≡ b.nodes ++ record n { right = Some below } ∷ [] → d.node_room + 1 ≡ b.node_room
-    → d.keys_and_widths ≡ b.keys_and_widths → d.key_and_width_room ≡ b.key_and_width_room → k ≡ length b.nodes
+    → d.nodes ≡ b.nodes ++ record n { right = Some below } ∷ [] → d.reserved_nodes + 1 ≡ b.reserved_nodes
+    → d.keys_and_widths ≡ b.keys_and_widths → d.reserved_keys_and_widths ≡ b.reserved_keys_and_widths → k ≡ length b.nodes
     → IsInserted a d tb mid (tree_in a (Some top)) (Right ∷ path) x (record { top = Settled k; rank = through n.left_size n.entry rank })
-stepped_right a b d tb mid top path x below k rank n h o nodes room keys_and_widths key_and_width_room number =
+stepped_right a b d tb mid top path x below k rank n h o nodes reserved keys_and_widths reserved_keys_and_widths number =
     let made : Inserted = record { top = Settled below; rank = rank } in
     let up = lift_up_right a b tb mid top path x made n h o in
     let l = tree_in b n.left in
@@ -138,7 +139,8 @@ stepped_right a b d tb mid top path x below k rank n h o nodes room keys_and_wid
     let balanced = up.node.balanced in
     let near : DifferByAtMost 1 (height l) (height s) = (omega (arith, keeps.level, balanced.2), omega (arith, keeps.level, balanced.3)) in
     let sound = h.side_made.adds.sound in
-    let copied = copied_right b d n (Some below) k sound up.node up.told.0 near nodes room keys_and_widths key_and_width_room number in
+    let copied = copied_right b d n (Some below) k sound up.node up.told.0 near nodes
+    reserved keys_and_widths reserved_keys_and_widths number in
     let plain = plain_fork l s n.entry balanced.0 (linked_balanced b.nodes (Some below) sound up.told.0) near in
     let one : length d.nodes - length b.nodes ≡ 1 = omega (arith, copied.count) in
     lifted_right a b tb mid top path x made n h o d mid (Settled k) (through n.left_size n.entry rank) refl
@@ -155,7 +157,7 @@ stepped_right a b d tb mid top path x below k rank n h o nodes room keys_and_wid
 
 -- a part that is settled, and what was known of the whole
 pub risen : (a b : Store) (tb mid : List Row) (t : Tree) (path : List Side) (numbers : List ℕ) (x : Entry) (made : Inserted)
-    (level part : ℕ) → AreSound a.nodes → AreAlong a t path numbers → IsSome (entry_at t path) → IsFit a.node_room tb t path x
+    (level part : ℕ) → AreSound a.nodes → AreAlong a t path numbers → IsSome (entry_at t path) → IsFit a.reserved_nodes tb t path x
     → made.top ≡ Settled part → IsInserted a b tb mid (under t (take level path)) (drop level path) x made
     → IsRisen a b tb mid t path numbers x level (record { top = Settled part; rank = made.rank })
 risen a b tb mid t path numbers x made level part sound along there fit is h = record {

@@ -67,7 +67,7 @@ fit_turned n tb Leaf s path x there h = absurd (cc)
 fit_turned n tb (Fork l y r) Left path x there h =
     let d = down_left tb (Fork l y r) l r y _ refl h.own h.kept in
     record {
-      room = omega (arith, h.room);
+      reserved = omega (arith, h.reserved);
       few = omega (arith, h.few, length-append (entries l) (y ∷ entries r));
       own = d.own;
       kept = d.kept;
@@ -76,7 +76,7 @@ fit_turned n tb (Fork l y r) Left path x there h =
 fit_turned n tb (Fork l y r) Right path x there h =
     let d = down_right tb (Fork l y r) l r y _ refl h.own h.kept in
     record {
-      room = omega (arith, h.room);
+      reserved = omega (arith, h.reserved);
       few = omega (arith, h.few, length-append (entries l) (y ∷ entries r));
       own = d.own;
       kept = d.kept;
@@ -124,7 +124,8 @@ side_tree a n Right o t e l r = ap (tree_in a) (r refl) ∙ ap (λ u. turned u R
 
 -- a level on the way up
 pub lift_there : (a b : Store) (tb mid : List Row) (t : Tree) (path : List Side) (numbers : List ℕ) (x : Entry) (made : Inserted)
-    (level i k : ℕ) (s : Side) → AreSound a.nodes → AreAlong a t path numbers → IsSome (entry_at t path) → IsFit a.node_room tb t path x
+    (level i k : ℕ) (s : Side) → AreSound a.nodes → AreAlong a t path numbers → IsSome (entry_at t path)
+    → IsFit a.reserved_nodes tb t path x
     → slice_get numbers i ≡ Some k → slice_get path i ≡ Some s → level ≡ i + 1
     → IsInserted a b tb mid (under t (take level path)) (drop level path) x made → IsLift a b tb mid k s (drop level path) x made
 lift_there a b tb mid t path numbers x made level i k s sound along there fit number side e h =
@@ -134,8 +135,8 @@ lift_there a b tb mid t path numbers x made level i k s sound along there fit nu
     record {
       sound = sound;
       below = at.0;
-      fit = subst (λ u. IsFit a.node_room tb u (s ∷ drop level path) x) (sym at.1)
-          (subst (λ w. IsFit a.node_room tb (under t (take i path)) w x) way (fit_under a.node_room tb t path x i there fit));
+      fit = subst (λ u. IsFit a.reserved_nodes tb u (s ∷ drop level path) x) (sym at.1)
+          (subst (λ w. IsFit a.reserved_nodes tb (under t (take i path)) w x) way (fit_under a.reserved_nodes tb t path x i there fit));
       side_made = subst (λ u. IsInserted a b tb mid u (drop level path) x made) part h;
     }
 
@@ -156,11 +157,12 @@ drop_all (s ∷ path) zero e = absurd (omega arith)
 drop_all (s ∷ path) (suc n) e = drop_all path n (omega arith)
 
 pub fit_there : (a : Store) (tb : List Row) (t : Tree) (path : List Side) (numbers : List ℕ) (x : Entry) (i k : ℕ)
-    → AreAlong a t path numbers → IsSome (entry_at t path) → IsFit a.node_room tb t path x → slice_get numbers i ≡ Some k
-    → i ≡ length path → IsFit a.node_room tb (tree_in a (Some k)) [] x
+    → AreAlong a t path numbers → IsSome (entry_at t path) → IsFit a.reserved_nodes tb t path x → slice_get numbers i ≡ Some k
+    → i ≡ length path → IsFit a.reserved_nodes tb (tree_in a (Some k)) [] x
 fit_there a tb t path numbers x i k along there fit number e =
-    subst (λ u. IsFit a.node_room tb u [] x) (sym (along i k number).1)
-    (subst (λ w. IsFit a.node_room tb (under t (take i path)) w x) (drop_all path i e) (fit_under a.node_room tb t path x i there fit))
+    subst (λ u. IsFit a.reserved_nodes tb u [] x) (sym (along i k number).1)
+    (subst (λ w. IsFit a.reserved_nodes tb (under t (take i path)) w x) (drop_all path i e)
+    (fit_under a.reserved_nodes tb t path x i there fit))
 
 pub made_there : (a b : Store) (tb new : List Row) (t : Tree) (path : List Side) (numbers : List ℕ) (x : Entry) (made : Inserted)
     (i k : ℕ) → AreAlong a t path numbers → slice_get numbers i ≡ Some k → i ≡ length path

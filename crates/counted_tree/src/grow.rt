@@ -64,7 +64,7 @@ fn grow_left(
     requires sound { AreSound nodes.old.nodes }
     requires at { slice_get nodes.old.nodes at ≡ Some node }
     requires node { IsSoundNode (trees nodes.old.nodes) node }
-    requires room { 3 ≤ nodes.old.node_room }
+    requires reserved { 3 ≤ nodes.old.reserved_nodes }
     requires left { IsBranch nodes.old left }
     requires size { IsSizeOf left_size (entries (tree_in nodes.old left.link)) }
     requires gains { Gains entry.now (entries (tree_in nodes.old node.left)) (entries (tree_in nodes.old left.link)) }
@@ -118,7 +118,7 @@ fn grow_right(
     requires sound { AreSound nodes.old.nodes }
     requires at { slice_get nodes.old.nodes at ≡ Some node }
     requires node { IsSoundNode (trees nodes.old.nodes) node }
-    requires room { 3 ≤ nodes.old.node_room }
+    requires reserved { 3 ≤ nodes.old.reserved_nodes }
     requires right { IsBranch nodes.old right }
     requires gains { Gains entry.now (entries (tree_in nodes.old node.right)) (entries (tree_in nodes.old right.link)) }
     requires rises { MayRise (tree_in nodes.old node.right) (tree_in nodes.old right.link) }
@@ -172,7 +172,7 @@ pub fn lift_left(
     requires sound { AreSound nodes.old.nodes }
     requires at { slice_get nodes.old.nodes at ≡ Some node }
     requires node { IsSoundNode (trees nodes.old.nodes) node }
-    requires room { 3 ≤ nodes.old.node_room }
+    requires reserved { 3 ≤ nodes.old.reserved_nodes }
     requires left { IsTold nodes.old table.old (Some (record { elem = node.entry.elem; side = Left }))
         (tree_in nodes.old node.left) left }
     requires gains { Gains entry.now (entries (tree_in nodes.old node.left)) (entries (tree_in nodes.old (grown_link left))) }
@@ -219,7 +219,7 @@ pub fn lift_right(
     requires sound { AreSound nodes.old.nodes }
     requires at { slice_get nodes.old.nodes at ≡ Some node }
     requires node { IsSoundNode (trees nodes.old.nodes) node }
-    requires room { 3 ≤ nodes.old.node_room }
+    requires reserved { 3 ≤ nodes.old.reserved_nodes }
     requires right { IsTold nodes.old table.old (Some (record { elem = node.entry.elem; side = Right }))
         (tree_in nodes.old node.right) right }
     requires gains { Gains entry.now (entries (tree_in nodes.old node.right)) (entries (tree_in nodes.old (grown_link right))) }

@@ -32,7 +32,7 @@ pub struct VersionTree {
     nodes: Nodes,
     table: Vec<PackedRow>,
     roots: Vec<PackedRoot>,
-    room: usize,
+    reserved: usize,
 }
 
 impl Model for VersionTree {
@@ -44,12 +44,12 @@ impl Model for VersionTree {
 
     ghost Value = { Versions };
 
-    ghost view = { λ a. record { lists = lists_of a.nodes.nodes a.roots.items; nodes = length a.nodes.nodes; room = a.room } };
+    ghost view = { λ a. record { lists = lists_of a.nodes.nodes a.roots.items; nodes = length a.nodes.nodes; reserved = a.reserved } };
 
-    ghost invariant = { λ a. AreVersions a.nodes a.roots.items a.room
+    ghost invariant = { λ a. AreVersions a.nodes a.roots.items a.reserved
         × IsNewest a.table.items (tree_in a.nodes (newest_root a.roots.items).link)
-        × (vec_len a.roots + a.room ≤ vec_capacity a.roots) × (vec_len a.table + a.room ≤ vec_capacity a.table)
-        × (length a.nodes.keys_and_widths ≡ vec_len a.table) × (a.room ≤ a.nodes.key_and_width_room) };
+        × (vec_len a.roots + a.reserved ≤ vec_capacity a.roots) × (vec_len a.table + a.reserved ≤ vec_capacity a.table)
+        × (length a.nodes.keys_and_widths ≡ vec_len a.table) × (a.reserved ≤ a.nodes.reserved_keys_and_widths) };
 }
 
 impl VersionTree {
@@ -57,13 +57,13 @@ impl VersionTree {
     pub fn new(alloc: Global) -> VersionTree
         ensures lists { result.lists ≡ [] ∷ [] }
         ensures nodes { result.nodes ≡ 0 }
-        ensures room { result.room ≡ 0 }
+        ensures reserved { result.reserved ≡ 0 }
     {
         VersionTree {
             nodes: Nodes::new(alloc),
             table: Vec::new(alloc),
             roots: Vec::new(alloc),
-            room: 0,
+            reserved: 0,
         }
     }
 
@@ -79,16 +79,16 @@ impl VersionTree {
     pub fn newest(&self) -> usize
         ensures value { result ≡ newest self.now }
         ensures last { result + 1 ≡ length self.now.lists }
-        ensures within { result + self.now.room ≤ MAX_ELEMENTS }
+        ensures within { result + self.now.reserved ≤ MAX_ELEMENTS }
     {
         self.roots.len()
     }
 
-    /// How many versions are reserved and not yet added. Constant time.
+    /// How many versions are reserved and not yet added: what the papers call its room. Constant time.
     pub fn room(&self) -> usize
-        ensures { result ≡ self.now.room }
+        ensures { result ≡ self.now.reserved }
     {
-        self.room
+        self.reserved
     }
 
     /// How many elements the newest version has, shown or not: the number of the next one. Constant time.
@@ -230,16 +230,16 @@ impl VersionTree {
         requires { length self.old.lists + n ≤ MAX_ELEMENTS + 1 }
         ensures lists { self.new.lists ≡ self.old.lists }
         ensures nodes { self.new.nodes ≡ self.old.nodes }
-        ensures ok { OnOk result (self.new.room ≡ max self.old.room n) }
-        ensures err { OnErr result (self.new.room ≡ self.old.room) }
-        ensures memory { OnErr result (self.old.room < n) }
+        ensures ok { OnOk result (self.new.reserved ≡ max self.old.reserved n) }
+        ensures err { OnErr result (self.new.reserved ≡ self.old.reserved) }
+        ensures memory { OnErr result (self.old.reserved < n) }
     {
-        if self.room < n {
+        if self.reserved < n {
             self.nodes.reserve(31 * n)?;
             self.nodes.reserve_keys_and_widths(n)?;
             self.table.reserve(n)?;
             self.roots.reserve(n)?;
-            self.room = n;
+            self.reserved = n;
         }
         Ok(())
     }
@@ -256,7 +256,7 @@ impl VersionTree {
         wide: bool,
         steps: &mut Steps,
     ) -> Size
-        requires room { 1 ≤ self.old.room }
+        requires reserved { 1 ≤ self.old.reserved }
         requires there { IfSome before (λ e. Lists e (newest_list self.old)) }
         requires number { elem ≡ length (newest_list self.old) }
         requires key { key < 2 ^ 23 }
@@ -264,7 +264,7 @@ impl VersionTree {
             ≡ self.old.lists ++ put before (record { elem = elem; shown = true; wide = wide; key = key }) (newest_list self.old) ∷ [] }
         ensures nodes { self.new.nodes ≤ self.old.nodes + (2 * digits (length (newest_list self.new)) + 4) }
         ensures at_most { self.new.nodes ≤ self.old.nodes + 40 }
-        ensures room { self.new.room + 1 ≡ self.old.room }
+        ensures reserved { self.new.reserved + 1 ≡ self.old.reserved }
         ensures shown { result.shown ≡ length (visible (entries_before elem (newest_list self.new))) }
         ensures units { result.units ≡ length (units (entries_before elem (newest_list self.new))) }
         ensures few { (result.shown ≤ MAX_ELEMENTS) × (result.units ≤ 2 * MAX_ELEMENTS) }
@@ -287,7 +287,7 @@ impl VersionTree {
             entry,
             steps,
         );
-        self.room -= 1;
+        self.reserved -= 1;
         self.roots.push_reserved(PackedRoot::new(Root {
             link: Some(top),
             size: root.size.plus(Size::of(&entry)),
@@ -297,12 +297,12 @@ impl VersionTree {
 
     /// Adds a version with an element hidden. Takes memory from the reserve alone. Costs what `hide_ranked` costs.
     pub fn hide(&mut self, elem: u32)
-        requires room { 1 ≤ self.old.room }
+        requires reserved { 1 ≤ self.old.reserved }
         requires shown { Shows elem (newest_list self.old) }
         ensures lists { self.new.lists ≡ self.old.lists ++ hidden elem (newest_list self.old) ∷ [] }
         ensures nodes { self.new.nodes ≤ self.old.nodes + (2 * digits (length (newest_list self.new)) + 4) }
         ensures at_most { self.new.nodes ≤ self.old.nodes + 40 }
-        ensures room { self.new.room + 1 ≡ self.old.room }
+        ensures reserved { self.new.reserved + 1 ≡ self.old.reserved }
     {
         let mut steps = Steps::new();
         let _rank = self.hide_ranked(elem, &mut steps);
@@ -311,12 +311,12 @@ impl VersionTree {
     /// The same, and tells how many shown elements stand before it, and how many units these have, as `ranks` would before. Climbs
     /// from the element, and takes at most as many steps as `ranks` may, and at most one for each node that it makes.
     pub fn hide_ranked(&mut self, elem: u32, steps: &mut Steps) -> Size
-        requires room { 1 ≤ self.old.room }
+        requires reserved { 1 ≤ self.old.reserved }
         requires shown { Shows elem (newest_list self.old) }
         ensures lists { self.new.lists ≡ self.old.lists ++ hidden elem (newest_list self.old) ∷ [] }
         ensures nodes { self.new.nodes ≤ self.old.nodes + (2 * digits (length (newest_list self.new)) + 4) }
         ensures at_most { self.new.nodes ≤ self.old.nodes + 40 }
-        ensures room { self.new.room + 1 ≡ self.old.room }
+        ensures reserved { self.new.reserved + 1 ≡ self.old.reserved }
         ensures shown { result.shown ≡ length (visible (entries_before elem (newest_list self.old))) }
         ensures units { result.units ≡ length (units (entries_before elem (newest_list self.old))) }
         ensures few { (result.shown ≤ MAX_ELEMENTS) × (result.units ≤ 2 * MAX_ELEMENTS) }
@@ -332,7 +332,7 @@ impl VersionTree {
             elem,
             steps,
         );
-        self.room -= 1;
+        self.reserved -= 1;
         self.roots.push_reserved(PackedRoot::new(Root {
             link: Some(hidden.top),
             size: root.size.minus(hidden.less),
@@ -342,13 +342,13 @@ impl VersionTree {
 
     /// Adds a version with the newest list again. Constant time.
     pub fn mark(&mut self)
-        requires { 1 ≤ self.old.room }
+        requires { 1 ≤ self.old.reserved }
         ensures lists { self.new.lists ≡ self.old.lists ++ newest_list self.old ∷ [] }
         ensures nodes { self.new.nodes ≡ self.old.nodes }
-        ensures room { self.new.room + 1 ≡ self.old.room }
+        ensures reserved { self.new.reserved + 1 ≡ self.old.reserved }
     {
         let root = last_root(self.roots.as_slice());
-        self.room -= 1;
+        self.reserved -= 1;
         self.roots.push_reserved(PackedRoot::new(root));
     }
 }

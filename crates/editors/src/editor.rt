@@ -2,7 +2,7 @@
 ghost use Rattle.std.specs.Prelude.{◌≡◌, ◌+◌, ◌<◌, ◌≤◌, ◌^◌, ◌⊎◌, ℕ, Some, None, length, take, IfErr, OnOk, OnErr};
 ghost use Rattle.opid.specs.declared.refusal.Refusal.TheVariants.{BadPlace, Memory};
 ghost use Rattle.opid.specs.Splice.{play};
-ghost use Rattle.room.specs.Editor.{empty_editor, with_reply, FollowsPart};
+ghost use Rattle.room_model.specs.Editor.{empty_editor, with_reply, FollowsPart};
 
 use opid::{Edit, Refusal};
 use room::Reply;
@@ -20,7 +20,7 @@ pub struct Editor {
 }
 
 impl Model for Editor {
-    ghost use Rattle.room.specs.Editor.{Editor};
+    ghost use Rattle.room_model.specs.Editor.{Editor};
 
     ghost Value = { Editor };
 

@@ -2,7 +2,7 @@
 ghost use Rattle.std.specs.Prelude.{◌≡◌, ◌+◌, ◌<◌, ◌≤◌, ◌^◌, ◌⊎◌, ℕ, true, Some, None, length, take, IfErr, OnOk, OnErr};
 ghost use Rattle.opid.specs.declared.refusal.Refusal.TheVariants.{BadPlace, Memory};
 ghost use Rattle.opid.specs.Splice.{play_in};
-ghost use Rattle.room.specs.Editor.{empty_editor, with_reply_in, FollowsPart_in};
+ghost use Rattle.room_model.specs.Editor.{empty_editor, with_reply_in, FollowsPart_in};
 
 use opid::{Edit, Refusal};
 use room::Reply;
@@ -20,7 +20,7 @@ pub struct UnitEditor {
 }
 
 impl Model for UnitEditor {
-    ghost use Rattle.room.specs.Editor.{Editor};
+    ghost use Rattle.room_model.specs.Editor.{Editor};
 
     ghost Value = { Editor };
 

@@ -2,8 +2,8 @@
 use Rattle.std.proofs.Common.{◌≡◌, ℕ, Bool, true, false, cond, Some, None, List, [], ◌∷◌, refl, ap, subst}
 use Rattle.opid.specs.Clocks.{is_next}
 use Rattle.opid.specs.Operations.{Operation}
-use Rattle.holdback.specs.Ready.{first_ready, without_first_ready}
-use Rattle.holdback.specs.First.{NoneReady, IsFirstReady}
+use Rattle.opid.specs.Held.{first_ready, without_first_ready}
+use Rattle.opid.specs.Held.{NoneReady, IsFirstReady}
 
 pub first_ready-Some : (clock : List ℕ) (held : List Operation) (x : Operation) → first_ready clock held ≡ Some x
     → IsFirstReady clock held x (without_first_ready clock held)

@@ -16,8 +16,8 @@ use Rattle.opid.specs.Clocks.{entry, covers_others, is_next}
 use Rattle.opid.specs.declared.kind.OpKind.TheVariants.{Del}
 use Rattle.opid.specs.Operations.{Operation, number_of}
 use Rattle.opid.specs.declared.refusal.Refusal.TheVariants.{Conflict}
-use Rattle.holdback.specs.Same.{is_same_operation}
-use Rattle.holdback.specs.Offered.{with_number, is_same_number, compared, look_for}
+use Rattle.opid.specs.Held.{is_same_operation}
+use Rattle.opid.specs.Held.{with_number, is_same_number, compared, look_for}
 use Rattle.holdback.specs.Internal.Packed.{unpacked, AreDue, NoneDue, NoneReadyIn, IsFirstReadyIn}
 
 -- an operation for places past the end

@@ -6,7 +6,7 @@ use Rattle.std.specs.List.{remove, position_or_len}
 use Rattle.std.proofs.lemmas.Bool.Decides.{nat_tests}
 use Rattle.opid.specs.Clocks.{is_next}
 use Rattle.opid.specs.Operations.{Operation}
-use Rattle.holdback.specs.Ready.{first_ready, without_first_ready}
+use Rattle.opid.specs.Held.{first_ready, without_first_ready}
 use Rattle.holdback.proofs.Firsts.{first_ready-Some}
 
 -- the place of the first that is ready, or how many there are

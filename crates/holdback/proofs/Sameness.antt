@@ -7,7 +7,7 @@ use Rattle.opid.specs.declared.kind.OpKind.TheVariants.{Ins, Del}
 use Rattle.opid.specs.Stamps.{is_same_parent}
 use Rattle.opid.specs.Operations.{Operation}
 use Rattle.opid.proofs.Order.{is_same-eq, is_same-refl, is_same_parent-eq, is_same_parent-refl}
-use Rattle.holdback.specs.Same.{is_same_clock, is_same_kind, is_same_operation}
+use Rattle.opid.specs.Held.{is_same_clock, is_same_kind, is_same_operation}
 
 clocks : (a b : List ℕ) → is_same_clock a b ≡ true → a ≡ b
 clocks [] [] h = refl

@@ -6,30 +6,21 @@ ghost use Rattle.std.specs.Simd.Lanes.{chunk};
 ghost use Rattle.opid.specs.declared.refusal.Refusal.TheVariants.{Memory};
 ghost use Rattle.opid.specs.Clocks.{entry, is_next};
 ghost use Rattle.opid.specs.Operations.{number_of};
-ghost use Rattle.holdback.specs.declared.held.Arrival.TheVariants as arrivals;
-ghost use Rattle.holdback.specs.Same.{is_same_operation};
-ghost use Rattle.holdback.specs.Offered.{look_for, offered, after_arrival};
+ghost use Rattle.opid.specs.declared.arrival.Arrival.TheVariants as arrivals;
+ghost use Rattle.opid.specs.Held.{is_same_operation};
+ghost use Rattle.opid.specs.Held.{look_for, offered, after_arrival};
 ghost use Rattle.holdback.specs.Internal.Packed.{unpacked, AreDue, NoneDue, NoneReadyIn, IsFirstReadyIn};
-ghost use Rattle.holdback.specs.Ready.{first_ready, without_first_ready};
+ghost use Rattle.opid.specs.Held.{first_ready, without_first_ready};
 
 use crate::in_order::InOrder;
 use causal_clock::{Clock, Op};
-use opid::{MAX_HELD, Refusal, SITES, Site};
+use opid::{Arrival, MAX_HELD, Refusal, SITES, Site};
 use std::alloc::Global;
 use std::marker::Model;
 use std::simd::prelude::*;
 
 // So many numbers are looked at together.
 const BLOCK: usize = 16;
-
-/// How an operation arrived.
-#[derive(Clone, Copy, Debug, PartialEq, Eq)]
-pub enum Arrival {
-    /// It is new, and held back from now on.
-    Kept,
-    /// It is held back already: it came again.
-    Again,
-}
 
 /// Operations whose causal past isn't there yet, in order of arrival: at most 1,024 of some 160 bytes each.
 #[derive(Drop)]
@@ -43,21 +34,21 @@ impl Model for Held {
     ghost use Rattle.std.specs.Prelude.{◌≡◌, ◌≤◌, map, length, vec_capacity};
     ghost use Rattle.opid.specs.declared.limits.TheConstants.{MAX_HELD};
     ghost use Rattle.opid.specs.Operations.{number_of};
-    ghost use Rattle.holdback.specs.Offered.{HeldOperations};
+    ghost use Rattle.opid.specs.Held.{HeldOperations};
     ghost use Rattle.holdback.specs.Internal.Packed.{unpacked};
 
     ghost Value = { HeldOperations };
 
     ghost view = { λ h. h.kept };
 
-    ghost invariant = { λ h. (length h.kept.ops ≤ MAX_HELD) × (h.kept.room ≤ vec_capacity h.numbers)
+    ghost invariant = { λ h. (length h.kept.ops ≤ MAX_HELD) × (h.kept.reserved ≤ vec_capacity h.numbers)
         × (map unpacked h.numbers.items ≡ map number_of h.kept.ops) };
 }
 
 impl Held {
     /// Nothing is held back. Constant time; takes no memory.
     pub fn new(alloc: Global) -> Held
-        ensures { result ≡ record { ops = []; room = 0 } }
+        ensures { result ≡ record { ops = []; reserved = 0 } }
     {
         Held {
             kept: InOrder::new(alloc),
@@ -100,7 +91,7 @@ impl Held {
 
         // Each cause, and only then; on a refusal all is as before.
         ensures cause { IfErr result (λ e. (offered op self.old.ops ≡ Err e)
-            ⊎ ((offered op self.old.ops ≡ Ok arrivals.Kept) × (e ≡ Memory) × (self.old.room ≤ length self.old.ops))) }
+            ⊎ ((offered op self.old.ops ≡ Ok arrivals.Kept) × (e ≡ Memory) × (self.old.reserved ≤ length self.old.ops))) }
         ensures err { OnErr result (self.new ≡ self.old) }
     {
         if self.look(&op)? {
@@ -140,9 +131,9 @@ impl Held {
     /// Reserves memory, so that the next `n` operations that are kept aren't refused with `Memory`. Constant time; nothing grows where so
     /// many are reserved already. Refused with `Memory`, only where fewer are.
     pub fn reserve(&mut self, n: usize) -> Result<(), Refusal>
-        ensures ok { OnOk result (self.new ≡ record self.old { room = max self.old.room (length self.old.ops + n) }) }
+        ensures ok { OnOk result (self.new ≡ record self.old { reserved = max self.old.reserved (length self.old.ops + n) }) }
         ensures err { OnErr result (self.new ≡ self.old) }
-        ensures memory { IfErr result (λ e. (e ≡ Memory) × (self.old.room < length self.old.ops + n)) }
+        ensures memory { IfErr result (λ e. (e ≡ Memory) × (self.old.reserved < length self.old.ops + n)) }
     {
         self.numbers.reserve(n)?;
         self.kept.reserve(n)

@@ -16,33 +16,33 @@ pub(crate) struct InOrder {
     // The slots of the operations, in order, and behind them those that are free.
     order: Vec<u16>,
     len: usize,
-    room: usize,
+    reserved: usize,
 }
 
 impl Model for InOrder {
     ghost use Rattle.std.specs.Prelude.{◌≡◌, ◌≤◌, vec_len, vec_capacity};
     ghost use Rattle.opid.specs.declared.limits.TheConstants.{MAX_HELD};
-    ghost use Rattle.holdback.specs.Offered.{HeldOperations};
+    ghost use Rattle.opid.specs.Held.{HeldOperations};
     ghost use Rattle.holdback.specs.Internal.Slots.{arranged, AreSlots};
 
     ghost Value = { HeldOperations };
 
-    ghost view = { λ h. record { ops = arranged h.slots.items h.order.items h.len; room = h.room } };
+    ghost view = { λ h. record { ops = arranged h.slots.items h.order.items h.len; reserved = h.reserved } };
 
-    ghost invariant = { λ h. (vec_len h.slots ≤ MAX_HELD) × (h.room ≤ vec_capacity h.slots) × (h.room ≤ vec_capacity h.order)
+    ghost invariant = { λ h. (vec_len h.slots ≤ MAX_HELD) × (h.reserved ≤ vec_capacity h.slots) × (h.reserved ≤ vec_capacity h.order)
         × (vec_len h.order ≡ vec_len h.slots) × (h.len ≤ vec_len h.slots) × AreSlots (vec_len h.slots) h.order.items };
 }
 
 impl InOrder {
     /// No operations. Constant time; takes no memory.
     pub fn new(alloc: Global) -> InOrder
-        ensures { result ≡ record { ops = []; room = 0 } }
+        ensures { result ≡ record { ops = []; reserved = 0 } }
     {
         InOrder {
             slots: Vec::new(alloc),
             order: Vec::new(alloc),
             len: 0,
-            room: 0,
+            reserved: 0,
         }
     }
 
@@ -69,7 +69,7 @@ impl InOrder {
         requires { length self.old.ops < MAX_HELD }
         ensures ok { OnOk result (self.new ≡ record self.old { ops = self.old.ops ++ op ∷ [] }) }
         ensures err { OnErr result (self.new ≡ self.old) }
-        ensures memory { IfErr result (λ e. (e ≡ Memory) × (self.old.room ≤ length self.old.ops)) }
+        ensures memory { IfErr result (λ e. (e ≡ Memory) × (self.old.reserved ≤ length self.old.ops)) }
     {
         if self.len < self.slots.len() {
             let slot = usize::from(self.order[self.len]);
@@ -102,17 +102,17 @@ impl InOrder {
     /// Reserves memory for the next `n`. Constant time; nothing grows where so many are reserved already. Refused with `Memory`,
     /// only where fewer are.
     pub fn reserve(&mut self, n: usize) -> Result<(), Refusal>
-        ensures ok { OnOk result (self.new ≡ record self.old { room = max self.old.room (length self.old.ops + n) }) }
+        ensures ok { OnOk result (self.new ≡ record self.old { reserved = max self.old.reserved (length self.old.ops + n) }) }
         ensures err { OnErr result (self.new ≡ self.old) }
-        ensures memory { IfErr result (λ e. (e ≡ Memory) × (self.old.room < length self.old.ops + n)) }
+        ensures memory { IfErr result (λ e. (e ≡ Memory) × (self.old.reserved < length self.old.ops + n)) }
     {
-        if self.len <= self.room && n <= self.room - self.len {
+        if self.len <= self.reserved && n <= self.reserved - self.len {
             return Ok(());
         }
         let more = n.saturating_sub(self.slots.len() - self.len);
         self.slots.reserve(more)?;
         self.order.reserve(more)?;
-        self.room = self.len + n;
+        self.reserved = self.len + n;
         Ok(())
     }
 }

@@ -2,9 +2,9 @@
 //! so that it is proved with the crate.
 ghost use Rattle.std.specs.Prelude.{◌≡◌, ℕ, true, List, Some, None};
 ghost use Rattle.opid.specs.Operations.{Operation};
-ghost use Rattle.holdback.specs.Same.{is_same_operation};
-ghost use Rattle.holdback.specs.Ready.{first_ready, without_first_ready};
-ghost use Rattle.holdback.specs.First.{NoneReady, IsFirstReady};
+ghost use Rattle.opid.specs.Held.{is_same_operation};
+ghost use Rattle.opid.specs.Held.{first_ready, without_first_ready};
+ghost use Rattle.opid.specs.Held.{NoneReady, IsFirstReady};
 
 /// The test of sameness is equality.
 #[tactic(auto, using(crate::proofs::Stated::laws))]

@@ -8,5 +8,5 @@ mod held;
 mod in_order;
 pub mod laws;
 
-pub use held::{Arrival, Held};
-pub use opid::MAX_HELD;
+pub use held::Held;
+pub use opid::{Arrival, MAX_HELD};

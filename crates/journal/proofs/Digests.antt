@@ -8,7 +8,7 @@ use lib.Dec.{eqb}
 use Rattle.hex.specs.Hex.{encode_lower, encode_with, lower_digits}
 use Rattle.sha2.specs.Sha256.{sha256}
 use Rattle.opid.specs.Operations.{Operation}
-use Rattle.room_calls.specs.declared.reply.Reply.TheVariants.{Ops}
+use Rattle.room_model.specs.declared.reply.Reply.TheVariants.{Ops}
 use Rattle.wire_json.specs.Text.{text}
 use Rattle.wire_json.specs.Line.{IsLine}
 use Rattle.journal.specs.Journal.{IsEnded, behind_byte, whole_lines, digest_line, with_end, part_lines}

@@ -14,8 +14,8 @@ use Rattle.opid.specs.declared.stamp.Stamp.{Stamp}
 use Rattle.opid.specs.declared.kind.OpKind.{OpKind}
 use Rattle.opid.specs.declared.kind.OpKind.TheVariants.{Ins, Del}
 use Rattle.opid.specs.Operations.{Operation}
-use Rattle.causal_clock.specs.Kinds.{IsClock}
-use Rattle.room_calls.specs.declared.reply.Reply.TheVariants.{Ops}
+use Rattle.opid.specs.Kinds.{IsClock}
+use Rattle.room_model.specs.declared.reply.Reply.TheVariants.{Ops}
 use Rattle.operation_json.specs.Packing.{Item, packed_items}
 use Rattle.operation_json.specs.Text.{more, in_brackets, IsOperationInRange, IsStampInRange, IsKindInRange, pairs_of, pair_text, clock_text}
 use Rattle.operation_json.specs.Text.{stamp_text, parent_text, op_text_of, item_text_of, item_text, packed_text}

@@ -8,7 +8,7 @@ use Rattle.opid.specs.declared.refusal.Refusal.{Refusal}
 use Rattle.opid.specs.Operations.{Operation}
 use Rattle.opid.specs.Lawful.{IsLawful, GoesOn}
 use Rattle.opid.proofs.Logs.{IsLawful-take, goes_on_after}
-use Rattle.room_calls.specs.declared.reply.Reply.TheVariants.{Ops}
+use Rattle.room_model.specs.declared.reply.Reply.TheVariants.{Ops}
 use Rattle.operation_json.specs.Members.{◌>>=◌}
 use Rattle.operation_json.specs.PackedOperations.{concatenated}
 use Rattle.wire_json.specs.Text.{text}

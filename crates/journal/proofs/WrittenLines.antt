@@ -4,7 +4,7 @@ use Rattle.std.proofs.Common.{append_assoc, append-nil, length-append, add-zero,
 use Rattle.std.specs.List.{AllByRecursion}
 use Rattle.opid.specs.Operations.{Operation}
 use Rattle.opid.specs.Lawful.{IsLawful}
-use Rattle.room_calls.specs.declared.reply.Reply.TheVariants.{Ops}
+use Rattle.room_model.specs.declared.reply.Reply.TheVariants.{Ops}
 use Rattle.operation_json.specs.PackedOperations.{concatenated}
 use Rattle.wire_json.specs.Text.{text}
 use Rattle.journal.specs.Journal.{IsEnded, FitsLine, AreLinesOf, StandsFor, whole_lines, digest_line, with_end, part_lines}

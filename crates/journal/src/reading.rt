@@ -38,7 +38,7 @@ pub struct Journal {
 /// for one line at a time.
 pub fn read_journal(alloc: Global, bytes: &[u8]) -> Result<Journal, JournalFault>
     ensures stands { IfOk result (λ j. StandsFor bytes.now j.doc.log) }
-    ensures unreserved { IfOk result (λ j. j.doc.room ≡ 0) }
+    ensures unreserved { IfOk result (λ j. j.doc.reserved ≡ 0) }
     ensures ends { IfOk result (λ j. EndsLines j.length bytes.now) }
     ensures digest { IfOk result (λ j. Holds256 j.digest (take j.length bytes.now)) }
     ensures cause { IfErr result (λ e. (e ≡ Memory) ⊎ StandsForNone bytes.now) }
@@ -79,7 +79,7 @@ fn append_line(alloc: Global, doc: &mut Doc, before: &Sha256, line: &[u8]) -> Re
         × (line_told bytes (length doc.old.log) line.now ≡ Ok ops) × (doc.new.log ≡ doc.old.log ++ ops)) }
     ensures lawful { OnOk result (IsLawful doc.old.log → IsLawful doc.new.log) }
     ensures few { OnOk result (length doc.old.log ≤ MAX_OPERATIONS → length doc.new.log ≤ MAX_OPERATIONS) }
-    ensures unreserved { OnOk result (doc.old.room ≡ 0 → doc.new.room ≡ 0) }
+    ensures unreserved { OnOk result (doc.old.reserved ≡ 0 → doc.new.reserved ≡ 0) }
     ensures cause { IfErr result (λ e. (e ≡ refusals.Memory) ⊎ ((bytes : List ℕ) → Holds256 before.now bytes → (ops : List Operation)
         → line_told bytes (length doc.old.log) line.now ≡ Ok ops
         → GoesOn doc.old.log ops → length doc.old.log + length ops ≤ MAX_OPERATIONS → ⊥)) }
@@ -100,7 +100,7 @@ fn append_part(alloc: Global, doc: &mut Doc, line: &[u8]) -> Result<(), Refusal>
         × (doc.new.log ≡ doc.old.log ++ ops)) }
     ensures lawful { OnOk result (IsLawful doc.new.log) }
     ensures few { OnOk result (length doc.new.log ≤ MAX_OPERATIONS) }
-    ensures unreserved { OnOk result (doc.old.room ≡ 0 → doc.new.room ≡ 0) }
+    ensures unreserved { OnOk result (doc.old.reserved ≡ 0 → doc.new.reserved ≡ 0) }
     ensures cause { IfErr result (λ e. (e ≡ refusals.Memory) ⊎ ((ops : List Operation)
         → next_part (length doc.old.log) line.now ≡ Ok ops
         → GoesOn doc.old.log ops → length doc.old.log + length ops ≤ MAX_OPERATIONS → ⊥)) }

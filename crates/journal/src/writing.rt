@@ -1,7 +1,7 @@
 //! Writing lines of a journal.
 ghost use Rattle.std.specs.Prelude.{◌≡◌, ◌≤◌, ◌+◌, ◌++◌, ℕ, List, length, IfOk, IfErr, OnOk, string_bytes};
 ghost use Rattle.opid.specs.declared.refusal.Refusal.TheVariants.{Memory};
-ghost use Rattle.room_calls.specs.declared.reply.Reply.TheVariants.{Ops};
+ghost use Rattle.room_model.specs.declared.reply.Reply.TheVariants.{Ops};
 ghost use Rattle.wire_json.specs.Text.{IsInRange, text};
 ghost use Rattle.sha2.specs.Hashers.{Holds256};
 ghost use Rattle.journal.specs.Journal.{AreLinesOf, part_lines, with_end};
@@ -9,7 +9,7 @@ ghost use Rattle.journal.specs.Journal.{AreLinesOf, part_lines, with_end};
 use crate::digest::digest_line;
 use causal_clock::Op;
 use opid::{MAX_COUNT, MAX_OPERATIONS, Refusal};
-use room_calls::{Operations, Reply};
+use room_model::{Operations, Reply};
 use sha2::{Digest, Sha256};
 use std::alloc::{AllocError, Global};
 use wire_json::write_reply;

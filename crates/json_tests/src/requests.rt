@@ -1,6 +1,6 @@
 //! Requests of each kind but `put`, whose runs are tried apart, with the greatest numbers; and refused ones.
 use opid::Refusal;
-use room_calls::Call;
+use room_model::Call;
 use std::alloc::Global;
 use std::test::Fail;
 use wire_json::read_request;

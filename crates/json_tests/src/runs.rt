@@ -3,7 +3,7 @@ ghost use Rattle.std.specs.Prelude.{◌<◌, ◌≤◌};
 
 use causal_clock::{Clock, MAX_SUM, Op};
 use opid::{OpKind, Refusal, Site, Stamp};
-use room_calls::{Call, Operations, Reply};
+use room_model::{Call, Operations, Reply};
 use std::alloc::Global;
 use std::ops::Range;
 use std::test::Fail;

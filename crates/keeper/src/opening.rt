@@ -74,7 +74,7 @@ pub fn find<D: Disk>(alloc: Global, disk: D, room: usize) -> Result<Found<D>, Un
     ensures stands { IfOk result (λ f. D.honest disk → StandsFor (D.seen disk) f.doc.log) }
     ensures whole { IfOk result (λ f. (kept_of f.file).mark.version ≡ length f.doc.log) }
     ensures room { IfOk result (λ f. (kept_of f.file).room ≡ room) }
-    ensures unreserved { IfOk result (λ f. f.doc.room ≡ 0) }
+    ensures unreserved { IfOk result (λ f. f.doc.reserved ≡ 0) }
     ensures tail { IfOk result (λ f. D.honest disk → IsCutShort (kept_of f.file).mark.length (tail_of f.file) (D.seen disk)) }
     ensures some { IfOk result (λ f. HasTail f.file) }
 
@@ -141,7 +141,7 @@ fn look<D: Disk>(alloc: Global, disk: &mut D) -> Result<Read, OpenFault>
         → KeepsAt D.honest D.seen D.may_leave D.fresh disk.new f.mark b f.doc.log) }
     ensures stands { IfOk result (λ f. D.honest disk.old → StandsFor (D.seen disk.old) f.doc.log) }
     ensures whole { IfOk result (λ f. f.mark.version ≡ length f.doc.log) }
-    ensures unreserved { IfOk result (λ f. f.doc.room ≡ 0) }
+    ensures unreserved { IfOk result (λ f. f.doc.reserved ≡ 0) }
     ensures bytes { IfOk result (λ f. D.honest disk.old → f.bytes.items ≡ D.seen disk.old) }
     ensures ends { IfOk result (λ f. EndsLines f.mark.length f.bytes.items) }
     ensures any_moment { D.honest disk.old → LeavesOnly D.moment D.left_since disk.old disk.new (D.may_leave disk.old) }

@@ -6,8 +6,8 @@ use Rattle.std.specs.List.{range_with_len}
 use Rattle.std.proofs.Common.{refl, ap, ap₂, sym, subst, ◌∙◌, arith}
 use Rattle.std.proofs.lemmas.List.{length-map}
 use Rattle.std.proofs.lemmas.Option.{slice_get_within}
-use Rattle.room.specs.Machine.{State, room_over}
-use Rattle.room.specs.History.{state_of}
+use Rattle.room_model.specs.Machine.{State, room_over}
+use Rattle.room_model.specs.History.{state_of}
 use Rattle.shared_room.specs.declared.pass.Pass.{Pass}
 use Rattle.shared_room.specs.declared.shared.SharedRoom.{SharedRoom}
 use Rattle.shared_room.specs.Views.{View, view, left, opening}

@@ -6,9 +6,9 @@ use mathlib.Core.List.{IsPrefix}
 use Rattle.opid.specs.declared.refusal.Refusal.{Refusal}
 use Rattle.opid.specs.declared.refusal.Refusal.TheVariants.{Worn, Memory}
 use Rattle.opid.specs.Lawful.{IsLawful}
-use Rattle.room_calls.specs.declared.call.Call.{Call}
-use Rattle.room.specs.Machine.{State, room_over, next}
-use Rattle.room.specs.History.{state_of, replayed, IsConsistent}
+use Rattle.room_model.specs.declared.call.Call.{Call}
+use Rattle.room_model.specs.Machine.{State, room_over, next}
+use Rattle.room_model.specs.History.{state_of, replayed, IsConsistent}
 use Rattle.room.proofs.Handing.{Extends, Extends-refl}
 use Rattle.room.proofs.Known.{state_of-extends}
 use Rattle.room.proofs.Replayed.{legal_history}

@@ -4,7 +4,7 @@ use Rattle.opid.specs.declared.limits.TheConstants.{MAX_OPERATIONS}
 use Rattle.opid.specs.declared.site.TheConstants.{SITES}
 use Rattle.opid.specs.Operations.{Operation}
 use Rattle.opid.specs.Lawful.{IsLawful}
-use Rattle.room.specs.Machine.{room_over}
+use Rattle.room_model.specs.Machine.{room_over}
 use Rattle.shared_room.specs.declared.shared.SharedRoom.{SharedRoom}
 use Rattle.shared_room.specs.Views.{opening}
 use Rattle.ws_server.specs.declared.hall.Hall.{Hall}

@@ -1,7 +1,7 @@
 -- The log of a room, as far as a pass has seen it. The rules are the server's own.
 use Rattle.std.specs.Prelude.{◌≡◌, ℕ, List, [], Option, Some, None, slice_get}
 use Rattle.opid.specs.Operations.{Operation}
-use Rattle.room.specs.History.{state_of}
+use Rattle.room_model.specs.History.{state_of}
 use Rattle.shared_room.specs.declared.pass.Pass.{Pass}
 use Rattle.shared_room.specs.declared.shared.SharedRoom.{SharedRoom}
 use Rattle.shared_room.specs.Views.{view, opening}

@@ -28,7 +28,7 @@ pub fn follow<R: Wait>(
     ensures grows { IsPrefix (seen_log hall.now at pass.old) (seen_log hall.now at pass.new) }
     ensures followed { OnOk result (IsPrefix doc.old.log (seen_log hall.now at pass.old)
         → doc.new.log ≡ seen_log hall.now at pass.new) }
-    ensures unreserved { OnOk result (doc.old.room ≡ 0 → doc.new.room ≡ 0) }
+    ensures unreserved { OnOk result (doc.old.reserved ≡ 0 → doc.new.reserved ≡ 0) }
 {
     let version = doc.version();
     let look = match hall.look(rt, pass, at, version) {

@@ -40,7 +40,7 @@ pub fn open_hall(
     openings: Vec<Opening>,
 ) -> Result<(Hall, HallPass), Unopened>
     requires counted { length openings.items ≡ length names.now }
-    requires unreserved { All (λ it. it.doc.room ≡ 0) openings.items }
+    requires unreserved { All (λ it. it.doc.reserved ≡ 0) openings.items }
     ensures passes { IfOk result (λ r. IsHallPassOf r.0 r.1) }
     ensures opened { IfOk result (λ r. IsOpenedOver (map string_bytes names.now) (map replica_over openings.items) r.0 r.1) }
     ensures unused { OnOk result (All (λ it. LacksSite it.site it.doc.log) openings.items) }

@@ -4,10 +4,10 @@ use Rattle.std.proofs.Math.Logic.{⊎_elim}
 use Rattle.std.proofs.lemmas.Bool.{cases_lt}
 use Rattle.opid.specs.declared.refusal.Refusal.{Refusal}
 use Rattle.opid.specs.declared.refusal.Refusal.TheVariants.{TooLong, Memory as NoMemory}
-use Rattle.room_calls.specs.declared.call.Call.{Call}
-use Rattle.room_calls.specs.declared.reply.Reply.{Reply}
-use Rattle.room_calls.specs.declared.reply.Reply.TheVariants.{No}
-use Rattle.room.specs.declared.desk.DeskFault.{DeskFault}
+use Rattle.room_model.specs.declared.call.Call.{Call}
+use Rattle.room_model.specs.declared.reply.Reply.{Reply}
+use Rattle.room_model.specs.declared.reply.Reply.TheVariants.{No}
+use Rattle.room_model.specs.declared.desk_fault.DeskFault.{DeskFault}
 use Rattle.wire_json.specs.Request.{request}
 use Rattle.wire_json.specs.Text.{text as text_of}
 use Rattle.line_engine.specs.AnsweredRequests.{AnswersRequest, AnswersAsked, reply_of}

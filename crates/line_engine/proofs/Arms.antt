@@ -5,7 +5,7 @@ use Rattle.std.specs.Io.KnownBytes.{Consumes, Appends, IsAtEnd}
 use Rattle.std.proofs.Math.Seq.{take-append_seam, drop-append-add}
 use Rattle.wire_json.specs.Text.{text as text_of}
 use Rattle.line_engine.specs.Internal.Turns.{Turn, Cuts, SentOn, after_sending}
-use Rattle.room_calls.specs.declared.reply.Reply.TheVariants.{No}
+use Rattle.room_model.specs.declared.reply.Reply.TheVariants.{No}
 use Rattle.opid.specs.declared.refusal.Refusal.TheVariants.{TooLong}
 use Rattle.line_engine.specs.declared.fault.ServeFault.{ServeFault}
 use Rattle.line_engine.specs.declared.fault.ServeFault.TheVariants.{Read}

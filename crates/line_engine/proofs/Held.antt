@@ -66,7 +66,7 @@ find_some bytes rest from at within is before low none here =
 min_le : (n m : ℕ) → n ≤ m → min n m ≡ n
 min_le n m h = omega arith
 
--- a read into the room behind the part
+-- a read into what is free behind the part
 pub fill_some : (a d : Option (List ℕ)) (start len n : ℕ) (held moved slice new : List ℕ)
     → part start len moved ≡ held → slice ≡ moved → take (start + len) new ≡ take (start + len) slice
     → (start + len + n ≤ length new) × Consumes a d (take n (drop (start + len) new)) × (n ≡ 0 → IsAtEnd d)

@@ -2,8 +2,8 @@
 use Rattle.std.proofs.Common.{◌≡◌, ◌≢◌, ℕ, List, ◌∷◌, Result, Ok, Err, IfOk, MatchResult, IsOkAnd, arith, ap, refl}
 use Rattle.std.proofs.Common.{◌⊎◌, inl, inr}
 use Rattle.opid.specs.declared.refusal.Refusal.{Refusal}
-use Rattle.room_calls.specs.declared.reply.Reply.{Reply}
-use Rattle.room_calls.specs.declared.reply.Reply.TheVariants as replies
+use Rattle.room_model.specs.declared.reply.Reply.{Reply}
+use Rattle.room_model.specs.declared.reply.Reply.TheVariants as replies
 use Rattle.wire_json.specs.Text.{text}
 use Rattle.line_engine.specs.declared.reply_line.ReplyLine.{ReplyLine}
 use Rattle.line_engine.specs.declared.reply_line.ReplyLine.TheVariants.{Made, Fixed}

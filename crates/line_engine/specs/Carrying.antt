@@ -2,13 +2,13 @@
 use Rattle.std.specs.Prelude.{◌≡◌, ℕ, ◌+◌, List, [], ◌∷◌, length, Bool, true, false, not, take_while, Result, Ok, Err}
 use Rattle.opid.specs.declared.refusal.Refusal.TheVariants.{Full, HoldFull}
 use Rattle.opid.specs.Operations.{Operation}
-use Rattle.room_calls.specs.declared.call.Call.{Call}
-use Rattle.room_calls.specs.declared.call.Call.TheVariants as calls
-use Rattle.room_calls.specs.declared.reply.Reply.{Reply}
-use Rattle.room_calls.specs.declared.reply.Reply.TheVariants as replies
-use Rattle.room_calls.specs.declared.outcome.Outcome.{Outcome}
-use Rattle.room_calls.specs.declared.outcome.Outcome.TheVariants as outcomes
-use Rattle.room.specs.declared.desk.DeskFault.{DeskFault}
+use Rattle.room_model.specs.declared.call.Call.{Call}
+use Rattle.room_model.specs.declared.call.Call.TheVariants as calls
+use Rattle.room_model.specs.declared.reply.Reply.{Reply}
+use Rattle.room_model.specs.declared.reply.Reply.TheVariants as replies
+use Rattle.room_model.specs.declared.outcome.Outcome.{Outcome}
+use Rattle.room_model.specs.declared.outcome.Outcome.TheVariants as outcomes
+use Rattle.room_model.specs.declared.desk_fault.DeskFault.{DeskFault}
 
 -- whether an operation is to be handed over again: its log or its held list was full
 abbrev pub is_refused_for_room : Outcome → Bool
@@ -16,7 +16,7 @@ is_refused_for_room (outcomes.No Full) = true
 is_refused_for_room (outcomes.No HoldFull) = true
 is_refused_for_room _ = false
 
--- how many outcomes there are before the first for which there was no room
+-- how many outcomes there are before the first that the room had no place for
 abbrev pub carried : List Outcome → ℕ
 carried told = length (take_while (λ o. not (is_refused_for_room o)) told)
 

@@ -1,7 +1,7 @@
 -- The bytes of an answer's line, and which answers need no memory: those that tell refusals. They are the server's own.
 use Rattle.std.specs.Prelude.{◌≢◌, ℕ, List, string_bytes}
 use Rattle.opid.specs.declared.refusal.Refusal.{Refusal}
-use Rattle.room_calls.specs.declared.reply.Reply.TheVariants.{No}
+use Rattle.room_model.specs.declared.reply.Reply.TheVariants.{No}
 use Rattle.wire_json.specs.Text.{text}
 use Rattle.line_engine.specs.declared.reply_line.ReplyLine.{ReplyLine}
 use Rattle.line_engine.specs.declared.reply_line.ReplyLine.TheVariants.{Made, Fixed}

@@ -1,8 +1,8 @@
 //! Carries operations from a desk to a desk.
 ghost use Rattle.std.specs.Prelude.{◌≡◌, ℕ, ◌<◌, ◌≤◌, Result, length};
-ghost use Rattle.room_calls.specs.declared.reply.Reply.{Reply};
-ghost use Rattle.room.specs.declared.desk.DeskFault.{DeskFault};
-ghost use Rattle.room_calls.specs.declared.call.Call.TheVariants as calls;
+ghost use Rattle.room_model.specs.declared.reply.Reply.{Reply};
+ghost use Rattle.room_model.specs.declared.desk_fault.DeskFault.{DeskFault};
+ghost use Rattle.room_model.specs.declared.call.Call.TheVariants as calls;
 ghost use Rattle.line_engine.specs.Carrying.{Calls, Hands, HandsTold, carried, is_refused_for_room};
 
 use opid::{MAX_COUNT, MAX_OPERATIONS, Refusal};
@@ -15,7 +15,7 @@ fn is_refused_for_room(outcome: Outcome) -> bool
     matches!(outcome, Outcome::No(Refusal::Full | Refusal::HoldFull))
 }
 
-// How many outcomes there are before the first for which there was no room.
+// How many outcomes there are before the first that the room had no place for.
 fn carried_by(outcomes: &Outcomes) -> usize
     ensures count { result ≡ carried outcomes.now }
     ensures within { result ≤ length outcomes.now }

@@ -57,7 +57,7 @@ impl<R: Source> Counted<R> {
     /// After 2^64 - 1 reads each further one fails, and is counted: so a reader that never ends is left at last. Takes
     /// the time of one call of the reader.
     pub fn read(&mut self, buf: &mut [u8]) -> Option<usize>
-        requires room { 0 < length buf.old }
+        requires free { 0 < length buf.old }
         requires few_failed { self.old.failures < 2 ^ 63 }
         ensures gave { ReadGave (R.remaining self.old.inner) (R.remaining self.new.inner) result buf.new }
         ensures counted { MatchOption result (self.new.failures ≡ self.old.failures + 1) (λ _. self.new.failures ≡ self.old.failures) }

@@ -2,7 +2,7 @@
 ghost use Rattle.std.specs.Prelude.{◌≡◌, ◌⊎◌, ℕ, ◌+◌, ◌^◌, ◌<◌, ◌≤◌, List, [], ◌++◌, true, IfOk, IfErr, IsTrue};
 ghost use Rattle.std.specs.Io.KnownBytes.{Appends, Consumes};
 ghost use Rattle.opid.specs.declared.refusal.Refusal.TheVariants.{TooLong};
-ghost use Rattle.room_calls.specs.declared.reply.Reply.TheVariants.{No};
+ghost use Rattle.room_model.specs.declared.reply.Reply.TheVariants.{No};
 ghost use Rattle.wire_json.specs.Text.{text};
 ghost use Rattle.line_engine.specs.AnsweredRequests.{AnswersRequest};
 ghost use Rattle.line_engine.specs.ServedLines.{Serves, StartsNot};
@@ -130,7 +130,7 @@ fn goes_on(sent: Result<(), ServeFault>, more: bool) -> Result<bool, ServeFault>
 /// `Memory` a line was answered, by no refusal, and nothing of its answer was written. A read that a signal interrupts is a
 /// fault, and so is a write that takes nothing. The writer isn't flushed.
 ///
-/// Reads into all the room behind the bytes held, at least 65,536 bytes, and writes each answer in one call, where the
+/// Reads into all that is free behind the bytes held, at least 65,536 bytes, and writes each answer in one call, where the
 /// writer takes it whole. Takes what these calls and `Protocol::answer` take, a few steps for each byte, and memory for what the
 /// protocol keeps and for one answer at a time.
 pub fn serve<P: Protocol, R: Source, W: Sink>(

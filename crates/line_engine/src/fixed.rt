@@ -1,6 +1,6 @@
 //! The lines that tell refusals. They stand in the program, so that none needs memory.
 ghost use Rattle.std.specs.Prelude.{◌≡◌};
-ghost use Rattle.room_calls.specs.declared.reply.Reply.TheVariants.{No};
+ghost use Rattle.room_model.specs.declared.reply.Reply.TheVariants.{No};
 ghost use Rattle.wire_json.specs.Text.{text};
 ghost use Rattle.line_engine.specs.Lines.{ended};
 

@@ -7,7 +7,7 @@ use std::alloc::{AllocError, Global};
 /// A kind of lines: what each is answered by a state, which it may change.
 pub trait Protocol {
     ghost use Rattle.std.specs.Prelude.{◌≡◌, ◌<◌, ◌≤◌, ℕ, List, length, MatchResult};
-    ghost use Rattle.room_calls.specs.declared.reply.Reply.TheVariants.{No};
+    ghost use Rattle.room_model.specs.declared.reply.Reply.TheVariants.{No};
     ghost use Rattle.opid.specs.declared.refusal.Refusal.TheVariants.{TooLong};
     ghost use Rattle.wire_json.specs.Text.{text};
     ghost use Rattle.line_engine.specs.Lines.{ended};
@@ -47,7 +47,7 @@ pub trait Protocol {
         ensures answered { (text : List ℕ) × answers state.old line.now text state.new
             × MatchResult result (λ made. line_bytes made ≡ ended text) (λ _. TellsNoRefusal text) };
 
-    // The limit is within what the engine's buffer has room for.
+    // The limit is within what the engine's buffer takes.
     ghost fits: { LIMIT ≤ 65600 };
 
     // A line above the limit is refused, and changes nothing.

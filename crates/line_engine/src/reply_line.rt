@@ -1,7 +1,7 @@
 //! The line that is sent for an answer.
 ghost use Rattle.std.specs.Prelude.{◌≡◌, IfOk, IsOkAnd};
 ghost use Rattle.opid.specs.declared.refusal.Refusal.{Refusal};
-ghost use Rattle.room_calls.specs.declared.reply.Reply.TheVariants.{No};
+ghost use Rattle.room_model.specs.declared.reply.Reply.TheVariants.{No};
 ghost use Rattle.wire_json.specs.Text.{text};
 ghost use Rattle.line_engine.specs.Lines.{ended};
 ghost use Rattle.line_engine.specs.LineBytes.{line_bytes, IsFixed};

@@ -12,10 +12,10 @@ use memchr::memchr;
 use std::alloc::{AllocError, Global};
 use std::marker::Model;
 
-// The least room of a read.
+// The least that is free for a read.
 const BLOCK_BYTES: usize = 65_536;
 
-// The buffer has room for a longest line and a block behind it.
+// The buffer takes a longest line and a block behind it.
 const ROOM: usize = 131_136;
 
 /// The bytes that were read and not yet served. Contracts see them as a list.
@@ -62,7 +62,7 @@ impl Window {
 
     pub(crate) fn len(&self) -> usize
         ensures len { result ≡ length self.now }
-        ensures room { result ≤ 131136 }
+        ensures free { result ≤ 131136 }
     {
         self.len
     }
@@ -89,9 +89,9 @@ impl Window {
         self.len = 0;
     }
 
-    /// One read, into all the room behind the bytes: how many it gave, or `None` where it failed.
+    /// One read, into all that is free behind the bytes: how many it gave, or `None` where it failed.
     pub(crate) fn fill<R: Source>(&mut self, input: &mut Counted<R>) -> Option<usize>
-        requires room { length self.old ≤ 65600 }
+        requires free { length self.old ≤ 65600 }
         requires few_failed { input.old.failures < 2 ^ 63 }
         ensures fills { Fills (R.remaining input.old.inner) (R.remaining input.new.inner) self.old result self.new }
         ensures counted { MatchOption result (input.new.failures ≡ input.old.failures + 1) (λ _. input.new.failures ≡ input.old.failures) }
@@ -111,14 +111,14 @@ impl Window {
     }
 }
 
-// Moves the bytes held to the front where less than a block of room is behind them, and says where they begin.
+// Moves the bytes held to the front where less than a block is free behind them, and says where they begin.
 fn moved_start(buf: &mut Vec<u8>, start: usize, len: usize) -> usize
     requires within { start + len ≤ 131136 }
     requires size { length buf.old.items ≡ 131136 }
-    requires room { len ≤ 65600 }
+    requires free { len ≤ 65600 }
     ensures held { take len (drop result buf.new.items) ≡ take len (drop start buf.old.items) }
     ensures size { length buf.new.items ≡ 131136 }
-    ensures room { result + len + 65536 ≤ 131136 }
+    ensures free { result + len + 65536 ≤ 131136 }
 {
     if start + len <= ROOM - BLOCK_BYTES {
         return start;
@@ -129,7 +129,7 @@ fn moved_start(buf: &mut Vec<u8>, start: usize, len: usize) -> usize
 
 // Reads into the buffer from `at` on.
 fn read_behind<R: Source>(buf: &mut [u8], at: usize, input: &mut Counted<R>) -> Option<usize>
-    requires room { at + 65536 ≤ length buf.old }
+    requires free { at + 65536 ≤ length buf.old }
     requires few_failed { input.old.failures < 2 ^ 63 }
     ensures front { take at buf.new ≡ take at buf.old }
     ensures bound { MatchOption result (Keeps (R.remaining input.old.inner) (R.remaining input.new.inner))

@@ -9,7 +9,7 @@ use Rattle.opid.specs.declared.kind.OpKind.{OpKind}
 use Rattle.opid.specs.declared.kind.OpKind.TheVariants.{Ins, Del}
 use Rattle.opid.specs.Clocks.{entry}
 use Rattle.opid.specs.Operations.{Operation}
-use Rattle.causal_clock.specs.Kinds.{IsClock, IsOperation}
+use Rattle.opid.specs.Kinds.{IsClock, IsOperation}
 use Rattle.operation_json.specs.Members.{◌>>=◌}
 use Rattle.operation_json.specs.Operations.{Offer, each, items_told, pair_of, stamp_told, parent_of, offer_of, site_of, sited_pair}
 use Rattle.operation_json.specs.Operations.{sited_kind, sited, with_clock, operation, op_of}

@@ -14,7 +14,7 @@ use Rattle.opid.specs.declared.stamp.Stamp.{Stamp}
 use Rattle.opid.specs.declared.kind.OpKind.{OpKind}
 use Rattle.opid.specs.declared.kind.OpKind.TheVariants.{Ins, Del}
 use Rattle.opid.specs.Operations.{Operation}
-use Rattle.causal_clock.specs.Kinds.{IsClock, IsOperation}
+use Rattle.opid.specs.Kinds.{IsClock, IsOperation}
 use Rattle.operation_json.specs.Members.{◌>>=◌}
 use Rattle.operation_json.specs.Operations.{each, items_told}
 use Rattle.operation_json.specs.Packing.{typed_next, typed_behind, Item, unfolded, unfolded_all, last_typed, is_insertion}

@@ -15,7 +15,7 @@ use Rattle.opid.specs.declared.stamp.Stamp.{Stamp}
 use Rattle.opid.specs.declared.kind.OpKind.{OpKind}
 use Rattle.opid.specs.declared.kind.OpKind.TheVariants.{Ins, Del}
 use Rattle.opid.specs.Operations.{Operation}
-use Rattle.causal_clock.specs.Kinds.{IsClock, IsOperation}
+use Rattle.opid.specs.Kinds.{IsClock, IsOperation}
 use Rattle.operation_json.specs.Operations.{items_told}
 use Rattle.operation_json.specs.Packing.{Item, packed_items}
 use Rattle.operation_json.specs.PackedOperations.{packed_ops_of}

@@ -13,7 +13,7 @@ use Rattle.opid.specs.declared.stamp.Stamp.{Stamp}
 use Rattle.opid.specs.declared.kind.OpKind.{OpKind}
 use Rattle.opid.specs.declared.kind.OpKind.TheVariants.{Ins, Del}
 use Rattle.opid.specs.Operations.{Operation}
-use Rattle.causal_clock.specs.Kinds.{IsClock}
+use Rattle.opid.specs.Kinds.{IsClock}
 use Rattle.operation_json.specs.Packing.{Item}
 use Rattle.operation_json.proofs.PackedBack.{IsPacked, more_scalars, run_scalars, are_packed}
 use Rattle.operation_json.proofs.Pairs.{pairs_small}

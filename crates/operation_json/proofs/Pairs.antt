@@ -7,7 +7,7 @@ use Rattle.std.proofs.lemmas.Bool.{cases_eq, cond-true, cond-false, false_from_n
 use Rattle.std.proofs.lemmas.List.FromFn.{fill_by_all}
 use Rattle.std.proofs.lemmas.List.Sums.{sum_by-cons, sum-map}
 use Rattle.opid.specs.Clocks.{sites, entry}
-use Rattle.causal_clock.specs.Kinds.{IsClock}
+use Rattle.opid.specs.Kinds.{IsClock}
 use Rattle.causal_clock.specs.Listing.{count_in, clock_with}
 use Rattle.opid.specs.Internal.RisingPairs.{AreRising}
 use Rattle.causal_clock.proofs.Listings.{IsListing}

@@ -16,7 +16,7 @@ use Rattle.serde_json.proofs.Texts.{print-outline}
 use Rattle.opid.specs.declared.kind.OpKind.{OpKind}
 use Rattle.opid.specs.declared.kind.OpKind.TheVariants.{Ins, Del}
 use Rattle.opid.specs.Operations.{Operation}
-use Rattle.causal_clock.specs.Kinds.{IsClock, IsOperation}
+use Rattle.opid.specs.Kinds.{IsClock, IsOperation}
 use Rattle.json_bytes.specs.Internal.Coming.{lone_value}
 use Rattle.operation_json.specs.Operations.{op_of}
 use Rattle.operation_json.specs.Text.{IsKindInRange, pairs_of, op_text}

@@ -8,7 +8,7 @@ use Rattle.opid.specs.declared.kind.OpKind.TheVariants as kinds
 use Rattle.opid.specs.declared.site.TheConstants.{SITES}
 use Rattle.opid.specs.Clocks.{sites, entry}
 use Rattle.opid.specs.Operations.{Operation}
-use Rattle.causal_clock.specs.Kinds.{IsOperation}
+use Rattle.opid.specs.Kinds.{IsOperation}
 use Rattle.operation_json.specs.Packing.{Item, packed_items}
 use Rattle.json_bytes.specs.Quote.{quote}
 

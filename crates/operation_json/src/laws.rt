@@ -3,7 +3,7 @@ ghost use Rattle.std.specs.Prelude.{◌≡◌, option_map, Some, Ok, List};
 ghost use Rattle.std.specs.List.{AllByRecursion};
 ghost use Rattle.serde_json.specs.Read.{read};
 ghost use Rattle.opid.specs.Operations.{Operation};
-ghost use Rattle.causal_clock.specs.Kinds.{IsOperation};
+ghost use Rattle.opid.specs.Kinds.{IsOperation};
 ghost use Rattle.operation_json.specs.Operations.{op_of};
 ghost use Rattle.operation_json.specs.Packing.{unfolded_all, packed_items};
 ghost use Rattle.operation_json.specs.Text.{IsKindInRange, IsOperationInRange, op_text, packed_text};

@@ -2,6 +2,8 @@
 //! `specs/` define the document: operations, their order, what is visible, versions and edits.
 #![tactic(auto)]
 
+mod arrival;
+mod delivery;
 mod edit;
 mod kind;
 pub mod laws;
@@ -9,8 +11,11 @@ mod limits;
 mod refusal;
 mod site;
 mod stamp;
+mod submission;
 pub mod worked;
 
+pub use arrival::Arrival;
+pub use delivery::Delivery;
 pub use edit::Edit;
 pub use kind::OpKind;
 pub use limits::{
@@ -20,3 +25,4 @@ pub use limits::{
 pub use refusal::Refusal;
 pub use site::{SITES, Site};
 pub use stamp::Stamp;
+pub use submission::Submission;

@@ -22,7 +22,7 @@ use Rattle.opid.specs.Asked.{parent_in_at, insertion_run, deletion_run, each_onc
 use Rattle.opid.proofs.Counts.{sum-clock_of}
 use Rattle.opid.proofs.Counted.{asked_insertions_in-lawful, asked_insertions_in-placed, asked_deletions_in-lawful}
 use Rattle.opid.proofs.Placing.{get-within}
-use Rattle.position_translate.specs.Causes.{is_bad_place, element_count}
+use Rattle.opid.specs.Places.{is_bad_place, element_count}
 use Rattle.position_translate.proofs.Insides.{is_second}
 use Rattle.opid.proofs.Gathered.{rest_at, take_none, between_at}
 

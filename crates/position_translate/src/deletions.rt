@@ -5,7 +5,7 @@ ghost use Rattle.opid.specs.declared.refusal.Refusal.TheVariants.{Memory};
 ghost use Rattle.opid.specs.Reading.{visible_in_at};
 ghost use Rattle.opid.specs.Lawful.{IsLawful};
 ghost use Rattle.opid.specs.Asked.{deletion_run, each_once, asked_deletions, asked_deletions_in};
-ghost use Rattle.position_translate.specs.Causes.{deletion_refusal, deletion_refusal_in, element_count};
+ghost use Rattle.opid.specs.Places.{deletion_refusal, deletion_refusal_in, element_count};
 
 use crate::known::known_behind;
 use crate::places::{is_inside, len_at, stamp_at};

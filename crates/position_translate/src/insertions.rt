@@ -5,7 +5,7 @@ ghost use Rattle.std.specs.Str.{chars};
 ghost use Rattle.opid.specs.declared.refusal.Refusal.TheVariants.{Memory};
 ghost use Rattle.opid.specs.Lawful.{IsLawful};
 ghost use Rattle.opid.specs.Asked.{parent_in_at, insertion_run, asked_insertions, asked_insertions_in, IsPlaced, IsPlaced_in};
-ghost use Rattle.position_translate.specs.Causes.{is_bad_place, insertion_refusal, insertion_refusal_in};
+ghost use Rattle.opid.specs.Places.{is_bad_place, insertion_refusal, insertion_refusal_in};
 
 use crate::known::known_behind;
 use crate::places::{is_inside, len_at, stamp_at};

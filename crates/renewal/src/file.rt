@@ -30,7 +30,7 @@ pub fn renew_into<D: Disk>(
     ensures lawful { IfOk result (λ new. IsLawful new.log) }
     ensures site { IfOk result (λ new. AllByRecursion (λ x. x.site ≡ site) new.log) }
     ensures shorter { IfOk result (λ new. length new.log ≤ length doc.now.log) }
-    ensures unreserved { IfOk result (λ new. new.room ≡ 0) }
+    ensures unreserved { IfOk result (λ new. new.reserved ≡ 0) }
     ensures room { file.new.room ≡ file.old.room }
     ensures kept { IfOk result (λ new. Keeps D.honest D.seen D.may_leave D.fresh file.old []
         → Keeps D.honest D.seen D.may_leave D.fresh file.new new.log) }

@@ -21,7 +21,7 @@ pub fn renew(alloc: Global, doc: &Doc, site: Site) -> Result<Doc, Refusal>
     ensures count { IfOk result (λ new. length new.log ≡ length (reading doc.now.log)) }
     ensures shorter { IfOk result (λ new. length new.log ≤ length doc.now.log) }
     ensures log { IfOk result (λ new. new.log ≡ typing_of site (reading doc.now.log)) }
-    ensures unreserved { IfOk result (λ new. new.room ≡ 0) }
+    ensures unreserved { IfOk result (λ new. new.reserved ≡ 0) }
     ensures memory { IfErr result (λ e. e ≡ Memory) }
 {
     let text = doc.reading(doc.version())?;

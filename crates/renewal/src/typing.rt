@@ -23,7 +23,7 @@ pub fn type_text(alloc: Global, site: Site, text: &str) -> Result<Doc, Refusal>
     ensures lawful { IfOk result (λ doc. IsLawful doc.log) }
     ensures site { IfOk result (λ doc. AllByRecursion (λ x. x.site ≡ site) doc.log) }
     ensures count { IfOk result (λ doc. length doc.log ≡ length (chars text.now)) }
-    ensures unreserved { IfOk result (λ doc. doc.room ≡ 0) }
+    ensures unreserved { IfOk result (λ doc. doc.reserved ≡ 0) }
     ensures cause { IfErr result (λ e. ((e ≡ Full) × (MAX_OPERATIONS < length (chars text.now)))
         ⊎ ((e ≡ Memory) × (length (chars text.now) ≤ MAX_OPERATIONS))) }
 {

@@ -10,14 +10,14 @@ use Rattle.opid.specs.declared.refusal.Refusal.{Refusal}
 use Rattle.opid.specs.declared.refusal.Refusal.TheVariants.{OwnSite, Conflict, HoldFull}
 use Rattle.opid.specs.Operations.{Operation, number_of}
 use Rattle.opid.specs.Delivery.{is_ready}
-use Rattle.holdback.specs.declared.held.Arrival.{Arrival}
-use Rattle.holdback.specs.declared.held.Arrival.TheVariants as arrivals
-use Rattle.holdback.specs.Same.{is_same_operation}
-use Rattle.holdback.specs.Offered.{look_for, compared, with_number, is_same_number, offered, arrival_of}
-use Rattle.replica.specs.declared.delivery.Delivery.TheVariants.{Kept, Again}
-use Rattle.replica.specs.Refused.{refusal_of}
-use Rattle.replica.specs.Settle.{settle}
-use Rattle.replica.specs.Deliver.{Delivered, unchanged, settled, integrate, deliver_found, claims_site, deliver}
+use Rattle.opid.specs.declared.arrival.Arrival.{Arrival}
+use Rattle.opid.specs.declared.arrival.Arrival.TheVariants as arrivals
+use Rattle.opid.specs.Held.{is_same_operation}
+use Rattle.opid.specs.Held.{look_for, compared, with_number, is_same_number, offered, arrival_of}
+use Rattle.opid.specs.declared.delivery.Delivery.TheVariants.{Kept, Again}
+use Rattle.opid.specs.Delivered.{refusal_of}
+use Rattle.opid.specs.Delivered.{settle}
+use Rattle.opid.specs.Delivered.{Delivered, unchanged, settled, integrate, deliver_found, claims_site, deliver}
 
 -- by an equal answer
 pub look_for-same : (ops : List Operation) (x : Operation) (found there : Bool) → Ok found ≡ look_for x ops → found ≡ there

@@ -3,8 +3,8 @@ use Rattle.std.proofs.Common.{◌≡◌, ℕ, Bool, List, Option, ap, ◌∙◌,
 use Rattle.opid.specs.Operations.{Operation}
 use Rattle.opid.specs.Clocks.{is_next}
 use Rattle.opid.specs.Delivery.{clock_of, is_ready}
-use Rattle.holdback.specs.Ready.{first_ready, without_first_ready}
-use Rattle.holdback.specs.Offered as holding
+use Rattle.opid.specs.Held.{first_ready, without_first_ready}
+use Rattle.opid.specs.Held as holding
 use Rattle.versions.specs.Document as document
 
 -- it is the clock of an equal document

@@ -18,7 +18,7 @@ use Rattle.opid.proofs.Counts.{is_next-own, entry-clock_of}
 use Rattle.opid.proofs.Logs.{lawful_induction}
 use Rattle.opid.proofs.Walk.{append-nil}
 use Rattle.opid.proofs.Placing.{get-middle, get-within}
-use Rattle.holdback.specs.Offered.{with_number, is_same_number}
+use Rattle.opid.specs.Held.{with_number, is_same_number}
 use Rattle.replica.specs.Internal.Numbered.{places_at, places_from, places_of, AreNumbered}
 
 slice_get-old : {X : Type 0} (xs : List X) (y : X) (k : ℕ) → k < length xs → slice_get (xs ++ y ∷ []) k ≡ slice_get xs k

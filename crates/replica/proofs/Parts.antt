@@ -6,7 +6,7 @@ use Rattle.std.proofs.lemmas.Bool.{cond-false, cases_lt}
 use Rattle.std.proofs.lemmas.Bool.Decides.{nat_tests}
 use Rattle.std.proofs.lemmas.List.{length-drop, take_all}
 use Rattle.opid.specs.Operations.{Operation}
-use Rattle.replica.specs.Part.{part_of}
+use Rattle.opid.specs.Delivered.{part_of}
 
 -- the part up to its end
 pub part_of_end : (log : List Operation) (after max end : ℕ) → after ≤ length log → 0 < max → max ≤ 64

@@ -4,9 +4,9 @@ use Rattle.std.proofs.lemmas.Bool.{cond-true, cond-false, le-leb, lt-leb}
 use Rattle.opid.specs.declared.refusal.Refusal.{Refusal}
 use Rattle.opid.specs.Operations.{Operation}
 use Rattle.opid.specs.Delivery.{clock_of}
-use Rattle.holdback.specs.Ready.{first_ready}
-use Rattle.replica.specs.Refused.{refusal_of}
-use Rattle.replica.specs.Settle.{Settling, appended_or_dropped, taken_out, round_with, round, rounds}
+use Rattle.opid.specs.Held.{first_ready}
+use Rattle.opid.specs.Delivered.{refusal_of}
+use Rattle.opid.specs.Delivered.{Settling, appended_or_dropped, taken_out, round_with, round, rounds}
 
 -- nothing changes where the log is full, or nothing is ready
 pub round-full : (s : Settling) → 131072 ≤ length s.log → round s ≡ s

@@ -46,33 +46,34 @@ kept_places (s ∷ rows) zero r new l e f = ap (λ (p : List ℕ). p ∷ places 
 kept_places (s ∷ rows) (suc i) r new l e f = ap (λ (ps : List (List ℕ)). s.places ∷ ps) (kept_places rows i r new (omega arith) e f)
 
 -- a row that keeps its memory
-pub kept_room : (rows : List PlacesOfOne) (i room : ℕ) (r new : PlacesOfOne) → i < length rows → r ≡ get_or rows i r → r.room ≤ new.room
-    → Each (λ q. room ≤ q.room) rows → Each (λ q. room ≤ q.room) (set rows i new)
-kept_room [] i room r new l e f h = absurd (omega arith)
-kept_room (s ∷ rows) zero room r new l e f h =
-    let same : r.room ≡ s.room = ap (λ (q : PlacesOfOne). q.room) e in
+pub kept_reserved : (rows : List PlacesOfOne) (i reserved : ℕ) (r new : PlacesOfOne) → i < length rows → r ≡ get_or rows i r
+    → r.reserved ≤ new.reserved
+    → Each (λ q. reserved ≤ q.reserved) rows → Each (λ q. reserved ≤ q.reserved) (set rows i new)
+kept_reserved [] i reserved r new l e f h = absurd (omega arith)
+kept_reserved (s ∷ rows) zero reserved r new l e f h =
+    let same : r.reserved ≡ s.reserved = ap (λ (q : PlacesOfOne). q.reserved) e in
     (omega (arith, same, f, h.0), h.1)
-kept_room (s ∷ rows) (suc i) room r new l e f h = (h.0, kept_room rows i room r new (omega arith) e f h.1)
+kept_reserved (s ∷ rows) (suc i) reserved r new l e f h = (h.0, kept_reserved rows i reserved r new (omega arith) e f h.1)
 
 -- what holds of each place
-pub each_row : (rows : List PlacesOfOne) (n : ℕ) → ((k : ℕ) (d : PlacesOfOne) → k < length rows → n ≤ (get_or rows k d).room)
-    → Each (λ q. n ≤ q.room) rows
+pub each_row : (rows : List PlacesOfOne) (n : ℕ) → ((k : ℕ) (d : PlacesOfOne) → k < length rows → n ≤ (get_or rows k d).reserved)
+    → Each (λ q. n ≤ q.reserved) rows
 each_row [] n h = tt
 each_row (r ∷ rows) n h = (h 0 r (omega arith), each_row rows n (λ k d l. h (suc k) d (omega arith)))
 
 -- one row more has the room
-pub enough_more : (rows : List PlacesOfOne) (i n : ℕ) (new : PlacesOfOne) → i < length rows → n ≤ new.room
-    → ((k : ℕ) (d : PlacesOfOne) → k < i → n ≤ (get_or rows k d).room)
-    → (k : ℕ) (d : PlacesOfOne) → k < i + 1 → n ≤ (get_or (set rows i new) k d).room
+pub enough_more : (rows : List PlacesOfOne) (i n : ℕ) (new : PlacesOfOne) → i < length rows → n ≤ new.reserved
+    → ((k : ℕ) (d : PlacesOfOne) → k < i → n ≤ (get_or rows k d).reserved)
+    → (k : ℕ) (d : PlacesOfOne) → k < i + 1 → n ≤ (get_or (set rows i new) k d).reserved
 enough_more rows i n new l m h k d b = go (cases_eq k i)
   where
-    go : (k ≡ i) ⊎ (k ≡ i → ⊥) → n ≤ (get_or (set rows i new) k d).room
+    go : (k ≡ i) ⊎ (k ≡ i → ⊥) → n ≤ (get_or (set rows i new) k d).reserved
     go (inl q) =
-        let here : (get_or (set rows i new) k d).room ≡ new.room =
-        ap (λ j. (get_or (set rows i new) j d).room) q ∙ ap (λ (r : PlacesOfOne). r.room) (get_or-set_same rows i new d l) in
+        let here : (get_or (set rows i new) k d).reserved ≡ new.reserved =
+        ap (λ j. (get_or (set rows i new) j d).reserved) q ∙ ap (λ (r : PlacesOfOne). r.reserved) (get_or-set_same rows i new d l) in
         omega (arith, here, m)
     go (inr q) =
-        let there : (get_or (set rows i new) k d).room ≡ (get_or rows k d).room =
-        ap (λ (r : PlacesOfOne). r.room) (get_or-set_other rows i k new d q) in
+        let there : (get_or (set rows i new) k d).reserved ≡ (get_or rows k d).reserved =
+        ap (λ (r : PlacesOfOne). r.reserved) (get_or-set_other rows i k new d q) in
         let below : k < i = omega arith in
         omega (arith, there, h k d below)

@@ -8,8 +8,8 @@ use Rattle.opid.specs.Operations.{Operation}
 use Rattle.opid.specs.Lawful.{IsLawful, MayFollow}
 use Rattle.opid.proofs.Gathered.{rest_at}
 use Rattle.opid.proofs.Logs.{goes_on_after}
-use Rattle.causal_clock.specs.Kinds.{IsOperation}
-use Rattle.replica.specs.Refused.{refusal_of}
+use Rattle.opid.specs.Kinds.{IsOperation}
+use Rattle.opid.specs.Delivered.{refusal_of}
 use Rattle.replica.proofs.Lawfully.{accepted-may_follow}
 
 -- ---- operations behind a log
@@ -36,8 +36,8 @@ pub next_accepted : (first log ops : List Operation) (n : ℕ) (x : Operation) �
 next_accepted first log ops n x o l b h e so_far =
     accepted-may_follow log x o (next_fits first log ops n b h so_far) (next_may_follow first log ops n x l h e so_far)
 
--- what may follow a log that has room for it is not refused
-pub never_refused : (log : List Operation) (x : Operation) (e : Refusal) (room : ℕ) → refusal_of log x ≡ None → 0 < room
-    → (refusal_of log x ≡ Some e) ⊎ ((e ≡ Memory) × (room ≡ 0) × (length log < 131072)) → ⊥
-never_refused log x e room n r (inl h) = cc
-never_refused log x e room n r (inr h) = omega (arith, h.1, r)
+-- what may follow a log that isn't full is not refused
+pub never_refused : (log : List Operation) (x : Operation) (e : Refusal) (reserved : ℕ) → refusal_of log x ≡ None → 0 < reserved
+    → (refusal_of log x ≡ Some e) ⊎ ((e ≡ Memory) × (reserved ≡ 0) × (length log < 131072)) → ⊥
+never_refused log x e reserved n r (inl h) = cc
+never_refused log x e reserved n r (inr h) = omega (arith, h.1, r)

@@ -1,7 +1,2 @@
 -- The definitions that the contracts of this crate cite.
-pub mod Refused
-pub mod Settle
-pub mod Deliver
-pub mod Part
-pub mod Settled
 pub mod Internal

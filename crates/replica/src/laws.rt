@@ -4,15 +4,15 @@ ghost use Rattle.std.specs.Prelude.{◌≡◌, ℕ, ◌<◌, true, None, List, l
 ghost use Rattle.opid.specs.Operations.{Operation};
 ghost use Rattle.opid.specs.Delivery.{is_ready};
 ghost use Rattle.opid.specs.Lawful.{IsLawful, MayFollow};
-ghost use Rattle.causal_clock.specs.Kinds.{IsOperation};
-ghost use Rattle.replica.specs.Refused.{refusal_of};
-ghost use Rattle.replica.specs.Settle.{Settling, settle};
-ghost use Rattle.replica.specs.Settled.{IsSettled, AreOperations};
-ghost use Rattle.replica.specs.Deliver.{deliver};
+ghost use Rattle.opid.specs.Kinds.{IsOperation};
+ghost use Rattle.opid.specs.Delivered.{refusal_of};
+ghost use Rattle.opid.specs.Delivered.{Settling, settle};
+ghost use Rattle.opid.specs.Delivered.{IsSettled, AreOperations};
+ghost use Rattle.opid.specs.Delivered.{deliver};
 
 use opid::MAX_OPERATIONS;
 
-/// A ready operation is refused by a log with room exactly where the log wouldn't stay lawful.
+/// A ready operation is refused by a log that isn't full exactly where the log wouldn't stay lawful.
 #[tactic(auto, using(crate::proofs::Stated::laws))]
 pub fn refused_where_not_lawful()
     ensures accepted { (log : List Operation) (x : Operation) → IsLawful log → IsOperation x → is_ready log x ≡ true

@@ -5,7 +5,6 @@
 #![tactic(auto)]
 
 mod deliver;
-mod delivery;
 pub mod laws;
 mod log;
 mod part;
@@ -14,5 +13,5 @@ mod replica;
 mod settle;
 mod submissions;
 
-pub use delivery::Delivery;
+pub use opid::Delivery;
 pub use replica::Replica;

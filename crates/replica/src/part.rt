@@ -1,7 +1,7 @@
 //! A part of a log, as another replica asks for it.
 ghost use Rattle.std.specs.Prelude.{◌≡◌, ◌⊎◌, Ok, Err, IsOk, IfOk, IfErr};
 ghost use Rattle.opid.specs.declared.refusal.Refusal.TheVariants.{Memory};
-ghost use Rattle.replica.specs.Part.{part_of};
+ghost use Rattle.opid.specs.Delivered.{part_of};
 
 use causal_clock::Op;
 use opid::{Refusal, is_bad_count};

@@ -16,7 +16,7 @@ const AT_ONCE: usize = 64;
 #[derive(Drop)]
 struct SitePlaces {
     places: Vec<u32>,
-    room: usize,
+    reserved: usize,
 }
 
 impl Model for SitePlaces {
@@ -25,18 +25,18 @@ impl Model for SitePlaces {
 
     ghost Value = { PlacesOfOne };
 
-    ghost view = { λ r. record { places = r.places.items; room = r.room } };
+    ghost view = { λ r. record { places = r.places.items; reserved = r.reserved } };
 
-    ghost invariant = { λ r. vec_len r.places + r.room ≤ vec_capacity r.places };
+    ghost invariant = { λ r. vec_len r.places + r.reserved ≤ vec_capacity r.places };
 }
 
 impl SitePlaces {
     fn new(alloc: Global) -> SitePlaces
-        ensures { result ≡ record { places = []; room = 0 } }
+        ensures { result ≡ record { places = []; reserved = 0 } }
     {
         SitePlaces {
             places: Vec::new(alloc),
-            room: 0,
+            reserved: 0,
         }
     }
 
@@ -48,20 +48,20 @@ impl SitePlaces {
 
     // Adds a place, for which memory is reserved.
     fn push(&mut self, place: u32)
-        requires { 0 < self.old.room }
-        ensures { self.new ≡ record { places = self.old.places ++ place ∷ []; room = self.old.room - 1 } }
+        requires { 0 < self.old.reserved }
+        ensures { self.new ≡ record { places = self.old.places ++ place ∷ []; reserved = self.old.reserved - 1 } }
     {
         self.places.push_reserved(place);
-        self.room -= 1;
+        self.reserved -= 1;
     }
 
     fn reserve(&mut self, n: usize) -> Result<(), Refusal>
-        ensures ok { OnOk result (self.new ≡ record self.old { room = max self.old.room n }) }
+        ensures ok { OnOk result (self.new ≡ record self.old { reserved = max self.old.reserved n }) }
         ensures err { OnErr result (self.new ≡ self.old) }
         ensures memory { IfErr result (λ e. e ≡ Memory) }
     {
         self.places.reserve(n)?;
-        self.room = self.room.max(n);
+        self.reserved = self.reserved.max(n);
         Ok(())
     }
 }
@@ -71,8 +71,8 @@ impl SitePlaces {
 #[derive(Drop)]
 pub(crate) struct Places {
     rows: [SitePlaces; SITES],
-    room: usize,
-    // For so many places of any site there is memory, of which `room` are promised.
+    reserved: usize,
+    // For so many places of any site there is memory, of which `reserved` are promised.
     ahead: usize,
 }
 
@@ -83,19 +83,19 @@ impl Model for Places {
 
     ghost Value = { AllPlaces };
 
-    ghost view = { λ p. record { rows = map (λ r. r.places) p.rows; room = p.room } };
+    ghost view = { λ p. record { rows = map (λ r. r.places) p.rows; reserved = p.reserved } };
 
-    ghost invariant = { λ p. AllByRecursion (λ r. p.ahead ≤ r.room) p.rows × (p.room ≤ p.ahead) };
+    ghost invariant = { λ p. AllByRecursion (λ r. p.ahead ≤ r.reserved) p.rows × (p.reserved ≤ p.ahead) };
 }
 
 impl Places {
     /// No places. Takes no memory.
     pub(crate) fn new(alloc: Global) -> Places
-        ensures { result ≡ record { rows = replicate 32 []; room = 0 } }
+        ensures { result ≡ record { rows = replicate 32 []; reserved = 0 } }
     {
         Places {
             rows: array::from_fn(|_| SitePlaces::new(alloc)),
-            room: 0,
+            reserved: 0,
             ahead: 0,
         }
     }
@@ -110,30 +110,30 @@ impl Places {
 
     /// Adds the place of the site's next operation, for which memory is reserved.
     pub(crate) fn push(&mut self, site: Site, place: u32)
-        requires { 0 < self.old.room }
+        requires { 0 < self.old.reserved }
         ensures rows { self.new.rows ≡ slice_set self.old.rows site (places_at self.old.rows site ++ place ∷ []) }
-        ensures room { self.new.room ≡ self.old.room - 1 }
+        ensures reserved { self.new.reserved ≡ self.old.reserved - 1 }
     {
         self.rows[usize::from(site.number())].push(place);
-        self.room -= 1;
+        self.reserved -= 1;
         self.ahead -= 1;
     }
 
     /// Reserves memory for `n` more places of any site. Constant time. Where it is there already none is taken; else it is taken
     /// for at least 64 places of each site at a time, of 4 bytes. Refused with `Memory`, only where fewer are reserved.
     pub(crate) fn reserve(&mut self, n: usize) -> Result<(), Refusal>
-        ensures ok { OnOk result (self.new ≡ record self.old { room = max self.old.room n }) }
+        ensures ok { OnOk result (self.new ≡ record self.old { reserved = max self.old.reserved n }) }
         ensures err { OnErr result (self.new ≡ self.old) }
-        ensures memory { IfErr result (λ e. (e ≡ Memory) × (self.old.room < n)) }
+        ensures memory { IfErr result (λ e. (e ≡ Memory) × (self.old.reserved < n)) }
     {
         if n <= self.ahead {
-            self.room = self.room.max(n);
+            self.reserved = self.reserved.max(n);
             return Ok(());
         }
         let more = n.max(AT_ONCE);
         reserve_each(&mut self.rows, more)?;
         self.ahead = more;
-        self.room = n;
+        self.reserved = n;
         Ok(())
     }
 }
@@ -141,8 +141,8 @@ impl Places {
 // Reserves memory for `n` more places in each row.
 fn reserve_each(rows: &mut [SitePlaces], n: usize) -> Result<(), Refusal>
     ensures same { map (λ r. r.places) rows.new ≡ map (λ r. r.places) rows.old }
-    ensures kept { (room : ℕ) → AllByRecursion (λ r. room ≤ r.room) rows.old → AllByRecursion (λ r. room ≤ r.room) rows.new }
-    ensures ok { OnOk result (AllByRecursion (λ r. n ≤ r.room) rows.new) }
+    ensures kept { (k : ℕ) → AllByRecursion (λ r. k ≤ r.reserved) rows.old → AllByRecursion (λ r. k ≤ r.reserved) rows.new }
+    ensures ok { OnOk result (AllByRecursion (λ r. n ≤ r.reserved) rows.new) }
     ensures memory { IfErr result (λ e. e ≡ Memory) }
 {
     for row in rows.iter_mut() {

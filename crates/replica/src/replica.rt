@@ -5,19 +5,18 @@ ghost use Rattle.opid.specs.declared.refusal.Refusal.TheVariants.{Memory};
 ghost use Rattle.std.specs.Str.{chars};
 ghost use Rattle.opid.specs.Lawful.{IsLawful};
 ghost use Rattle.opid.specs.Asked.{asked_insertions, asked_deletions, asked_insertions_in, asked_deletions_in};
-ghost use Rattle.position_translate.specs.Causes.{insertion_refusal, deletion_refusal, insertion_refusal_in};
-ghost use Rattle.position_translate.specs.Causes.{deletion_refusal_in, element_count};
-ghost use Rattle.replica.specs.Deliver.{deliver, taken_by};
-ghost use Rattle.replica.specs.Part.{part_of};
+ghost use Rattle.opid.specs.Places.{insertion_refusal, deletion_refusal, insertion_refusal_in};
+ghost use Rattle.opid.specs.Places.{deletion_refusal_in, element_count};
+ghost use Rattle.opid.specs.Delivered.{deliver, taken_by};
+ghost use Rattle.opid.specs.Delivered.{part_of};
 
 use crate::deliver::deliver;
-use crate::delivery::Delivery;
 use crate::log::Log;
 use crate::part::copy_part;
 use crate::submissions::append_all;
 use causal_clock::Op;
 use holdback::{Held, MAX_HELD};
-use opid::{Refusal, Site};
+use opid::{Delivery, Refusal, Site};
 use position_translate::{delete_ops, delete_ops_units, insert_ops, insert_ops_units};
 use std::alloc::Global;
 use std::marker::Model;
@@ -30,31 +29,31 @@ pub struct Replica {
     site: Site,
     log: Log,
     held: Held,
-    room: usize,
+    reserved: usize,
     alloc: Global,
 }
 
 impl Model for Replica {
-    ghost use Rattle.replica.specs.Deliver.{ReplicaState};
+    ghost use Rattle.opid.specs.Delivered.{ReplicaState};
     ghost use Rattle.replica.specs.Internal.Kept.{AreReserved};
 
     ghost Value = { ReplicaState };
 
-    ghost view = { λ r. record { site = r.site; log = r.log.log; held = r.held.ops; room = r.room } };
+    ghost view = { λ r. record { site = r.site; log = r.log.log; held = r.held.ops; reserved = r.reserved } };
 
-    ghost invariant = { λ r. AreReserved r.room r.log r.held };
+    ghost invariant = { λ r. AreReserved r.reserved r.log r.held };
 }
 
 impl Replica {
     /// The replica of a site that has no operation yet. Constant time; takes no memory.
     pub fn new(alloc: Global, site: Site) -> Replica
-        ensures { result ≡ record { site = site; log = []; held = []; room = 0 } }
+        ensures { result ≡ record { site = site; log = []; held = []; reserved = 0 } }
     {
         Replica {
             site,
             log: Log::new(alloc),
             held: Held::new(alloc),
-            room: 0,
+            reserved: 0,
             alloc,
         }
     }
@@ -64,7 +63,7 @@ impl Replica {
     pub fn over(alloc: Global, site: Site, ops: &[Op]) -> Result<Replica, Refusal>
         requires lawful { IsLawful ops.now }
         requires few { length ops.now ≤ MAX_OPERATIONS }
-        ensures ok { IfOk result (λ r. r ≡ record { site = site; log = ops.now; held = []; room = 0 }) }
+        ensures ok { IfOk result (λ r. r ≡ record { site = site; log = ops.now; held = []; reserved = 0 }) }
         ensures memory { IfErr result (λ e. e ≡ Memory) }
     {
         let mut replica = Replica::new(alloc, site);
@@ -75,8 +74,8 @@ impl Replica {
     /// The replica of a site whose log is that of a document with no memory reserved, and which holds nothing back.
     /// Walks the log once: for each operation it takes the steps that `Doc::ops_from` tells. Refused with `Memory`.
     pub fn over_doc(alloc: Global, site: Site, doc: Doc) -> Result<Replica, Refusal>
-        requires { doc.room ≡ 0 }
-        ensures ok { IfOk result (λ r. r ≡ record { site = site; log = doc.log; held = []; room = 0 }) }
+        requires { doc.reserved ≡ 0 }
+        ensures ok { IfOk result (λ r. r ≡ record { site = site; log = doc.log; held = []; reserved = 0 }) }
         ensures memory { IfErr result (λ e. e ≡ Memory) }
     {
         let log = Log::over(alloc, doc)?;
@@ -84,7 +83,7 @@ impl Replica {
             site,
             log,
             held: Held::new(alloc),
-            room: 0,
+            reserved: 0,
             alloc,
         })
     }
@@ -125,7 +124,7 @@ impl Replica {
         ensures accepted { OnOk result (insertion_refusal self.old.log version place (chars text.now) ≡ None) }
         ensures next { OnOk result (self.new ≡ record self.old {
           log = self.old.log ++ asked_insertions self.old.log self.old.site version place (chars text.now);
-          room = self.old.room - length (chars text.now);
+          reserved = self.old.reserved - length (chars text.now);
         }) }
         ensures cause { IfErr result (λ e. (insertion_refusal self.old.log version place (chars text.now) ≡ Some e)
             ⊎ ((insertion_refusal self.old.log version place (chars text.now) ≡ None) × (e ≡ Memory))) }
@@ -134,7 +133,7 @@ impl Replica {
         let doc = self.log.doc();
         let ops = insert_ops(self.alloc, doc, self.site, version, place, text)?;
         let reply = append_all(&mut self.log, &ops)?;
-        self.room = self.room.saturating_sub(ops.len());
+        self.reserved = self.reserved.saturating_sub(ops.len());
         Ok(reply)
     }
 
@@ -150,7 +149,7 @@ impl Replica {
         ensures accepted { OnOk result (insertion_refusal_in true self.old.log version place (chars text.now) ≡ None) }
         ensures next { OnOk result (self.new ≡ record self.old {
           log = self.old.log ++ asked_insertions_in true self.old.log self.old.site version place (chars text.now);
-          room = self.old.room - length (chars text.now);
+          reserved = self.old.reserved - length (chars text.now);
         }) }
         ensures cause { IfErr result (λ e. (insertion_refusal_in true self.old.log version place (chars text.now) ≡ Some e)
             ⊎ ((insertion_refusal_in true self.old.log version place (chars text.now) ≡ None) × (e ≡ Memory))) }
@@ -159,7 +158,7 @@ impl Replica {
         let doc = self.log.doc();
         let ops = insert_ops_units(self.alloc, doc, self.site, version, place, text)?;
         let reply = append_all(&mut self.log, &ops)?;
-        self.room = self.room.saturating_sub(ops.len());
+        self.reserved = self.reserved.saturating_sub(ops.len());
         Ok(reply)
     }
 
@@ -176,7 +175,7 @@ impl Replica {
         ensures accepted { OnOk result (deletion_refusal self.old.log version place count ≡ None) }
         ensures next { OnOk result (self.new ≡ record self.old {
           log = self.old.log ++ asked_deletions self.old.log self.old.site version place count;
-          room = self.old.room - count;
+          reserved = self.old.reserved - count;
         }) }
         ensures cause { IfErr result (λ e. (deletion_refusal self.old.log version place count ≡ Some e)
             ⊎ ((deletion_refusal self.old.log version place count ≡ None) × (e ≡ Memory))) }
@@ -185,7 +184,7 @@ impl Replica {
         let doc = self.log.doc();
         let ops = delete_ops(self.alloc, doc, self.site, version, place, count)?;
         let reply = append_all(&mut self.log, &ops)?;
-        self.room = self.room.saturating_sub(ops.len());
+        self.reserved = self.reserved.saturating_sub(ops.len());
         Ok(reply)
     }
 
@@ -203,7 +202,7 @@ impl Replica {
         ensures accepted { OnOk result (deletion_refusal_in true self.old.log version place count ≡ None) }
         ensures next { OnOk result (self.new ≡ record self.old {
           log = self.old.log ++ asked_deletions_in true self.old.log self.old.site version place count;
-          room = self.old.room - element_count true self.old.log version place count;
+          reserved = self.old.reserved - element_count true self.old.log version place count;
         }) }
         ensures cause { IfErr result (λ e. (deletion_refusal_in true self.old.log version place count ≡ Some e)
             ⊎ ((deletion_refusal_in true self.old.log version place count ≡ None) × (e ≡ Memory))) }
@@ -212,7 +211,7 @@ impl Replica {
         let doc = self.log.doc();
         let ops = delete_ops_units(self.alloc, doc, self.site, version, place, count)?;
         let reply = append_all(&mut self.log, &ops)?;
-        self.room = self.room.saturating_sub(ops.len());
+        self.reserved = self.reserved.saturating_sub(ops.len());
         Ok(reply)
     }
 
@@ -224,7 +223,7 @@ impl Replica {
     /// `Conflict` where another operation with its number is integrated or held; if it isn't ready, `HoldFull` where
     /// 1,024 are held; if it is, `Full` with 131,072 operations, `NotRising` where its sum isn't above that of its site's
     /// last operation, `UnknownElement` where its parent or target is no element, `NotOlder` where its parent's stamp
-    /// isn't smaller. `Memory` may come in place of an answer, but only where the room isn't above what is held.
+    /// isn't smaller. `Memory` may come in place of an answer, but only where what is reserved isn't above what is held.
     ///
     /// `OwnSite` takes constant time. Where the number is in the log it takes the steps of `Doc::op`, which reads up to 8 rows.
     /// Else it takes one pass over what is held, to look for the number. An integration takes the steps of `Doc::integrate`
@@ -235,12 +234,12 @@ impl Replica {
         ensures next { IfOk result (λ d. self.new ≡ record self.old {
           log = (deliver self.old.site self.old.log self.old.held op).log;
           held = (deliver self.old.site self.old.log self.old.held op).held;
-          room = self.old.room - taken_by d;
+          reserved = self.old.reserved - taken_by d;
         }) }
 
         // Each cause, and only then; on a refusal all is as before.
         ensures cause { IfErr result (λ e. ((deliver self.old.site self.old.log self.old.held op).outcome ≡ Err e)
-            ⊎ ((e ≡ Memory) × (self.old.room ≤ length self.old.held))) }
+            ⊎ ((e ≡ Memory) × (self.old.reserved ≤ length self.old.held))) }
         ensures err { OnErr result (self.new ≡ self.old) }
 
         // Whatever is handed over.
@@ -256,20 +255,20 @@ impl Replica {
         ensures next { IfOk result (λ d. self.new ≡ record self.old {
           log = (deliver self.old.site self.old.log self.old.held op.now).log;
           held = (deliver self.old.site self.old.log self.old.held op.now).held;
-          room = self.old.room - taken_by d;
+          reserved = self.old.reserved - taken_by d;
         }) }
 
         // Each cause, and only then; on a refusal all is as before.
         ensures cause { IfErr result (λ e. ((deliver self.old.site self.old.log self.old.held op.now).outcome ≡ Err e)
-            ⊎ ((e ≡ Memory) × (self.old.room ≤ length self.old.held))) }
+            ⊎ ((e ≡ Memory) × (self.old.reserved ≤ length self.old.held))) }
         ensures err { OnErr result (self.new ≡ self.old) }
 
         // Whatever is handed over.
         ensures lawful { IsLawful self.new.log }
     {
-        let delivery = deliver(self.site, &mut self.log, &mut self.held, self.room, op)?;
+        let delivery = deliver(self.site, &mut self.log, &mut self.held, self.reserved, op)?;
         if let Delivery::Took { taken, dropped: _ } = delivery {
-            self.room = self.room.saturating_sub(taken as usize);
+            self.reserved = self.reserved.saturating_sub(taken as usize);
         }
         Ok(delivery)
     }
@@ -284,20 +283,20 @@ impl Replica {
         copy_part(self.log.doc(), after, max)
     }
 
-    /// Reserves memory for `n` operations, those that are held back included: while fewer are held than there is room
+    /// Reserves memory for `n` operations, those that are held back included: while fewer are held than are reserved
     /// for, `put` and `put_copy` aren't refused with `Memory`. Constant time; nothing grows where so many are reserved already. Refused
     /// with `Memory`, only where fewer are.
     pub fn reserve(&mut self, n: usize) -> Result<(), Refusal>
-        ensures ok { OnOk result (self.new ≡ record self.old { room = max self.old.room n }) }
+        ensures ok { OnOk result (self.new ≡ record self.old { reserved = max self.old.reserved n }) }
         ensures err { OnErr result (self.new ≡ self.old) }
-        ensures memory { IfErr result (λ e. (e ≡ Memory) × (self.old.room < n)) }
+        ensures memory { IfErr result (λ e. (e ≡ Memory) × (self.old.reserved < n)) }
     {
-        if self.room < n {
+        if self.reserved < n {
             let left = MAX_OPERATIONS - self.version() as usize;
             let more = MAX_HELD.min(n).saturating_sub(self.held());
             self.log.reserve(left.min(n))?;
             self.held.reserve(more)?;
-            self.room = n;
+            self.reserved = n;
         }
         Ok(())
     }

@@ -1,8 +1,8 @@
 //! Settling: operations that were held back and have become ready go into the log, or are dropped.
 ghost use Rattle.std.specs.Prelude.{◌≡◌, ◌<◌, ◌≤◌, ◌+◌, ◌-◌, ◌^◌, false, min, length};
 ghost use Rattle.opid.specs.Lawful.{IsLawful};
-ghost use Rattle.replica.specs.Settle.{round, settle};
-ghost use Rattle.replica.specs.Internal.Kept.{settling_of, HasRoomFor, start_of};
+ghost use Rattle.opid.specs.Delivered.{round, settle};
+ghost use Rattle.replica.specs.Internal.Kept.{settling_of, HasReserved, start_of};
 
 use crate::log::Log;
 use holdback::Held;
@@ -18,17 +18,17 @@ pub(crate) struct Tally {
 // One round: takes the first operation out of those held back that is ready, and appends it to the log or drops it.
 // Says whether there was one. Takes the steps of `Held::take_first_ready`, beside those of one appended to the log.
 fn round(log: &mut Log, held: &mut Held, tally: &mut Tally) -> bool
-    requires reserved { HasRoomFor (length held.old.ops) log.old }
+    requires enough { HasReserved (length held.old.ops) log.old }
     requires taken { tally.old.taken < 4294967295 }
     requires dropped { tally.old.dropped < 4294967295 }
     ensures next { settling_of log.new held.new tally.new ≡ round (settling_of log.old held.old tally.old) }
     ensures none { result ≡ false → settling_of log.new held.new tally.new ≡ settling_of log.old held.old tally.old }
-    ensures reserved { HasRoomFor (length held.new.ops) log.new }
-    ensures room { log.new.room + tally.new.taken ≡ log.old.room + tally.old.taken }
+    ensures enough { HasReserved (length held.new.ops) log.new }
+    ensures less { log.new.reserved + tally.new.taken ≡ log.old.reserved + tally.old.taken }
     ensures longer { length log.new.log + tally.old.taken ≡ length log.old.log + tally.new.taken }
     ensures taken { tally.new.taken ≤ tally.old.taken + 1 }
     ensures dropped { tally.new.dropped ≤ tally.old.dropped + 1 }
-    ensures held { held.new.room ≡ held.old.room }
+    ensures held { held.new.reserved ≡ held.old.reserved }
     ensures lawful { IsLawful log.new.log }
 {
     if log.doc().version() as usize >= MAX_OPERATIONS {
@@ -49,12 +49,12 @@ fn round(log: &mut Log, held: &mut Held, tally: &mut Tally) -> bool
 /// Round after round, until none is left that is ready or the log is full. Counts an operation that was integrated
 /// before. Takes one round for each operation that leaves what is held, and at most one more.
 pub(crate) fn settle(log: &mut Log, held: &mut Held) -> Tally
-    requires reserved { HasRoomFor (length held.old.ops) log.old }
+    requires enough { HasReserved (length held.old.ops) log.old }
     requires lawful { IsLawful log.old.log }
     ensures settled { settling_of log.new held.new result ≡ settle (start_of log.old held.old) }
-    ensures room { log.new.room + result.taken ≡ log.old.room + 1 }
+    ensures less { log.new.reserved + result.taken ≡ log.old.reserved + 1 }
     ensures longer { length log.new.log + 1 ≡ length log.old.log + result.taken }
-    ensures held { held.new.room ≡ held.old.room }
+    ensures held { held.new.reserved ≡ held.old.reserved }
     ensures lawful { IsLawful log.new.log }
 {
     let mut tally = Tally {

@@ -15,8 +15,8 @@ pub(crate) fn append_all(log: &mut Log, ops: &[Op]) -> Result<(u32, u32), Refusa
     ensures reply { IfOk result (λ r. r ≡ (length log.old.log, length log.old.log + length ops.now)) }
     ensures grown { OnOk result (log.new ≡ record {
       log = log.old.log ++ ops.now;
-      room =
-          max log.old.room (length ops.now) - length ops.now;
+      reserved =
+          max log.old.reserved (length ops.now) - length ops.now;
     }) }
     ensures cause { IfErr result (λ e. e ≡ Memory) }
     ensures err { OnErr result (log.new ≡ log.old) }
@@ -27,12 +27,12 @@ pub(crate) fn append_all(log: &mut Log, ops: &[Op]) -> Result<(u32, u32), Refusa
     Ok((from, log.doc().version()))
 }
 
-// Appends operations that may follow the log, for which there is room.
+// Appends operations that may follow the log, for which memory is reserved.
 fn append_each(log: &mut Log, ops: &[Op])
     requires lawful { IsLawful (log.old.log ++ ops.now) }
     requires few { length log.old.log + length ops.now ≤ MAX_OPERATIONS }
-    requires room { length ops.now ≤ log.old.room }
-    ensures { log.new ≡ record { log = log.old.log ++ ops.now; room = log.old.room - length ops.now } }
+    requires reserved { length ops.now ≤ log.old.reserved }
+    ensures { log.new ≡ record { log = log.old.log ++ ops.now; reserved = log.old.reserved - length ops.now } }
 {
     for op in ops {
         prove!(op.clock().entry(op.site()) > 0);

@@ -7,15 +7,15 @@ use Rattle.opid.specs.Delivery.{clock_of}
 use Rattle.opid.specs.Lawful.{IsLawful}
 use Rattle.opid.proofs.Orders.{Among, Each-at, Among-append, Among-append_left, Among-append_right, Among-from_Contains}
 use Rattle.opid.proofs.Orders.{Contains-from_Among}
-use Rattle.holdback.specs.First.{NoneReady}
-use Rattle.room_calls.specs.declared.call.Call.{Call}
-use Rattle.room_calls.specs.declared.call.Call.TheVariants.{Put}
-use Rattle.room.specs.Machine.{State, may_record, next}
-use Rattle.room.specs.History.{Account, mark, called}
+use Rattle.opid.specs.Held.{NoneReady}
+use Rattle.room_model.specs.declared.call.Call.{Call}
+use Rattle.room_model.specs.declared.call.Call.TheVariants.{Put}
+use Rattle.room_model.specs.Machine.{State, may_record, next}
+use Rattle.room_model.specs.History.{Account, mark, called}
 use Rattle.room.proofs.Histories.{consistent_called}
-use Rattle.replica_world.specs.World.{logs_of, puts}
-use Rattle.replica_world.specs.Received.{received, got}
-use Rattle.replica_world.specs.Kept.{IsReceived, IsSiteOf, IsWorld}
+use Rattle.room_model.specs.World.{logs_of, puts}
+use Rattle.room_model.specs.Received.{received, got}
+use Rattle.room_model.specs.Converges.{IsReceived, IsSiteOf, IsWorld}
 use Rattle.replica_world.proofs.Making.{Makes, next-makes}
 use Rattle.replica_world.proofs.Waiting.{waits_on}
 use Rattle.replica_world.proofs.Rooms.{log_of, Stood}

@@ -11,20 +11,20 @@ use Rattle.opid.specs.Strong.{SiteLog}
 use Rattle.opid.proofs.Orders.{Among, Each-at, Among-append, Among-append_left, Among-append_right, Among-from_Contains}
 use Rattle.opid.proofs.Orders.{Contains-from_Among}
 use Rattle.opid.proofs.Worlds.{Of, AreOf}
-use Rattle.holdback.specs.First.{NoneReady}
-use Rattle.replica.specs.declared.delivery.Delivery.{Delivery}
-use Rattle.replica.specs.declared.delivery.Delivery.TheVariants.{Took, Kept, Again}
-use Rattle.replica.specs.Deliver.{Delivered, deliver}
-use Rattle.room_calls.specs.declared.call.Call.{Call}
-use Rattle.room_calls.specs.declared.call.Call.TheVariants.{Put}
-use Rattle.room_calls.specs.declared.reply.Reply.TheVariants as replies
-use Rattle.room.specs.Deliveries.{outcome_of}
-use Rattle.room.specs.Machine.{State, recorded_answer, may_record, answer, next}
-use Rattle.room.specs.History.{Account, mark, called}
+use Rattle.opid.specs.Held.{NoneReady}
+use Rattle.opid.specs.declared.delivery.Delivery.{Delivery}
+use Rattle.opid.specs.declared.delivery.Delivery.TheVariants.{Took, Kept, Again}
+use Rattle.opid.specs.Delivered.{Delivered, deliver}
+use Rattle.room_model.specs.declared.call.Call.{Call}
+use Rattle.room_model.specs.declared.call.Call.TheVariants.{Put}
+use Rattle.room_model.specs.declared.reply.Reply.TheVariants as replies
+use Rattle.room_model.specs.Deliveries.{outcome_of}
+use Rattle.room_model.specs.Machine.{State, recorded_answer, may_record, answer, next}
+use Rattle.room_model.specs.History.{Account, mark, called}
 use Rattle.room.proofs.Histories.{consistent_called}
-use Rattle.replica_world.specs.World.{logs_of}
-use Rattle.replica_world.specs.Received.{is_refused, taken_of, received, got}
-use Rattle.replica_world.specs.Kept.{IsReceived, IsSiteOf, IsWorld}
+use Rattle.room_model.specs.World.{logs_of}
+use Rattle.room_model.specs.Received.{is_refused, taken_of, received, got}
+use Rattle.room_model.specs.Converges.{IsReceived, IsSiteOf, IsWorld}
 use Rattle.replica_world.proofs.Settling.{In}
 use Rattle.replica_world.proofs.Carrying.{IsAccepted, Carries, deliver-carries}
 use Rattle.replica_world.proofs.Growing.{counted_others}

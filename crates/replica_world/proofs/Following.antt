@@ -9,14 +9,14 @@ use Rattle.opid.specs.Strong.{SiteLog, AreCountedFrom, IsOfOne}
 use Rattle.opid.proofs.Orders.{Among, Each-at, Each-by, Among-append, Among-append_left, Among-append_right, Among-from_Contains}
 use Rattle.opid.proofs.Orders.{Contains-from_Among}
 use Rattle.opid.proofs.Worlds.{Of, AreOf}
-use Rattle.holdback.specs.First.{NoneReady}
-use Rattle.room_calls.specs.declared.call.Call.{Call}
-use Rattle.room.specs.Machine.{State, recorded_next, counted, may_record, next}
-use Rattle.room.specs.History.{Account, mark, recorded, called, IsConsistent}
+use Rattle.opid.specs.Held.{NoneReady}
+use Rattle.room_model.specs.declared.call.Call.{Call}
+use Rattle.room_model.specs.Machine.{State, recorded_next, counted, may_record, next}
+use Rattle.room_model.specs.History.{Account, mark, recorded, called, IsConsistent}
 use Rattle.room.proofs.Histories.{mark_from-push}
-use Rattle.replica_world.specs.World.{with_room, logs_of}
-use Rattle.replica_world.specs.Received.{received, got}
-use Rattle.replica_world.specs.Kept.{IsReceived, IsSiteOf, IsWorld}
+use Rattle.room_model.specs.World.{with_room, logs_of}
+use Rattle.room_model.specs.Received.{received, got}
+use Rattle.room_model.specs.Converges.{IsReceived, IsSiteOf, IsWorld}
 use Rattle.replica_world.proofs.Settling.{site_log}
 use Rattle.replica_world.proofs.Growing.{Grow, Of-grown, logs-grown}
 use Rattle.replica_world.proofs.Rooms.{log_of, Stood, logs-append, got-push}

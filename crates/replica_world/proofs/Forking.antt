@@ -8,12 +8,12 @@ use Rattle.opid.specs.Operations.{Operation}
 use Rattle.opid.specs.Strong.{SiteLog}
 use Rattle.opid.proofs.Walk.{Each-append}
 use Rattle.opid.proofs.Orders.{Among, Each-at, Each-by, Among-from_Contains}
-use Rattle.room.specs.Machine.{room_over}
-use Rattle.room.specs.History.{Account, IsConsistent, account_over}
+use Rattle.room_model.specs.Machine.{room_over}
+use Rattle.room_model.specs.History.{Account, IsConsistent, account_over}
 use Rattle.room.proofs.Histories.{consistent_over}
 use Rattle.opid.proofs.Logs.{IsLawful-take}
-use Rattle.replica_world.specs.World.{logs_of}
-use Rattle.replica_world.specs.Kept.{AreLogs, IsSiteOf, IsWorld}
+use Rattle.room_model.specs.World.{logs_of}
+use Rattle.room_model.specs.Converges.{AreLogs, IsSiteOf, IsWorld}
 use Rattle.replica_world.proofs.Growing.{Of-forked, logs-forked}
 use Rattle.replica_world.proofs.Rooms.{log_of, Stood, logs-append}
 use Rattle.replica_world.proofs.Following.{Of-from, Of-to, room_there, log_there}

@@ -21,26 +21,26 @@ use Rattle.opid.proofs.Orders.{Among, Each-at, Each-by, Parts, Among-from_Contai
 use Rattle.opid.proofs.Worlds.{Of}
 use Rattle.opid.proofs.Merging.{one_order}
 use Rattle.opid.proofs.Whole.{whole_got}
-use Rattle.holdback.specs.First.{NoneReady}
-use Rattle.replica.specs.declared.delivery.Delivery.{Delivery}
-use Rattle.replica.specs.declared.delivery.Delivery.TheVariants.{Took, Kept, Again}
-use Rattle.replica.specs.Deliver.{deliver}
-use Rattle.room.specs.Deliveries.{outcome_of}
-use Rattle.room.specs.Machine.{empty_room, recorded_answer, may_record, answer}
-use Rattle.room_calls.specs.declared.reply.Reply.TheVariants as replies
-use Rattle.room.specs.Convergence.{EditorsConverge, EditorsKeepUp}
+use Rattle.opid.specs.Held.{NoneReady}
+use Rattle.opid.specs.declared.delivery.Delivery.{Delivery}
+use Rattle.opid.specs.declared.delivery.Delivery.TheVariants.{Took, Kept, Again}
+use Rattle.opid.specs.Delivered.{deliver}
+use Rattle.room_model.specs.Deliveries.{outcome_of}
+use Rattle.room_model.specs.Machine.{empty_room, recorded_answer, may_record, answer}
+use Rattle.room_model.specs.declared.reply.Reply.TheVariants as replies
+use Rattle.room_model.specs.Convergence.{EditorsConverge, EditorsKeepUp}
 use Rattle.room.proofs.Histories.{consistent_over}
 use Rattle.room.proofs.Converging.{room_converges}
 use Rattle.room.proofs.KeepingUp.{room_keeps_up}
 use Rattle.room.proofs.Intentions.{keeps_intentions, only_grows}
-use Rattle.room.specs.History.{Account, IsConsistent, account_over}
-use Rattle.room.specs.Intention.{KeepsIntentions, OnlyGrows}
-use Rattle.replica_world.specs.declared.event.Event.{Event}
-use Rattle.replica_world.specs.declared.event.Event.TheVariants as events
-use Rattle.replica_world.specs.World.{room_of, logs_of, carry_of, carry_to, step, empty_rooms}
-use Rattle.replica_world.specs.Carried.{IsWithoutLoss, TellsNoLoss, TellsCarried, LosesNothing}
-use Rattle.replica_world.specs.Received.{got}
-use Rattle.replica_world.specs.Kept.{IsSiteOf, IsWorld, ReadTheSame, Converges}
+use Rattle.room_model.specs.History.{Account, IsConsistent, account_over}
+use Rattle.room_model.specs.Intention.{KeepsIntentions, OnlyGrows}
+use Rattle.room_model.specs.declared.event.Event.{Event}
+use Rattle.room_model.specs.declared.event.Event.TheVariants as events
+use Rattle.room_model.specs.World.{room_of, logs_of, carry_of, carry_to, step, empty_rooms}
+use Rattle.room_model.specs.Carried.{IsWithoutLoss, TellsNoLoss, TellsCarried, LosesNothing}
+use Rattle.room_model.specs.Received.{got}
+use Rattle.room_model.specs.Converges.{IsSiteOf, IsWorld, ReadTheSame, Converges}
 use Rattle.replica_world.proofs.Settling.{site_log}
 use Rattle.replica_world.proofs.Carrying.{IsCarried, Carries}
 use Rattle.replica_world.proofs.Rooms.{log_of, stood}

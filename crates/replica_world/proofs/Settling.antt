@@ -14,15 +14,15 @@ use Rattle.opid.proofs.Orders.{Among, Each-at, Among-append, Among-append_left, 
 use Rattle.opid.proofs.Counts.{sums_within}
 use Rattle.opid.proofs.Numbers.{ready-own, IsNumbered, numbered, count_of-part}
 use Rattle.opid.proofs.Worlds.{Of, AreOf, Home, home_of, one_log, ready_may_follow}
-use Rattle.causal_clock.specs.Kinds.{IsOperation}
-use Rattle.holdback.specs.Ready.{first_ready, without_first_ready}
-use Rattle.holdback.specs.First.{IsFirstReady}
+use Rattle.opid.specs.Kinds.{IsOperation}
+use Rattle.opid.specs.Held.{first_ready, without_first_ready}
+use Rattle.opid.specs.Held.{IsFirstReady}
 use Rattle.holdback.proofs.Firsts.{first_ready-Some}
-use Rattle.replica.specs.Refused.{refusal_of}
-use Rattle.replica.specs.Settle.{Settling, appended_or_dropped, taken_out, round, rounds}
+use Rattle.opid.specs.Delivered.{refusal_of}
+use Rattle.opid.specs.Delivered.{Settling, appended_or_dropped, taken_out, round, rounds}
 use Rattle.replica.proofs.Lawfully.{accepted-may_follow}
 use Rattle.replica.proofs.Rounds.{round-full, round-none, round-some}
-use Rattle.replica_world.specs.Kept.{AreLogs}
+use Rattle.room_model.specs.Converges.{AreLogs}
 
 abbrev pub site_log : ℕ → List Operation → SiteLog
 site_log i l = record { site = i; log = l }

@@ -5,15 +5,15 @@ use Rattle.std.specs.Prelude.{nat_lt, is_some, if◌then◌else◌, slice_get}
 use Rattle.opid.specs.declared.refusal.Refusal.TheVariants.{BadRange, UnknownKind, SiteUsed}
 use Rattle.opid.specs.Operations.{Operation}
 use Rattle.opid.proofs.Orders.{Among, Each-at}
-use Rattle.room_calls.specs.declared.call.Call.{Call}
-use Rattle.room.specs.Machine.{room_over, recorded_next, counted, may_record}
-use Rattle.room.specs.History.{Account, mark, called, account_over}
-use Rattle.replica_world.specs.declared.event.Event.{Event}
-use Rattle.replica_world.specs.declared.event.Event.TheVariants as events
-use Rattle.replica_world.specs.declared.event.WorldReply.TheVariants as worlds
-use Rattle.replica_world.specs.World.{Stepped, refused, room_of, with_room, logs_of, puts, call_of, carry_of, carry_to, fork_of, NamesSites}
-use Rattle.replica_world.specs.World.{step}
-use Rattle.replica_world.specs.Kept.{IsSiteOf, IsWorld}
+use Rattle.room_model.specs.declared.call.Call.{Call}
+use Rattle.room_model.specs.Machine.{room_over, recorded_next, counted, may_record}
+use Rattle.room_model.specs.History.{Account, mark, called, account_over}
+use Rattle.room_model.specs.declared.event.Event.{Event}
+use Rattle.room_model.specs.declared.event.Event.TheVariants as events
+use Rattle.room_model.specs.declared.world_reply.WorldReply.TheVariants as worlds
+use Rattle.room_model.specs.World.{Stepped, refused, room_of, with_room, logs_of, puts, call_of, carry_of, carry_to, fork_of, NamesSites}
+use Rattle.room_model.specs.World.{step}
+use Rattle.room_model.specs.Converges.{IsSiteOf, IsWorld}
 use Rattle.replica_world.proofs.Rooms.{log_of, Stood, stood, not_there}
 use Rattle.replica_world.proofs.Following.{Follows, room_there, log_there, replaced, unchanged_room}
 use Rattle.replica_world.proofs.Calling.{call-follows}

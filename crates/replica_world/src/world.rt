@@ -4,24 +4,24 @@ ghost use Rattle.std.specs.Prelude.{IfOk, OnOk, OnErr, IfSome, IfNone, IsSome, i
 ghost use Rattle.opid.specs.Lawful.{IsLawful};
 ghost use Rattle.opid.specs.declared.refusal.Refusal.TheVariants.{NoRoom, Memory, HistoryFull};
 ghost use Rattle.opid.specs.Reading.{reading};
-ghost use Rattle.room_calls.specs.declared.call.Call.{Call};
-ghost use Rattle.room_calls.specs.declared.call.Call.TheVariants as calls;
-ghost use Rattle.room_calls.specs.declared.reply.Reply.TheVariants as replies;
-ghost use Rattle.room.specs.Machine.{answer, room_over};
-ghost use Rattle.room.specs.History.{Account, mark, called, account_over};
-ghost use Rattle.replica_world.specs.declared.event.Event.TheVariants as events;
-ghost use Rattle.replica_world.specs.declared.event.WorldReply.{WorldReply};
-ghost use Rattle.replica_world.specs.declared.event.WorldReply.TheVariants as worlds;
-ghost use Rattle.replica_world.specs.World.{room_of, puts, empty_rooms, call_of, fork_of, step, NeedsMemory, Runs};
+ghost use Rattle.room_model.specs.declared.call.Call.{Call};
+ghost use Rattle.room_model.specs.declared.call.Call.TheVariants as calls;
+ghost use Rattle.room_model.specs.declared.reply.Reply.TheVariants as replies;
+ghost use Rattle.room_model.specs.Machine.{answer, room_over};
+ghost use Rattle.room_model.specs.History.{Account, mark, called, account_over};
+ghost use Rattle.room_model.specs.declared.event.Event.TheVariants as events;
+ghost use Rattle.room_model.specs.declared.world_reply.WorldReply.{WorldReply};
+ghost use Rattle.room_model.specs.declared.world_reply.WorldReply.TheVariants as worlds;
+ghost use Rattle.room_model.specs.World.{room_of, puts, empty_rooms, call_of, fork_of, step, NeedsMemory, Runs};
 ghost use Rattle.replica_world.specs.Internal.Places.{IsPlaceOf};
-ghost use Rattle.replica_world.specs.Carried.{LosesNothing, NothingLost};
-ghost use Rattle.replica_world.specs.Kept.{IsWorld, Converges};
+ghost use Rattle.room_model.specs.Carried.{LosesNothing, NothingLost};
+ghost use Rattle.room_model.specs.Converges.{IsWorld, Converges};
 
-use crate::event::{Event, WorldReply};
 use causal_clock::Op;
 use opid::{MAX_OPERATIONS, Refusal, Site};
 use replica::Replica;
 use room::{Call, Characters, Operations, Reply, Room};
+use room_model::{Event, WorldReply};
 use std::alloc::{AllocError, Global};
 use std::marker::Model;
 use versions::Doc;
@@ -35,8 +35,8 @@ pub struct World {
 
 impl Model for World {
     ghost use Rattle.std.specs.Prelude.{List};
-    ghost use Rattle.room.specs.History.{Account};
-    ghost use Rattle.replica_world.specs.Kept.{IsWorld};
+    ghost use Rattle.room_model.specs.History.{Account};
+    ghost use Rattle.room_model.specs.Converges.{IsWorld};
 
     ghost Value = { List Account };
 

@@ -80,10 +80,10 @@ module _ (rows : List SiteIds) (s : Stamp) (m : ℕ) (r : SiteIds) (width : s.si
     (ids : r.ids ≡ (ids_at rows s.site).ids ++ (s.sum, m) ∷ []) (lacks : named rows s ≡ None) where
   row_here : (t : Stamp) → t.site ≡ s.site → (ids_at (set rows s.site r) t.site).ids ≡ (ids_at rows s.site).ids ++ (s.sum, m) ∷ []
   row_here t e = ap (λ k. (ids_at (set rows s.site r) k).ids) e
-      ∙ ap (λ (v : SiteIds). v.ids) (get_or-set_same rows s.site r (record { ids = []; room = 0 }) width) ∙ ids
+      ∙ ap (λ (v : SiteIds). v.ids) (get_or-set_same rows s.site r (record { ids = []; reserved = 0 }) width) ∙ ids
 
   row_other : (t : Stamp) → (t.site ≡ s.site → ⊥) → ids_at (set rows s.site r) t.site ≡ ids_at rows t.site
-  row_other t d = get_or-set_other rows s.site t.site r (record { ids = []; room = 0 }) d
+  row_other t d = get_or-set_other rows s.site t.site r (record { ids = []; reserved = 0 }) d
 
   named-kept : (t : Stamp) (k : ℕ) → named rows t ≡ Some k → named (set rows s.site r) t ≡ Some k
   named-kept t k h = go (cases_eq t.site s.site)

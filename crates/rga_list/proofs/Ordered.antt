@@ -186,7 +186,7 @@ row-below nodes first rows s h above =
 
 -- a row read by an index
 pub row_same : (rows : List SiteIds) (i site : ℕ) (d : SiteIds) → i ≡ site → i < length rows → get_or rows i d ≡ ids_at rows site
-row_same rows i site d e l = get_or_default rows i d (record { ids = []; room = 0 }) l ∙ ap (ids_at rows) e
+row_same rows i site d e l = get_or_default rows i d (record { ids = []; reserved = 0 }) l ∙ ap (ids_at rows) e
 
 -- a node read by an index
 pub node_same : (nodes : List Node) (i : ℕ) (n : Node) → n ≡ get_or nodes i n → i < length nodes → n ≡ node_at nodes i

@@ -11,9 +11,9 @@ pub set-keeps : {X : Type 0} (f : SiteIds → X) (rows : List SiteIds) (i k : �
 set-keeps {X} f rows i k r l e = go (cases_eq k i)
   where
     go : (k ≡ i) ⊎ (k ≡ i → ⊥) → f (ids_at (set rows i r) k) ≡ f (ids_at rows k)
-    go (inl q) = ap (λ v. f (ids_at (set rows i r) v)) q ∙ ap f (get_or-set_same rows i r (record { ids = []; room = 0 }) l) ∙ e
+    go (inl q) = ap (λ v. f (ids_at (set rows i r) v)) q ∙ ap f (get_or-set_same rows i r (record { ids = []; reserved = 0 }) l) ∙ e
         ∙ ap (λ v. f (ids_at rows v)) (sym q)
-    go (inr d) = ap f (get_or-set_other rows i k r (record { ids = []; room = 0 }) d)
+    go (inr d) = ap f (get_or-set_other rows i k r (record { ids = []; reserved = 0 }) d)
 
 -- rows with the same identifiers name the same
 pub AreNamed-same : (nodes : List Node) (rows new : List SiteIds) → ((k : ℕ) → (ids_at new k).ids ≡ (ids_at rows k).ids)
@@ -49,18 +49,19 @@ IsList-none rows size none = record {
 }
 
 -- one identifier more in one row
-pub room-pushed : (rows : List SiteIds) (site k room : ℕ) (r : SiteIds) → site < length rows → r.room ≡ (ids_at rows site).room - 1
-    → ((j : ℕ) → j < 32 → room ≤ (ids_at rows j).room) → k < 32 → site < 32
-    → room - 1 ≤ (ids_at (set rows site r) k).room
-room-pushed rows site k room r l e h m b = go (cases_eq k site)
+pub reserved-pushed : (rows : List SiteIds) (site k reserved : ℕ) (r : SiteIds) → site < length rows
+    → r.reserved ≡ (ids_at rows site).reserved - 1
+    → ((j : ℕ) → j < 32 → reserved ≤ (ids_at rows j).reserved) → k < 32 → site < 32
+    → reserved - 1 ≤ (ids_at (set rows site r) k).reserved
+reserved-pushed rows site k reserved r l e h m b = go (cases_eq k site)
   where
-    go : (k ≡ site) ⊎ (k ≡ site → ⊥) → room - 1 ≤ (ids_at (set rows site r) k).room
+    go : (k ≡ site) ⊎ (k ≡ site → ⊥) → reserved - 1 ≤ (ids_at (set rows site r) k).reserved
     go (inl q) =
-        let here : (ids_at (set rows site r) k).room ≡ (ids_at rows site).room - 1 =
-        ap (λ j. (ids_at (set rows site r) j).room) q ∙ ap (λ (v : SiteIds). v.room)
-        (get_or-set_same rows site r (record { ids = []; room = 0 }) l) ∙ e in
+        let here : (ids_at (set rows site r) k).reserved ≡ (ids_at rows site).reserved - 1 =
+        ap (λ j. (ids_at (set rows site r) j).reserved) q ∙ ap (λ (v : SiteIds). v.reserved)
+        (get_or-set_same rows site r (record { ids = []; reserved = 0 }) l) ∙ e in
         omega (arith, here, h site b)
     go (inr d) =
-        let here : (ids_at (set rows site r) k).room ≡ (ids_at rows k).room =
-        ap (λ (v : SiteIds). v.room) (get_or-set_other rows site k r (record { ids = []; room = 0 }) d) in
+        let here : (ids_at (set rows site r) k).reserved ≡ (ids_at rows k).reserved =
+        ap (λ (v : SiteIds). v.reserved) (get_or-set_other rows site k r (record { ids = []; reserved = 0 }) d) in
         omega (arith, here, h k m)

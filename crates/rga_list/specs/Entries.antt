@@ -19,7 +19,7 @@ pub record Entry : Type 0 where
 -- every element in the linked order, deleted ones too, and how many insertions have their memory already
 pub record LinkedElements : Type 0 where
   pub entries : List Entry
-  pub room : ℕ
+  pub reserved : ℕ
 
 -- x put in behind those with a greater stamp, before the first other or at the end
 abbrev pub stand : Entry → List Entry → List Entry

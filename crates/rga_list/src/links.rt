@@ -56,7 +56,7 @@ pub fn walk(
 /// Adds a node, which names the element after it already, and links it behind `last` (`None`: at the head).
 /// Constant time; takes no memory.
 pub fn link(nodes: &mut Vec<PackedNode>, first: &mut Option<Elem>, node: Node, last: Option<Elem>)
-    requires room { vec_len nodes.old < vec_capacity nodes.old }
+    requires reserved { vec_len nodes.old < vec_capacity nodes.old }
     requires few { vec_len nodes.old < MAX_OPERATIONS }
     requires next { ForSome node.next (λ k. k < MAX_OPERATIONS) }
     requires within { IfSome last (λ k. k < vec_len nodes.old) }

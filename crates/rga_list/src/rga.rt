@@ -40,8 +40,8 @@ pub struct Rga {
     first: Option<Elem>,
     nodes: Vec<PackedNode>,
     tables: [SiteTable; SITES],
-    room: usize,
-    // For so many insertions there is memory, of which `room` are promised.
+    reserved: usize,
+    // For so many insertions there is memory, of which `reserved` are promised.
     ahead: usize,
 }
 
@@ -53,22 +53,22 @@ impl Model for Rga {
 
     ghost use Rattle.rga_list.specs.Internal.Links.{entries_of, IsList, AreReserved};
 
-    ghost view = { λ a. record { entries = entries_of a.nodes.items a.first; room = a.room } };
+    ghost view = { λ a. record { entries = entries_of a.nodes.items a.first; reserved = a.reserved } };
 
     ghost invariant = { λ a. IsList a.nodes.items a.first a.tables × AreReserved (vec_len a.nodes) (vec_capacity a.nodes) a.tables a.ahead
-        × (a.room ≤ a.ahead) };
+        × (a.reserved ≤ a.ahead) };
 }
 
 impl Rga {
     /// The empty list. Constant time; takes no memory.
     pub fn new(alloc: Global) -> Self
-        ensures { result ≡ record { entries = []; room = 0 } }
+        ensures { result ≡ record { entries = []; reserved = 0 } }
     {
         Rga {
             first: None,
             nodes: Vec::new(alloc),
             tables: array::from_fn(|_| SiteTable::new(alloc)),
-            room: 0,
+            reserved: 0,
             ahead: 0,
         }
     }
@@ -147,22 +147,22 @@ impl Rga {
 
     /// Reserves memory for the next `n` insertions, so that they aren't refused with `Memory`. Constant time.
     /// Where it is there already none is taken; else it is taken for at least 64 insertions at a time. As any site may insert, each of the
-    /// 32 tables gets room for as many identifiers of 8 bytes, beside as many elements of 12: for 64 insertions that is
+    /// 32 tables gets memory for as many identifiers of 8 bytes, beside as many elements of 12: for 64 insertions that is
     /// some 17 KB, whose reserve is kept. Refused with `Memory`, only where fewer are reserved.
     pub fn reserve(&mut self, n: usize) -> Result<(), Refusal>
-        ensures ok { OnOk result (self.new ≡ record self.old { room = max self.old.room n }) }
+        ensures ok { OnOk result (self.new ≡ record self.old { reserved = max self.old.reserved n }) }
         ensures err { OnErr result (self.new ≡ self.old) }
-        ensures memory { IfErr result (λ e. (e ≡ Memory) × (self.old.room < n)) }
+        ensures memory { IfErr result (λ e. (e ≡ Memory) × (self.old.reserved < n)) }
     {
         if n <= self.ahead {
-            self.room = self.room.max(n);
+            self.reserved = self.reserved.max(n);
             return Ok(());
         }
         let more = n.max(AT_ONCE);
         self.nodes.reserve(more)?;
         reserve_each(&mut self.tables, more)?;
         self.ahead = more;
-        self.room = n;
+        self.reserved = n;
         Ok(())
     }
 
@@ -182,7 +182,7 @@ impl Rga {
         // The element stands where the walk puts it, and the place tells where that is.
         ensures list { OnOk result (self.new ≡ record {
           entries = placed parent (record { elem = length self.old.entries; stamp = stamp; ch = ch; shown = true }) self.old.entries;
-          room = self.old.room - 1;
+          reserved = self.old.reserved - 1;
         }) }
         ensures elem { IfOk result (λ place. place.elem ≡ length self.old.entries) }
         ensures grown { OnOk result (length self.new.entries ≡ length self.old.entries + 1) }
@@ -196,7 +196,7 @@ impl Rga {
         // Each cause, and only then; on a refusal the list is as before.
         ensures ok { OnOk result (refusal_of self.old.entries parent stamp ≡ None) }
         ensures cause { IfErr result (λ e. (refusal_of self.old.entries parent stamp ≡ Some e)
-            ⊎ ((refusal_of self.old.entries parent stamp ≡ None) × (e ≡ Memory) × (self.old.room ≡ 0))) }
+            ⊎ ((refusal_of self.old.entries parent stamp ≡ None) × (e ≡ Memory) × (self.old.reserved ≡ 0))) }
         ensures err { OnErr result (self.new ≡ self.old) }
     {
         if self.nodes.len() >= LIMIT {
@@ -224,7 +224,7 @@ impl Rga {
         requires there { IfSome before (λ k. k < length self.old.entries) }
         ensures list { OnOk result (self.new ≡ record {
           entries = put_behind before (record { elem = length self.old.entries; stamp = stamp; ch = ch; shown = true }) self.old.entries;
-          room = self.old.room - 1;
+          reserved = self.old.reserved - 1;
         }) }
         ensures elem { IfOk result (λ elem. elem ≡ length self.old.entries) }
         ensures grown { OnOk result (length self.new.entries ≡ length self.old.entries + 1) }
@@ -241,7 +241,7 @@ impl Rga {
             → x.kind ≡ kinds.Ins parent ch
             → self.old.entries ≡ listed ops → IsSound (ops ++ x ∷ []) × (self.new.entries ≡ listed (ops ++ x ∷ []))) }
 
-        ensures memory { IfErr result (λ e. (e ≡ Memory) × (self.old.room ≡ 0)) }
+        ensures memory { IfErr result (λ e. (e ≡ Memory) × (self.old.reserved ≡ 0)) }
         ensures err { OnErr result (self.new ≡ self.old) }
     {
         let next = after(self.nodes.as_slice(), self.first, before);
@@ -256,7 +256,7 @@ impl Rga {
             next,
         };
         link(&mut self.nodes, &mut self.first, node, before);
-        self.room = self.room.saturating_sub(1);
+        self.reserved = self.reserved.saturating_sub(1);
         self.ahead = self.ahead.saturating_sub(1);
         Ok(elem)
     }
@@ -327,8 +327,8 @@ impl Rga {
 // Reserves memory for `n` more identifiers in each table.
 fn reserve_each(tables: &mut [SiteTable], n: usize) -> Result<(), Refusal>
     ensures same { (k : ℕ) → (ids_at tables.new k).ids ≡ (ids_at tables.old k).ids }
-    ensures kept { (k : ℕ) → (ids_at tables.old k).room ≤ (ids_at tables.new k).room }
-    ensures ok { OnOk result ((k : ℕ) → k < length tables.old → n ≤ (ids_at tables.new k).room) }
+    ensures kept { (k : ℕ) → (ids_at tables.old k).reserved ≤ (ids_at tables.new k).reserved }
+    ensures ok { OnOk result ((k : ℕ) → k < length tables.old → n ≤ (ids_at tables.new k).reserved) }
     ensures memory { IfErr result (λ e. e ≡ Memory) }
 {
     for table in tables.iter_mut() {

@@ -14,7 +14,7 @@ use std::marker::Model;
 #[derive(Drop)]
 pub struct SiteTable {
     ids: Vec<(u32, Elem)>,
-    room: usize,
+    reserved: usize,
 }
 
 impl Model for SiteTable {
@@ -24,19 +24,19 @@ impl Model for SiteTable {
 
     ghost Value = { SiteIds };
 
-    ghost view = { λ t. record { ids = t.ids.items; room = t.room } };
+    ghost view = { λ t. record { ids = t.ids.items; reserved = t.reserved } };
 
-    ghost invariant = { λ t. AreRising t.ids.items × (vec_len t.ids + t.room ≤ vec_capacity t.ids) };
+    ghost invariant = { λ t. AreRising t.ids.items × (vec_len t.ids + t.reserved ≤ vec_capacity t.ids) };
 }
 
 impl SiteTable {
     /// No identifiers. Takes no memory.
     pub fn new(alloc: Global) -> Self
-        ensures { result ≡ record { ids = []; room = 0 } }
+        ensures { result ≡ record { ids = []; reserved = 0 } }
     {
         SiteTable {
             ids: Vec::new(alloc),
-            room: 0,
+            reserved: 0,
         }
     }
 
@@ -73,23 +73,23 @@ impl SiteTable {
     /// Adds an identifier with a greater sum than all. Refused with `Memory` only where nothing is reserved.
     pub fn push(&mut self, sum: u32, elem: Elem) -> Result<(), Refusal>
         requires { AllByRecursion (λ id. id.0 < sum) self.old.ids }
-        ensures ok { OnOk result (self.new ≡ record { ids = self.old.ids ++ (sum, elem) ∷ []; room = self.old.room - 1 }) }
+        ensures ok { OnOk result (self.new ≡ record { ids = self.old.ids ++ (sum, elem) ∷ []; reserved = self.old.reserved - 1 }) }
         ensures err { OnErr result (self.new ≡ self.old) }
-        ensures memory { IfErr result (λ e. (e ≡ Memory) × (self.old.room ≡ 0)) }
+        ensures memory { IfErr result (λ e. (e ≡ Memory) × (self.old.reserved ≡ 0)) }
     {
         self.ids.push((sum, elem))?;
-        self.room = self.room.saturating_sub(1);
+        self.reserved = self.reserved.saturating_sub(1);
         Ok(())
     }
 
     /// Reserves memory for `n` more identifiers. Refused with `Memory`.
     pub fn reserve(&mut self, n: usize) -> Result<(), Refusal>
-        ensures ok { OnOk result (self.new ≡ record self.old { room = max self.old.room n }) }
+        ensures ok { OnOk result (self.new ≡ record self.old { reserved = max self.old.reserved n }) }
         ensures err { OnErr result (self.new ≡ self.old) }
         ensures memory { IfErr result (λ e. e ≡ Memory) }
     {
         self.ids.reserve(n)?;
-        self.room = self.room.max(n);
+        self.reserved = self.reserved.max(n);
         Ok(())
     }
 }

@@ -75,7 +75,7 @@ pub(crate) fn open_file<R: Files<File = File> + Log>(
     place: usize,
 ) -> Result<RoomFile, Stop>
     ensures fits { (result ≡ Err (Stop.Refused Refusal.BadField)) → ⊥ }
-    ensures unreserved { IfOk result (λ kept. kept.doc.room ≡ 0) }
+    ensures unreserved { IfOk result (λ kept. kept.doc.reserved ≡ 0) }
 {
     let Ok(path) = format!(in alloc; "{folder}/{name}.ops") else {
         return Err(Stop::Fault(ServeFault::Memory));

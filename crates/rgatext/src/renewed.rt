@@ -35,8 +35,8 @@ pub(crate) fn renew_or_stay<R: Files<File = File> + Wait>(
     path: &str,
     over: Over,
 ) -> (Over, bool)
-    requires unreserved { over.doc.room ≡ 0 }
-    ensures unreserved { result.0.doc.room ≡ 0 }
+    requires unreserved { over.doc.reserved ≡ 0 }
+    ensures unreserved { result.0.doc.reserved ≡ 0 }
 {
     match renew_file(
         rt, alloc, folder, name, path, place, over.node, &over.file, &over.doc,
@@ -100,7 +100,7 @@ fn renew_file<R: Files<File = File>>(
     kept: &KeptFile<HostFile>,
     doc: &Doc,
 ) -> Result<RenewedFile, Unrenewed>
-    ensures unreserved { IfOk result (λ it. it.doc.room ≡ 0) }
+    ensures unreserved { IfOk result (λ it. it.doc.reserved ≡ 0) }
 {
     kept.disk().check()?;
     if kept.version() != doc.version() {
@@ -129,7 +129,7 @@ fn fill_anew<R: Files<File = File>>(
     new: NewFile,
     doc: &Doc,
 ) -> Result<RenewedFile, Unrenewed>
-    ensures unreserved { IfOk result (λ it. it.doc.room ≡ 0) }
+    ensures unreserved { IfOk result (λ it. it.doc.reserved ≡ 0) }
 {
     let NewFile {
         name: beside,

@@ -27,7 +27,7 @@ const LONGEST: usize = 100_000;
 pub(crate) struct Left {
     pub(crate) doc: Doc,
     pub(crate) begins_anew: bool,
-    pub ghost unreserved: { doc.room ≡ 0 },
+    pub ghost unreserved: { doc.reserved ≡ 0 },
 }
 
 // What becomes of a room.

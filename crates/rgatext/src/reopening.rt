@@ -89,7 +89,7 @@ fn reopen_room<R: Files<File = File> + Wait>(
     file: KeptFile<HostFile>,
     left: Left,
 ) -> Result<Room, Stop>
-    ensures unreserved { IfOk result (λ room. room.opening.doc.room ≡ 0) }
+    ensures unreserved { IfOk result (λ room. room.opening.doc.reserved ≡ 0) }
     ensures fits { (result ≡ Err (Stop.Refused Refusal.BadField)) → ⊥ }
 {
     let Left {

@@ -93,7 +93,7 @@ pub(crate) fn open_rooms<R: Files<File = File> + Log>(
 
 /// The hall of rooms.
 pub(crate) fn hall_of(alloc: Global, rooms: Rooms, lock: Option<File>) -> Result<Opened, Stop>
-    requires unreserved { All (λ it. it.doc.room ≡ 0) rooms.openings.items }
+    requires unreserved { All (λ it. it.doc.reserved ≡ 0) rooms.openings.items }
     requires openings { length rooms.openings.items ≡ length rooms.names.items }
     requires turns { length rooms.turns.items ≡ length rooms.names.items }
     requires states { length rooms.states.items ≡ length rooms.names.items }
@@ -143,7 +143,7 @@ pub(crate) struct Rooms {
 impl Rooms {
     /// None yet.
     pub(crate) fn new(alloc: Global) -> Rooms
-        ensures unreserved { All (λ it. it.doc.room ≡ 0) result.openings.items }
+        ensures unreserved { All (λ it. it.doc.reserved ≡ 0) result.openings.items }
         ensures openings { length result.openings.items ≡ length result.names.items }
         ensures turns { length result.turns.items ≡ length result.names.items }
         ensures states { length result.states.items ≡ length result.names.items }
@@ -161,13 +161,13 @@ impl Rooms {
 
     /// Adds one. After an error there may be a part of it.
     pub(crate) fn add(&mut self, room: Room) -> Result<(), AllocError>
-        requires room { room.opening.doc.room ≡ 0 }
-        requires unreserved { All (λ it. it.doc.room ≡ 0) self.old.openings.items }
+        requires room { room.opening.doc.reserved ≡ 0 }
+        requires unreserved { All (λ it. it.doc.reserved ≡ 0) self.old.openings.items }
         requires openings { length self.old.openings.items ≡ length self.old.names.items }
         requires turns { length self.old.turns.items ≡ length self.old.names.items }
         requires states { length self.old.states.items ≡ length self.old.names.items }
         requires watched { length self.old.watched.items ≡ length self.old.names.items }
-        ensures unreserved { OnOk result (All (λ it. it.doc.room ≡ 0) self.new.openings.items) }
+        ensures unreserved { OnOk result (All (λ it. it.doc.reserved ≡ 0) self.new.openings.items) }
         ensures openings { OnOk result (length self.new.openings.items ≡ length self.new.names.items) }
         ensures turns { OnOk result (length self.new.turns.items ≡ length self.new.names.items) }
         ensures states { OnOk result (length self.new.states.items ≡ length self.new.names.items) }
@@ -211,7 +211,7 @@ fn open_room<R: Files<File = File> + Log>(
     place: usize,
     site: Option<Site>,
 ) -> Result<Room, Stop>
-    ensures unreserved { IfOk result (λ room. room.opening.doc.room ≡ 0) }
+    ensures unreserved { IfOk result (λ room. room.opening.doc.reserved ≡ 0) }
     ensures fits { (result ≡ Err (Stop.Refused Refusal.BadField)) → ⊥ }
 {
     let Some(folder) = folder else {

@@ -7,14 +7,14 @@ use Rattle.opid.specs.declared.refusal.Refusal.TheVariants.{BadVersion, BadText,
 use Rattle.opid.specs.Asked.{asked_insertions_in}
 use Rattle.opid.specs.Lawful.{IsLawful}
 use Rattle.opid.specs.Limits.{is_bad_count}
-use Rattle.position_translate.specs.Causes.{insertion_refusal_in}
+use Rattle.opid.specs.Places.{insertion_refusal_in}
 use Rattle.position_translate.proofs.Asking.{insertions_placed}
-use Rattle.session_outbox.specs.declared.submission.Submission.TheVariants.{New, Repeat}
-use Rattle.session_outbox.specs.Sessions.{session_with}
-use Rattle.session_outbox.specs.Answers.{submission_of}
-use Rattle.room_calls.specs.declared.call.Call.{Call}
-use Rattle.room.specs.Machine.{State, Finding, counts_units, check, found_in_submission, unless}
-use Rattle.room.specs.History.{Account, IsConsistent, PlacesInsertion}
+use Rattle.opid.specs.declared.submission.Submission.TheVariants.{New, Repeat}
+use Rattle.opid.specs.Sessions.{session_with}
+use Rattle.opid.specs.Sessions.{submission_of}
+use Rattle.room_model.specs.declared.call.Call.{Call}
+use Rattle.room_model.specs.Machine.{State, Finding, counts_units, check, found_in_submission, unless}
+use Rattle.room_model.specs.History.{Account, IsConsistent, PlacesInsertion}
 
 unless_accepted : (r : Option Refusal) → unless r ≡ Ok New → r ≡ None
 unless_accepted None h = refl

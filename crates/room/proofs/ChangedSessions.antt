@@ -3,7 +3,7 @@ use Rattle.std.proofs.Common.{◌≡◌, ℕ, Bool, true, false, cond, Some, Non
 use Rattle.std.specs.Prelude.{option_map}
 use Rattle.std.proofs.lemmas.Bool.{eqb-true, cond-true, cond-false}
 use Rattle.std.proofs.lemmas.Bool.Decides.{nat_tests}
-use Rattle.session_outbox.specs.Sessions.{Session, session_with, change_session, without_session}
+use Rattle.opid.specs.Sessions.{Session, session_with, change_session, without_session}
 
 -- one that joined is no other session
 pub joined-other : (s : ℕ) (w : Session) (ws : List Session) → nat_eq s w.number ≡ false → session_with s (ws ++ w ∷ []) ≡ session_with s ws

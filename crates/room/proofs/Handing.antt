@@ -8,17 +8,17 @@ use Rattle.opid.specs.declared.refusal.Refusal.{Refusal}
 use Rattle.opid.specs.declared.refusal.Refusal.TheVariants.{OwnSite, HoldFull, Memory}
 use Rattle.opid.specs.Operations.{Operation}
 use Rattle.opid.specs.Delivery.{clock_of, is_ready}
-use Rattle.holdback.specs.Offered.{look_for}
-use Rattle.holdback.specs.Ready.{first_ready, without_first_ready}
-use Rattle.replica.specs.declared.delivery.Delivery.{Delivery}
-use Rattle.replica.specs.declared.delivery.Delivery.TheVariants.{Took, Kept, Again}
-use Rattle.replica.specs.Refused.{refusal_of}
-use Rattle.replica.specs.Settle.{Settling, appended_or_dropped, taken_out, round_with, round, rounds, settle}
-use Rattle.replica.specs.Deliver.{ReplicaState, Delivered, unchanged, hold, integrate, deliver_new, deliver_found, claims_site, deliver}
-use Rattle.replica.specs.Deliver.{taken_by}
+use Rattle.opid.specs.Held.{look_for}
+use Rattle.opid.specs.Held.{first_ready, without_first_ready}
+use Rattle.opid.specs.declared.delivery.Delivery.{Delivery}
+use Rattle.opid.specs.declared.delivery.Delivery.TheVariants.{Took, Kept, Again}
+use Rattle.opid.specs.Delivered.{refusal_of}
+use Rattle.opid.specs.Delivered.{Settling, appended_or_dropped, taken_out, round_with, round, rounds, settle}
+use Rattle.opid.specs.Delivered.{ReplicaState, Delivered, unchanged, hold, integrate, deliver_new, deliver_found, claims_site, deliver}
+use Rattle.opid.specs.Delivered.{taken_by}
 use Rattle.replica.proofs.Lawfully.{fewer}
-use Rattle.room_calls.specs.declared.outcome.Outcome.{Outcome}
-use Rattle.room.specs.Deliveries.{Handed, outcome_of, hand_over}
+use Rattle.room_model.specs.declared.outcome.Outcome.{Outcome}
+use Rattle.room_model.specs.Deliveries.{Handed, outcome_of, hand_over}
 
 -- ---- a log only grows
 
@@ -188,34 +188,34 @@ deliver-held site log held x = by (claims_site site log x)
 
 -- ---- one after another, as a loop does
 
--- what a delivery made of a replica: its outcome, and room for so many more
+-- what a delivery made of a replica: its outcome, and what is reserved for so many more
 pub record Delivers (R T : ReplicaState) (x : Operation) (result : Result Delivery Refusal) : Type 0 where
   pub outcome : (deliver R.site R.log R.held x).outcome ≡ result
   pub site : T.site ≡ R.site
   pub log : T.log ≡ (deliver R.site R.log R.held x).log
   pub held : T.held ≡ (deliver R.site R.log R.held x).held
-  pub room : (k : ℕ) → length R.held + suc k ≤ R.room → length T.held + k ≤ T.room
+  pub reserved : (k : ℕ) → length R.held + suc k ≤ R.reserved → length T.held + k ≤ T.reserved
 
 pub delivers : (R T : ReplicaState) (x : Operation) (result : Result Delivery Refusal)
     → IfOk result (λ d. (deliver R.site R.log R.held x).outcome ≡ Ok d)
     → IfOk result (λ d. T ≡ record R {
       log = (deliver R.site R.log R.held x).log;
       held = (deliver R.site R.log R.held x).held;
-      room =
-          R.room - taken_by d;
+      reserved =
+          R.reserved - taken_by d;
     })
-    → IfErr result (λ e. ((deliver R.site R.log R.held x).outcome ≡ Err e) ⊎ ((e ≡ Memory) × (R.room ≤ length R.held)))
-    → OnErr result (T ≡ R) → length R.held < R.room → Delivers R T x result
+    → IfErr result (λ e. ((deliver R.site R.log R.held x).outcome ≡ Err e) ⊎ ((e ≡ Memory) × (R.reserved ≤ length R.held)))
+    → OnErr result (T ≡ R) → length R.held < R.reserved → Delivers R T x result
 delivers R T x (Ok d) o n c e b = record {
   outcome = o;
   site = ap (λ (q : ReplicaState). q.site) n;
   log = ap (λ (q : ReplicaState). q.log) n;
   held = ap (λ (q : ReplicaState). q.held) n;
-  room = λ k h. omega (
+  reserved = λ k h. omega (
     arith,
     h,
     ap (λ (q : ReplicaState). length q.held) n,
-    ap (λ (q : ReplicaState). q.room) n,
+    ap (λ (q : ReplicaState). q.reserved) n,
     deliver-held R.site R.log R.held x d o,
   );
 }
@@ -224,7 +224,7 @@ delivers R T x (Err w) o n (inl c) e b = record {
   site = ap (λ (q : ReplicaState). q.site) e;
   log = ap (λ (q : ReplicaState). q.log) e ∙ sym (ap (λ (q : Delivered). q.log) (deliver-refused R.site R.log R.held x w c));
   held = ap (λ (q : ReplicaState). q.held) e ∙ sym (ap (λ (q : Delivered). q.held) (deliver-refused R.site R.log R.held x w c));
-  room = λ k h. omega (arith, h, ap (λ (q : ReplicaState). length q.held) e, ap (λ (q : ReplicaState). q.room) e);
+  reserved = λ k h. omega (arith, h, ap (λ (q : ReplicaState). length q.held) e, ap (λ (q : ReplicaState). q.reserved) e);
 }
 delivers R T x (Err w) o n (inr c) e b = absurd (omega (arith, c.1, b))
 

@@ -15,19 +15,20 @@ use Rattle.opid.specs.Splice.{is_inside}
 use Rattle.opid.specs.Asked.{asked_insertions_in, asked_deletions_in, deletion_run, IsPlaced_in}
 use Rattle.opid.proofs.Logs.{IsLawful-take}
 use Rattle.opid.specs.Limits.{is_bad_count}
-use Rattle.position_translate.specs.Causes.{is_bad_place, insertion_refusal_in, deletion_refusal_in, element_count}
+use Rattle.opid.specs.Places.{is_bad_place, insertion_refusal_in, deletion_refusal_in, element_count}
 use Rattle.position_translate.proofs.Asking.{length-asked_insertions, length-asked_deletions, asked_deletions-is, insertions_placed}
 use Rattle.position_translate.proofs.Asking.{outside_pairs, within, stamps}
-use Rattle.session_outbox.specs.declared.submission.Submission.TheVariants.{New}
-use Rattle.session_outbox.specs.Sessions.{session_with}
-use Rattle.session_outbox.specs.Answers.{submission_of}
-use Rattle.room_calls.specs.declared.call.Call.{Call}
-use Rattle.room_calls.specs.declared.call.Call.TheVariants.{Ins, Del}
-use Rattle.room_calls.specs.declared.reply.Reply.TheVariants as replies
-use Rattle.room.specs.Machine.{State, Finding, counts_units, check, found_answer, found_next, accepted_answer, accepted_next, counted}
-use Rattle.room.specs.Machine.{recorded_answer, recorded_next, may_record, next}
-use Rattle.room.specs.History.{Account, state_of, IsConsistent}
-use Rattle.room.specs.Intention.{names_units, asked_by, StandsAsked, IsAccepted, IsIntentionKept, state_before, KeepsIntentions, OnlyGrows}
+use Rattle.opid.specs.declared.submission.Submission.TheVariants.{New}
+use Rattle.opid.specs.Sessions.{session_with}
+use Rattle.opid.specs.Sessions.{submission_of}
+use Rattle.room_model.specs.declared.call.Call.{Call}
+use Rattle.room_model.specs.declared.call.Call.TheVariants.{Ins, Del}
+use Rattle.room_model.specs.declared.reply.Reply.TheVariants as replies
+use Rattle.room_model.specs.Machine.{State, Finding, counts_units, check, found_answer, found_next, accepted_answer, accepted_next, counted}
+use Rattle.room_model.specs.Machine.{recorded_answer, recorded_next, may_record, next}
+use Rattle.room_model.specs.History.{Account, state_of, IsConsistent}
+use Rattle.room_model.specs.Intention.{names_units, asked_by, StandsAsked, IsAccepted, IsIntentionKept, state_before}
+use Rattle.room_model.specs.Intention.{KeepsIntentions, OnlyGrows}
 use Rattle.room.proofs.Accepted.{first_accepted, at_most}
 use Rattle.room.proofs.Handing.{Extends}
 use Rattle.room.proofs.Histories.{next-site}

@@ -5,16 +5,16 @@ use Rattle.std.specs.Prelude.{min, MatchOption, if◌then◌else◌}
 use Rattle.std.specs.List.{AllByRecursion as Each}
 use Rattle.std.proofs.lemmas.List.{length-append}
 use Rattle.opid.specs.Operations.{Operation}
-use Rattle.position_translate.specs.Causes.{element_count}
-use Rattle.session_outbox.specs.declared.submission.Submission.TheVariants.{New, Repeat}
-use Rattle.session_outbox.specs.Sessions.{Session, session_with, with_accepted, sent_to}
-use Rattle.session_outbox.specs.Sessions.{joined}
-use Rattle.room_calls.specs.declared.call.Call.{Call}
-use Rattle.room_calls.specs.declared.call.Call.TheVariants.{Join, Ins, Del, Pull, Leave}
-use Rattle.room.specs.Machine.{State, Finding, counts_units, check, accepted_next, found_next, may_record}
-use Rattle.room.specs.Machine.{counted, recorded_next, next}
-use Rattle.room.specs.History.{state_of}
-use Rattle.room.specs.Convergence.{or_before, last_known}
+use Rattle.opid.specs.Places.{element_count}
+use Rattle.opid.specs.declared.submission.Submission.TheVariants.{New, Repeat}
+use Rattle.opid.specs.Sessions.{Session, session_with, with_accepted, sent_to}
+use Rattle.opid.specs.Sessions.{joined}
+use Rattle.room_model.specs.declared.call.Call.{Call}
+use Rattle.room_model.specs.declared.call.Call.TheVariants.{Join, Ins, Del, Pull, Leave}
+use Rattle.room_model.specs.Machine.{State, Finding, counts_units, check, accepted_next, found_next, may_record}
+use Rattle.room_model.specs.Machine.{counted, recorded_next, next}
+use Rattle.room_model.specs.History.{state_of}
+use Rattle.room_model.specs.Convergence.{or_before, last_known}
 use Rattle.room.proofs.Histories.{next-extends}
 use Rattle.room.proofs.Handing.{Extends, Extends-refl}
 use Rattle.room.proofs.Running.{within_max, IsWithin, IsRunning, IfThere, IfThere-changed, IfThere-without}

@@ -14,21 +14,21 @@ use Rattle.opid.specs.Reading.{visible_in_at, reading_in_at}
 use Rattle.opid.specs.Lawful.{IsLawful}
 use Rattle.opid.specs.Splice.{is_inside}
 use Rattle.opid.specs.Asked.{asked_insertions_in, asked_deletions_in, deletion_run}
-use Rattle.position_translate.specs.Causes.{is_bad_place, insertion_refusal_in, deletion_refusal_in, element_count}
+use Rattle.opid.specs.Places.{is_bad_place, insertion_refusal_in, deletion_refusal_in, element_count}
 use Rattle.position_translate.proofs.Asking.{insertions_lawful, deletions_lawful, length-asked_insertions, length-asked_deletions}
 use Rattle.position_translate.proofs.Asking.{asked_deletions-is, outside_pairs, within, stamps}
-use Rattle.replica.specs.Settled.{AreOperations}
-use Rattle.replica.specs.Deliver.{deliver}
+use Rattle.opid.specs.Delivered.{AreOperations}
+use Rattle.opid.specs.Delivered.{deliver}
 use Rattle.replica.proofs.Lawfully.{Stands, deliver-fit}
-use Rattle.session_outbox.specs.declared.submission.Submission.TheVariants.{New, Repeat}
-use Rattle.session_outbox.specs.Sessions.{session_with}
-use Rattle.session_outbox.specs.Answers.{submission_of}
-use Rattle.room_calls.specs.declared.call.Call.{Call}
-use Rattle.room_calls.specs.declared.call.Call.TheVariants.{Ins, Del, Put, Read}
-use Rattle.room.specs.Deliveries.{hand_over}
-use Rattle.room.specs.Machine.{State, Finding, room_over, counts_units, check, accepted_next, found_next, recorded_next, counted}
-use Rattle.room.specs.Machine.{may_record, next}
-use Rattle.room.specs.History.{state_of, IsLegal, HandsOperations, replayed, IsConsistent}
+use Rattle.opid.specs.declared.submission.Submission.TheVariants.{New, Repeat}
+use Rattle.opid.specs.Sessions.{session_with}
+use Rattle.opid.specs.Sessions.{submission_of}
+use Rattle.room_model.specs.declared.call.Call.{Call}
+use Rattle.room_model.specs.declared.call.Call.TheVariants.{Ins, Del, Put, Read}
+use Rattle.room_model.specs.Deliveries.{hand_over}
+use Rattle.room_model.specs.Machine.{State, Finding, room_over, counts_units, check, accepted_next, found_next, recorded_next, counted}
+use Rattle.room_model.specs.Machine.{may_record, next}
+use Rattle.room_model.specs.History.{state_of, IsLegal, HandsOperations, replayed, IsConsistent}
 use Rattle.room.proofs.Accepted.{first_accepted, at_most}
 use Rattle.room.proofs.Intentions.{none-place}
 use Rattle.room.proofs.Histories.{next-site, next-count}

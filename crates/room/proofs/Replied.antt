@@ -5,13 +5,13 @@ use mathlib.Core.Path.{ap₂}
 use Rattle.std.specs.declared.alloc.AllocError.{AllocError}
 use Rattle.opid.specs.declared.refusal.Refusal.{Refusal}
 use Rattle.opid.specs.Operations.{Operation}
-use Rattle.replica.specs.Deliver.{ReplicaState}
-use Rattle.session_outbox.specs.declared.submission.Submission.TheVariants.{New, Repeat}
-use Rattle.session_outbox.specs.Sessions.{Outbox, after_accept}
-use Rattle.room_calls.specs.declared.call.Call.{Call}
-use Rattle.room_calls.specs.declared.reply.Reply.{Reply}
-use Rattle.room_calls.specs.declared.reply.Reply.TheVariants as replies
-use Rattle.room.specs.Machine.{State, Finding, check, found_in_submission, accepted_answer, accepted_next, found_answer, found_next}
+use Rattle.opid.specs.Delivered.{ReplicaState}
+use Rattle.opid.specs.declared.submission.Submission.TheVariants.{New, Repeat}
+use Rattle.opid.specs.Sessions.{Outbox, after_accept}
+use Rattle.room_model.specs.declared.call.Call.{Call}
+use Rattle.room_model.specs.declared.reply.Reply.{Reply}
+use Rattle.room_model.specs.declared.reply.Reply.TheVariants as replies
+use Rattle.room_model.specs.Machine.{State, Finding, check, found_in_submission, accepted_answer, accepted_next, found_answer, found_next}
 use Rattle.room.specs.Internal.Parts.{state_with, Does, reply_at_once, Submits, Accepts}
 
 -- what a call is found to be tells what it is answered, and what it does

@@ -1,9 +1,9 @@
 -- What a desk over an owned room does at a call; the rules are the server's own.
-use Rattle.room_calls.specs.declared.call.Call.{Call}
-use Rattle.room_calls.specs.declared.reply.Reply.{Reply}
-use Rattle.room.specs.declared.desk.DeskFault.{DeskFault}
+use Rattle.room_model.specs.declared.call.Call.{Call}
+use Rattle.room_model.specs.declared.reply.Reply.{Reply}
+use Rattle.room_model.specs.declared.desk_fault.DeskFault.{DeskFault}
 use Rattle.room.specs.declared.owned.RoomDesk.{RoomDesk}
-use Rattle.room.specs.History.{StepsRoom, FaultsRoom}
+use Rattle.room_model.specs.History.{StepsRoom, FaultsRoom}
 
 -- the call is a step of the desk's room
 abbrev pub room_step : RoomDesk → Call → Reply → RoomDesk → Type 0

@@ -4,21 +4,21 @@ ghost use Rattle.std.specs.Prelude.{vec_capacity, slice_get};
 ghost use Rattle.opid.specs.Limits.{is_bad_count};
 ghost use Rattle.opid.specs.Edits.{edits_in};
 ghost use Rattle.opid.specs.Asked.{asked_insertions_in, asked_deletions_in};
-ghost use Rattle.position_translate.specs.Causes.{insertion_refusal_in, deletion_refusal_in, element_count};
-ghost use Rattle.replica.specs.Part.{part_of};
-ghost use Rattle.replica.specs.Deliver.{ReplicaState};
+ghost use Rattle.opid.specs.Places.{insertion_refusal_in, deletion_refusal_in, element_count};
+ghost use Rattle.opid.specs.Delivered.{part_of};
+ghost use Rattle.opid.specs.Delivered.{ReplicaState};
 ghost use Rattle.opid.specs.Reading.{reading};
-ghost use Rattle.session_outbox.specs.Sessions.{Outbox, session_with, MayAccept};
-ghost use Rattle.session_outbox.specs.Answers.{submission_of};
-ghost use Rattle.room_calls.specs.declared.call.Call.TheVariants.{Join, Ins, Del, Pull, Leave, Ops, Put, Read};
-ghost use Rattle.room.specs.Deliveries.{outcome_of};
-ghost use Rattle.room.specs.Machine.{counts_units, edits_between_in};
+ghost use Rattle.opid.specs.Sessions.{Outbox, session_with, MayAccept};
+ghost use Rattle.opid.specs.Sessions.{submission_of};
+ghost use Rattle.room_model.specs.declared.call.Call.TheVariants.{Join, Ins, Del, Pull, Leave, Ops, Put, Read};
+ghost use Rattle.room_model.specs.Deliveries.{outcome_of};
+ghost use Rattle.room_model.specs.Machine.{counts_units, edits_between_in};
 ghost use Rattle.room.specs.Internal.Parts.{Does, MayLackMemory, state_with, reply_at_once, Submits, Accepts, IsHandedOver};
 
 use causal_clock::Op;
 use opid::{Edit, MAX_COUNT, MAX_SESSIONS, Refusal, is_bad_count};
 use replica::{Delivery, Replica};
-use room_calls::{Call, Characters, Edits, Operations, Outcome, Outcomes, Reply};
+use room_model::{Call, Characters, Edits, Operations, Outcome, Outcomes, Reply};
 use session_outbox::{Sessions, Submission};
 use std::alloc::{AllocError, Global};
 use versions::Doc;
@@ -281,11 +281,11 @@ fn reading(doc: &Doc) -> Result<Characters, AllocError>
     }
 }
 
-// Adds the edits that lead from one version to another, for which there is room, as places are counted.
+// Adds the edits that lead from one version to another, for which memory is reserved, as places are counted.
 fn add_edits(doc: &Doc, units: bool, from: u32, to: u32, es: &mut Vec<Edit>)
     requires newest { to ≤ length doc.now.log }
     requires empty { es.old.items ≡ [] }
-    requires room { to - from ≤ vec_capacity es.old }
+    requires reserved { to - from ≤ vec_capacity es.old }
     ensures { es.new.items ≡ edits_between_in units doc.now.log from to }
 {
     for version in from..to {
@@ -306,11 +306,11 @@ fn edit_in(doc: &Doc, units: bool, n: u32) -> Edit
     }
 }
 
-// Hands operations over for which there is room, and adds their outcomes.
+// Hands operations over for which memory is reserved, and adds their outcomes.
 fn hand_over(replica: &mut Replica, ops: &[Op], outcomes: &mut Vec<Outcome>)
     requires empty { outcomes.old.items ≡ [] }
     requires capacity { length ops.now ≤ vec_capacity outcomes.old }
-    requires room { length replica.old.held + length ops.now ≤ replica.old.room }
+    requires reserved { length replica.old.held + length ops.now ≤ replica.old.reserved }
     ensures { IsHandedOver replica.old ops.now outcomes.new.items replica.new }
 {
     for op in ops {

@@ -4,11 +4,11 @@ ghost use Rattle.std.specs.Prelude.{ℕ, ◌<◌, ◌≤◌, List, length};
 ghost use Rattle.std.specs.List.{AllByRecursion};
 ghost use Rattle.opid.specs.Operations.{Operation};
 ghost use Rattle.opid.specs.Lawful.{IsLawful};
-ghost use Rattle.room_calls.specs.declared.call.Call.{Call};
-ghost use Rattle.room.specs.Machine.{room_over};
-ghost use Rattle.room.specs.History.{Account, IsLegal, HandsOperations, replayed, IsConsistent, PlacesInsertion};
-ghost use Rattle.room.specs.Convergence.{EditorsConverge, EditorsKeepUp};
-ghost use Rattle.room.specs.Intention.{KeepsIntentions, OnlyGrows};
+ghost use Rattle.room_model.specs.declared.call.Call.{Call};
+ghost use Rattle.room_model.specs.Machine.{room_over};
+ghost use Rattle.room_model.specs.History.{Account, IsLegal, HandsOperations, replayed, IsConsistent, PlacesInsertion};
+ghost use Rattle.room_model.specs.Convergence.{EditorsConverge, EditorsKeepUp};
+ghost use Rattle.room_model.specs.Intention.{KeepsIntentions, OnlyGrows};
 
 use opid::{MAX_OPERATIONS, SITES};
 

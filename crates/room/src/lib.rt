@@ -11,7 +11,7 @@ mod machine;
 mod owned;
 mod room;
 
-pub use desk::{Desk, DeskFault};
+pub use desk::Desk;
 pub use owned::RoomDesk;
 pub use room::Room;
-pub use room_calls::{Call, Characters, Edits, Operations, Outcome, Outcomes, Reply};
+pub use room_model::{Call, Characters, DeskFault, Edits, Operations, Outcome, Outcomes, Reply};

@@ -1,12 +1,12 @@
 //! The room: the machine with the history of the calls that it recorded.
 ghost use Rattle.std.specs.Prelude.{◌≡◌, ◌+◌, ◌^◌, ◌<◌, ◌≤◌, ◌↔◌, [], true, length, IfOk, OnOk, OnErr, Result};
 ghost use Rattle.opid.specs.declared.refusal.Refusal.TheVariants.{HistoryFull};
-ghost use Rattle.room_calls.specs.declared.reply.Reply.TheVariants.{No};
+ghost use Rattle.room_model.specs.declared.reply.Reply.TheVariants.{No};
 
 use crate::machine::Machine;
 use opid::{MAX_CALLS, Refusal, Site};
 use replica::Replica;
-use room_calls::{Call, Reply};
+use room_model::{Call, Reply};
 use std::alloc::{AllocError, Global};
 use std::marker::Model;
 
@@ -24,7 +24,7 @@ pub struct Room {
 const _: () = prove!(size_of::<(u64, Call)>() == 64);
 
 impl Model for Room {
-    ghost use Rattle.room.specs.History.{Account};
+    ghost use Rattle.room_model.specs.History.{Account};
 
     ghost Value = { Account };
 
@@ -37,10 +37,10 @@ impl Model for Room {
 
 impl Room {
     ghost use Rattle.opid.specs.declared.limits.TheConstants.{MAX_CALLS};
-    ghost use Rattle.room.specs.Machine.{State, empty_room, room_over, may_record, answer};
-    ghost use Rattle.room.specs.History.{mark, account_over, called, ran, IsConsistent, Runs, StepsRoom};
-    ghost use Rattle.room.specs.Convergence.{EditorsConverge, EditorsKeepUp};
-    ghost use Rattle.room.specs.Intention.{KeepsIntentions, OnlyGrows};
+    ghost use Rattle.room_model.specs.Machine.{State, empty_room, room_over, may_record, answer};
+    ghost use Rattle.room_model.specs.History.{mark, account_over, called, ran, IsConsistent, Runs, StepsRoom};
+    ghost use Rattle.room_model.specs.Convergence.{EditorsConverge, EditorsKeepUp};
+    ghost use Rattle.room_model.specs.Intention.{KeepsIntentions, OnlyGrows};
 
     /// The room of a site with an empty document. Constant time; takes no memory.
     pub fn new(alloc: Global, site: Site) -> Room

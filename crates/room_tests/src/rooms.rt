@@ -1,6 +1,6 @@
 //! A list of calls of each kind and size: the history that a room records of it, the replies, and what editors make of these.
 ghost use Rattle.std.specs.Prelude.{◌≤◌, ◌^◌};
-ghost use Rattle.room.specs.History.{mark};
+ghost use Rattle.room_model.specs.History.{mark};
 
 use crate::counts::Editors;
 use crate::fixtures::empty_room;

@@ -6,7 +6,7 @@ use Rattle.std.specs.Option.{option_map}
 use Rattle.std.proofs.lemmas.Bool.{eqb-true}
 use Rattle.indexmap.specs.IndexMap.{insert_entry}
 use Rattle.session_outbox.specs.declared.facts.Facts.{Facts}
-use Rattle.session_outbox.specs.Sessions.{Session, HaveRisingNumbers, change_session, without_session, session_with}
+use Rattle.opid.specs.Sessions.{Session, HaveRisingNumbers, change_session, without_session, session_with}
 use Rattle.session_outbox.specs.Internal.Kept.{session_of, sessions_of}
 use Rattle.session_outbox.proofs.Numbered.{low_below, change_session-at}
 

@@ -2,7 +2,7 @@
 use Rattle.std.proofs.Common.{◌≡◌, ℕ, ◌+◌, ◌<◌, ◌≤◌, Bool, true, false, cond, None, Some, List, [], ◌∷◌, ◌++◌, refl, ap, subst, sym, arith}
 use Rattle.std.proofs.Common.{nat_eq}
 use Rattle.std.proofs.lemmas.Bool.{eqb-true}
-use Rattle.session_outbox.specs.Sessions.{Session, HaveRisingNumbers, change_session, without_session, session_with}
+use Rattle.opid.specs.Sessions.{Session, HaveRisingNumbers, change_session, without_session, session_with}
 
 pub from_below : (low high next : ℕ) (ws : List Session) → low ≤ high → HaveRisingNumbers high next ws → HaveRisingNumbers low next ws
 from_below low high next [] le h = omega arith

@@ -1,4 +1,2 @@
 -- The definitions that the contracts of this crate cite.
-pub mod Sessions
-pub mod Answers
 pub mod Internal

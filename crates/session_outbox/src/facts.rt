@@ -1,10 +1,9 @@
 //! What is kept of one session beside its number.
 ghost use Rattle.std.specs.Prelude.{◌≡◌, Some};
-ghost use Rattle.session_outbox.specs.Answers.{submission_of, pull_of};
+ghost use Rattle.opid.specs.Sessions.{submission_of, pull_of};
 ghost use Rattle.session_outbox.specs.Internal.Kept.{session_of};
 
-use crate::submission::Submission;
-use opid::{Refusal, is_bad_count};
+use opid::{Refusal, Submission, is_bad_count};
 
 /// The facts of a session.
 #[derive(Clone, Copy)]

@@ -5,7 +5,6 @@
 
 mod facts;
 mod sessions;
-mod submission;
 
+pub use opid::Submission;
 pub use sessions::Sessions;
-pub use submission::Submission;

@@ -3,16 +3,15 @@ ghost use Rattle.std.specs.Prelude.{◌≡◌, ◌≤◌, ◌<◌, ◌↔◌, fa
 ghost use Rattle.std.specs.Prelude.{OnOk, OnErr};
 ghost use Rattle.std.specs.Option.{option_map};
 ghost use Rattle.opid.specs.declared.refusal.Refusal.TheVariants.{NoSession};
-ghost use Rattle.session_outbox.specs.declared.submission.Submission.TheVariants.{New};
-ghost use Rattle.session_outbox.specs.Sessions.{session_with, change_session, without_session, MayAccept, HaveRisingNumbers, empty_outbox};
-ghost use Rattle.session_outbox.specs.Sessions.{with_accepted, sent_to, after_join, after_leave, after_accept, after_pull};
-ghost use Rattle.session_outbox.specs.Answers.{submission_of, pull_of, units_of_session, join_refusal};
+ghost use Rattle.opid.specs.declared.submission.Submission.TheVariants.{New};
+ghost use Rattle.opid.specs.Sessions.{session_with, change_session, without_session, MayAccept, HaveRisingNumbers, empty_outbox};
+ghost use Rattle.opid.specs.Sessions.{with_accepted, sent_to, after_join, after_leave, after_accept, after_pull};
+ghost use Rattle.opid.specs.Sessions.{submission_of, pull_of, units_of_session, join_refusal};
 ghost use Rattle.session_outbox.specs.Internal.Kept.{sessions_of, session_of};
 
 use crate::facts::Facts;
-use crate::submission::Submission;
 use indexmap::IndexMap;
-use opid::{MAX_SESSIONS, Refusal};
+use opid::{MAX_SESSIONS, Refusal, Submission};
 use std::alloc::Global;
 use std::marker::Model;
 
@@ -84,7 +83,7 @@ pub struct Sessions {
 }
 
 impl Model for Sessions {
-    ghost use Rattle.session_outbox.specs.Sessions.{Outbox, HaveRisingNumbers};
+    ghost use Rattle.opid.specs.Sessions.{Outbox, HaveRisingNumbers};
     ghost use Rattle.session_outbox.specs.Internal.Kept.{sessions_of};
 
     ghost Value = { Outbox };

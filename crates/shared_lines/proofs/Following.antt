@@ -2,9 +2,9 @@
 -- related to one that is.
 use Rattle.std.proofs.Common.{◌≡◌, ℕ, List, [], ◌∷◌, Option, Result, Ok, Err, inl, inr, refl, sym, subst}
 use Rattle.opid.specs.declared.refusal.Refusal.{Refusal}
-use Rattle.room_calls.specs.declared.call.Call.{Call}
-use Rattle.room_calls.specs.declared.reply.Reply.{Reply}
-use Rattle.room.specs.declared.desk.DeskFault.{DeskFault}
+use Rattle.room_model.specs.declared.call.Call.{Call}
+use Rattle.room_model.specs.declared.reply.Reply.{Reply}
+use Rattle.room_model.specs.declared.desk_fault.DeskFault.{DeskFault}
 use Rattle.wire_json.specs.Request.{request}
 use Rattle.line_engine.specs.AnsweredRequests.{AnswersAsked, AnswersRequest}
 use Rattle.line_engine.specs.Lines.{cut}

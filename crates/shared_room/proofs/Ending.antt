@@ -10,11 +10,11 @@ use borrow.Author.Tests.{ltb-true}
 use Rattle.std.specs.List.{AllByRecursion}
 use Rattle.std.specs.declared.alloc.AllocError.{AllocError}
 use Rattle.opid.specs.declared.refusal.Refusal.TheVariants.{HistoryFull, Memory}
-use Rattle.room_calls.specs.declared.call.Call.{Call}
-use Rattle.room_calls.specs.declared.reply.Reply.{Reply}
-use Rattle.room_calls.specs.declared.reply.Reply.TheVariants as replies
-use Rattle.room.specs.Machine.{State, may_record, answer}
-use Rattle.room.specs.History.{Account, HandsOperations, state_of, mark, called}
+use Rattle.room_model.specs.declared.call.Call.{Call}
+use Rattle.room_model.specs.declared.reply.Reply.{Reply}
+use Rattle.room_model.specs.declared.reply.Reply.TheVariants as replies
+use Rattle.room_model.specs.Machine.{State, may_record, answer}
+use Rattle.room_model.specs.History.{Account, HandsOperations, state_of, mark, called}
 use Rattle.room.proofs.Histories.{mark_from-push}
 use Rattle.history_lock.specs.declared.pass.Sight.{Sight}
 use Rattle.history_lock.specs.Sights.{finished, drew, took, peeked_at, won, joined, learned, longer}

@@ -3,9 +3,9 @@ use Rattle.std.proofs.Common.{◌≡◌, ℕ, ◌-◌, List, length, take, drop,
 use Rattle.std.specs.Prelude.{min}
 use Rattle.std.proofs.lemmas.List.{take_rest, drop_min}
 use Rattle.opid.specs.Operations.{Operation}
-use Rattle.room_calls.specs.declared.call.Call.{Call}
-use Rattle.room.specs.Machine.{State}
-use Rattle.room.specs.History.{Account}
+use Rattle.room_model.specs.declared.call.Call.{Call}
+use Rattle.room_model.specs.Machine.{State}
+use Rattle.room_model.specs.History.{Account}
 use Rattle.history_lock.specs.declared.pass.Sight.{Sight}
 use Rattle.history_lock.specs.Sights.{finished}
 use Rattle.shared_room.specs.declared.kept.Item.{Item}

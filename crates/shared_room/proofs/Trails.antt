@@ -3,18 +3,18 @@ use Rattle.std.proofs.Common.{◌≡◌, ℕ, zero, suc, ◌+◌, ◌≤◌, Lis
 use Rattle.std.proofs.Common.{refl, ap, sym, subst, ◌∙◌, arith, Bool, true, false, ◌==◌, ◌<◌}
 use Rattle.std.proofs.lemmas.Bool.Decides.{nat_tests}
 use mathlib.Core.List.{IsPrefix}
-use Rattle.room_calls.specs.declared.call.Call.{Call}
-use Rattle.room_calls.specs.declared.call.Call.TheVariants.{Read}
-use Rattle.room.specs.Machine.{State}
-use Rattle.room.specs.History.{Account, AreRisingFrom, IsLegal, state_of}
+use Rattle.room_model.specs.declared.call.Call.{Call}
+use Rattle.room_model.specs.declared.call.Call.TheVariants.{Read}
+use Rattle.room_model.specs.Machine.{State}
+use Rattle.room_model.specs.History.{Account, AreRisingFrom, IsLegal, state_of}
 use Rattle.history_lock.specs.declared.pass.Sight.{Sight}
 use Rattle.history_lock.specs.Sights.{Among, weigh}
 use Rattle.history_lock.specs.Turns.{LeftFor}
 use Rattle.shared_room.specs.declared.kept.Item.{Item}
 use Rattle.shared_room.specs.declared.kept.Item.TheVariants.{Opened, Made}
 use Rattle.shared_room.specs.Trails.{made, trail_of, calls_of, opening_in}
-use Rattle.room.specs.Desks.{Owns}
-use Rattle.room.specs.Desks.{AreDistinct}
+use Rattle.room_model.specs.Desks.{Owns}
+use Rattle.room_model.specs.Desks.{AreDistinct}
 use Rattle.room.specs.Internal.DeskLaws.{one_place}
 
 pub calls_made : (h : List (ℕ × Call)) → calls_of (map made h) ≡ h

@@ -2,9 +2,9 @@
 use Rattle.std.specs.Prelude.{◌≡◌, ◌↔◌, ◌⊎◌, ℕ, List, length, drop, Result, Err, IfOk, IfErr}
 use Rattle.opid.specs.declared.refusal.Refusal.{Refusal}
 use Rattle.opid.specs.declared.refusal.Refusal.TheVariants.{Worn, Memory}
-use Rattle.room_calls.specs.declared.call.Call.{Call}
-use Rattle.room.specs.Machine.{State}
-use Rattle.room.specs.History.{state_of}
+use Rattle.room_model.specs.declared.call.Call.{Call}
+use Rattle.room_model.specs.Machine.{State}
+use Rattle.room_model.specs.History.{state_of}
 use Rattle.shared_room.specs.declared.look.Look.{Look}
 use Rattle.shared_room.specs.Views.{View}
 use Rattle.shared_room.specs.Turns.{Visits}

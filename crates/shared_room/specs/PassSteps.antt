@@ -1,8 +1,8 @@
 -- A step and a fault of a desk over a pass, in what the pass knows. They are the server's own.
-use Rattle.room_calls.specs.declared.call.Call.{Call}
-use Rattle.room_calls.specs.declared.reply.Reply.{Reply}
-use Rattle.room.specs.declared.desk.DeskFault.{DeskFault}
-use Rattle.room.specs.Machine.{State}
+use Rattle.room_model.specs.declared.call.Call.{Call}
+use Rattle.room_model.specs.declared.reply.Reply.{Reply}
+use Rattle.room_model.specs.declared.desk_fault.DeskFault.{DeskFault}
+use Rattle.room_model.specs.Machine.{State}
 use Rattle.shared_room.specs.Views.{View}
 use Rattle.shared_room.specs.Turns.{Answers, FaultsPass}
 

@@ -1,9 +1,9 @@
 -- The trail of a room, which the lock keeps: its opening as one item, and then the calls that it recorded. It is the
 -- server's own.
 use Rattle.std.specs.Prelude.{ℕ, List, [], ◌∷◌, map}
-use Rattle.room_calls.specs.declared.call.Call.{Call}
-use Rattle.room.specs.Machine.{State, empty_room}
-use Rattle.room.specs.History.{Account}
+use Rattle.room_model.specs.declared.call.Call.{Call}
+use Rattle.room_model.specs.Machine.{State, empty_room}
+use Rattle.room_model.specs.History.{Account}
 use Rattle.shared_room.specs.declared.kept.Item.{Item}
 use Rattle.shared_room.specs.declared.kept.Item.TheVariants.{Opened, Made}
 

@@ -3,13 +3,13 @@ use Rattle.std.specs.Prelude.{◌≡◌, ℕ, ◌+◌, ◌-◌, ◌<◌, ◌≤�
 use Rattle.opid.specs.declared.limits.TheConstants.{MAX_CALLS}
 use mathlib.Core.List.{IsPrefix}
 use Rattle.opid.specs.declared.refusal.Refusal.TheVariants.{HistoryFull}
-use Rattle.room_calls.specs.declared.call.Call.{Call}
-use Rattle.room_calls.specs.declared.reply.Reply.{Reply}
-use Rattle.room_calls.specs.declared.reply.Reply.TheVariants.{No}
-use Rattle.room.specs.declared.desk.DeskFault.{DeskFault}
-use Rattle.room.specs.declared.desk.DeskFault.TheVariants as Fault
-use Rattle.room.specs.Machine.{State, answer}
-use Rattle.room.specs.History.{state_of}
+use Rattle.room_model.specs.declared.call.Call.{Call}
+use Rattle.room_model.specs.declared.reply.Reply.{Reply}
+use Rattle.room_model.specs.declared.reply.Reply.TheVariants.{No}
+use Rattle.room_model.specs.declared.desk_fault.DeskFault.{DeskFault}
+use Rattle.room_model.specs.declared.desk_fault.DeskFault.TheVariants as Fault
+use Rattle.room_model.specs.Machine.{State, answer}
+use Rattle.room_model.specs.History.{state_of}
 use Rattle.shared_room.specs.Views.{View}
 
 -- a turn was taken: it found all that the pass had seen, and more perhaps; one draw is used, and no try is lost

@@ -2,11 +2,11 @@
 use Rattle.std.specs.Prelude.{◌≤◌, ◌+◌, ◌^◌, ℕ, List, length}
 use Rattle.std.specs.List.{AllByRecursion}
 use Rattle.opid.specs.declared.limits.TheConstants.{MAX_OPERATIONS}
-use Rattle.room_calls.specs.declared.call.Call.{Call}
-use Rattle.room.specs.Machine.{State}
-use Rattle.room.specs.History.{IsLegal, HandsOperations, state_of, mark}
-use Rattle.room.specs.Desks.{Owns, AreDistinct}
-use Rattle.room.specs.Desks as desks
+use Rattle.room_model.specs.declared.call.Call.{Call}
+use Rattle.room_model.specs.Machine.{State}
+use Rattle.room_model.specs.History.{IsLegal, HandsOperations, state_of, mark}
+use Rattle.room_model.specs.Desks.{Owns, AreDistinct}
+use Rattle.room_model.specs.Desks as desks
 use Rattle.history_lock.specs.declared.pass.Sight.{Sight}
 use Rattle.history_lock.specs.Locks as locks
 use Rattle.shared_room.specs.declared.kept.Item.{Item}

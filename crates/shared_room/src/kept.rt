@@ -3,10 +3,10 @@ ghost use Rattle.std.specs.Prelude.{◌≡◌, ◌^◌, ◌<◌, ◌≤◌, ◌�
 ghost use Rattle.std.specs.List.{AllByRecursion};
 ghost use Rattle.opid.specs.declared.limits.TheConstants.{MAX_CALLS, MAX_OPERATIONS};
 ghost use Rattle.opid.specs.declared.refusal.Refusal.TheVariants.{HistoryFull};
-ghost use Rattle.causal_clock.specs.Kinds.{IsOperation};
-ghost use Rattle.room_calls.specs.declared.reply.Reply.TheVariants.{No};
-ghost use Rattle.room.specs.Machine.{answer, may_record};
-ghost use Rattle.room.specs.History.{state_of, mark, called, AreRisingFrom, HandsOperations, IsConsistent};
+ghost use Rattle.opid.specs.Kinds.{IsOperation};
+ghost use Rattle.room_model.specs.declared.reply.Reply.TheVariants.{No};
+ghost use Rattle.room_model.specs.Machine.{answer, may_record};
+ghost use Rattle.room_model.specs.History.{state_of, mark, called, AreRisingFrom, HandsOperations, IsConsistent};
 ghost use Rattle.room.specs.Internal.Legal.{AreRisingFrom-prop};
 ghost use Rattle.shared_room.specs.Trails.{trail_of};
 ghost use Rattle.shared_room.specs.Internal.Handing.{AllHand-prop};
@@ -24,7 +24,7 @@ pub(crate) struct Opening {
 }
 
 impl Model for Opening {
-    ghost use Rattle.room.specs.Machine.{State};
+    ghost use Rattle.room_model.specs.Machine.{State};
 
     ghost Value = { State };
 

@@ -2,7 +2,7 @@
 ghost use Rattle.std.specs.Prelude.{◌≡◌, ℕ, ◌+◌, ◌^◌, ◌<◌, ◌≤◌, ◌↔◌, ◌⊎◌, [], IfOk, IsErr, IfErr, OnOk, OnErr};
 ghost use mathlib.Core.List.{IsPrefix};
 ghost use Rattle.opid.specs.declared.refusal.Refusal.TheVariants as Why;
-ghost use Rattle.room.specs.History.{mark};
+ghost use Rattle.room_model.specs.History.{mark};
 ghost use Rattle.history_lock.specs.Locks as locks;
 ghost use Rattle.history_lock.specs.Locks.{sight, ticket_of};
 ghost use Rattle.shared_room.specs.Trails.{trail_of};

@@ -49,7 +49,7 @@ impl Gathered {
 /// lawful log of at most 131,072 operations.
 pub(crate) fn integrate_gathered(alloc: Global, items: &[Gathered]) -> Result<Doc, Refusal>
     ensures told { IfOk result (λ doc. doc.log ≡ unfolded_all items.now) }
-    ensures unreserved { IfOk result (λ doc. doc.room ≡ 0) }
+    ensures unreserved { IfOk result (λ doc. doc.reserved ≡ 0) }
     ensures cause { IfErr result (λ e. (e ≡ Memory)
         ⊎ (IsLawful (unfolded_all items.now) → length (unfolded_all items.now) ≤ MAX_OPERATIONS → ⊥)) }
 {
@@ -64,7 +64,7 @@ pub(crate) fn integrate_gathered(alloc: Global, items: &[Gathered]) -> Result<Do
 // Appends the operations of an object, of which each may follow those before it, by way of a list of them.
 fn append_item(doc: &mut Doc, ops: &mut Vec<Op>, item: &Gathered) -> Result<(), Refusal>
     ensures grown { OnOk result (doc.new.log ≡ doc.old.log ++ unfolded item.now) }
-    ensures unreserved { OnOk result (doc.old.room ≡ 0 → doc.new.room ≡ 0) }
+    ensures unreserved { OnOk result (doc.old.reserved ≡ 0 → doc.new.reserved ≡ 0) }
     ensures cause { IfErr result (λ e. (e ≡ Memory) ⊎ (GoesOn doc.old.log (unfolded item.now)
         → length doc.old.log + length (unfolded item.now) ≤ MAX_OPERATIONS → ⊥)) }
 {

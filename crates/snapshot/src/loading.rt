@@ -24,7 +24,7 @@ use versions::Doc;
 /// `load_doc` and those of `Replica::over_doc`.
 pub fn load(alloc: Global, bytes: &[u8], site: Site) -> Result<Replica, Refusal>
     ensures stands { IfOk result (λ r. StandsFor bytes.now r.log) }
-    ensures opened { IfOk result (λ r. r ≡ record { site = site; log = r.log; held = []; room = 0 }) }
+    ensures opened { IfOk result (λ r. r ≡ record { site = site; log = r.log; held = []; reserved = 0 }) }
     ensures unused { IfOk result (λ r. LacksSite site r.log) }
     ensures cause { IfErr result (λ e. (e ≡ Memory) ⊎ ((e ≡ BadSnapshot) × StandsForNone bytes.now)
         ⊎ ((e ≡ SiteUsed) × HasSite site bytes.now)) }
@@ -38,8 +38,8 @@ pub fn load(alloc: Global, bytes: &[u8], site: Site) -> Result<Replica, Refusal>
 /// Refused with `SiteUsed` exactly where the log has an operation of the site, since one of that site's numbers would be given twice;
 /// and with `Memory` in the place of any answer. Takes the steps of `Replica::over_doc`.
 pub fn open_over(alloc: Global, site: Site, doc: Doc) -> Result<Replica, Refusal>
-    requires { doc.room ≡ 0 }
-    ensures opened { IfOk result (λ r. r ≡ record { site = site; log = doc.log; held = []; room = 0 }) }
+    requires { doc.reserved ≡ 0 }
+    ensures opened { IfOk result (λ r. r ≡ record { site = site; log = doc.log; held = []; reserved = 0 }) }
     ensures unused { OnOk result (LacksSite site doc.log) }
     ensures cause { IfErr result (λ e. (e ≡ Memory) ⊎ ((e ≡ SiteUsed) × (LacksSite site doc.log → ⊥))) }
 {
@@ -58,7 +58,7 @@ pub fn open_over(alloc: Global, site: Site, doc: Doc) -> Result<Replica, Refusal
 /// as a JSON value, which is in memory as a whole.
 pub fn load_doc(alloc: Global, bytes: &[u8]) -> Result<Doc, Refusal>
     ensures stands { IfOk result (λ doc. StandsFor bytes.now doc.log) }
-    ensures unreserved { IfOk result (λ doc. doc.room ≡ 0) }
+    ensures unreserved { IfOk result (λ doc. doc.reserved ≡ 0) }
     ensures cause { IfErr result (λ e. (e ≡ Memory) ⊎ ((e ≡ BadSnapshot) × StandsForNone bytes.now)) }
 {
     if let Some(doc) = read_spelled(alloc, bytes)? {
@@ -74,7 +74,7 @@ pub fn load_doc(alloc: Global, bytes: &[u8]) -> Result<Doc, Refusal>
 // As `load_doc`, with what was found wrong.
 fn read_doc(alloc: Global, bytes: &[u8]) -> Result<Doc, Refusal>
     ensures stands { IfOk result (λ doc. StandsFor bytes.now doc.log) }
-    ensures unreserved { IfOk result (λ doc. doc.room ≡ 0) }
+    ensures unreserved { IfOk result (λ doc. doc.reserved ≡ 0) }
     ensures cause { IfErr result (λ e. (e ≡ Memory) ⊎ StandsForNone bytes.now) }
 {
     let value = read_value(alloc, bytes)?;
@@ -100,7 +100,7 @@ fn integrate_all(alloc: Global, values: &[Value], runs: bool) -> Result<Doc, Ref
     ensures told { IfOk result (λ doc. ops_told runs (items_told (items_view values.now)) ≡ Ok doc.log) }
     ensures lawful { IfOk result (λ doc. IsLawful doc.log) }
     ensures few { IfOk result (λ doc. length doc.log ≤ MAX_OPERATIONS) }
-    ensures unreserved { IfOk result (λ doc. doc.room ≡ 0) }
+    ensures unreserved { IfOk result (λ doc. doc.reserved ≡ 0) }
     ensures cause { IfErr result (λ e. (e ≡ Memory)
         ⊎ ((log : List Operation) → ops_told runs (items_told (items_view values.now)) ≡ Ok log → IsLawful log
         → length log ≤ MAX_OPERATIONS → ⊥)) }
@@ -116,7 +116,7 @@ fn integrate_all(alloc: Global, values: &[Value], runs: bool) -> Result<Doc, Ref
 // Appends the operations that a value tells, of which each may follow those before it.
 fn append_value(alloc: Global, doc: &mut Doc, value: &Value, runs: bool) -> Result<(), Refusal>
     ensures grown { OnOk result ((xs : List Operation) × (value_told runs (view value.now) ≡ Ok xs) × (doc.new.log ≡ doc.old.log ++ xs)) }
-    ensures unreserved { OnOk result (doc.old.room ≡ 0 → doc.new.room ≡ 0) }
+    ensures unreserved { OnOk result (doc.old.reserved ≡ 0 → doc.new.reserved ≡ 0) }
     ensures cause { IfErr result (λ e. (e ≡ Memory) ⊎ ((xs : List Operation) → value_told runs (view value.now) ≡ Ok xs
         → GoesOn doc.old.log xs → length doc.old.log + length xs ≤ MAX_OPERATIONS → ⊥)) }
 {
@@ -135,7 +135,7 @@ fn append_value(alloc: Global, doc: &mut Doc, value: &Value, runs: bool) -> Resu
 /// first of them may then have been appended. Takes the steps of `Doc::integrate` for each, and memory as it tells.
 pub fn append_operations(doc: &mut Doc, ops: &[Op]) -> Result<(), Refusal>
     ensures grown { OnOk result (doc.new.log ≡ doc.old.log ++ ops.now) }
-    ensures unreserved { OnOk result (doc.old.room ≡ 0 → doc.new.room ≡ 0) }
+    ensures unreserved { OnOk result (doc.old.reserved ≡ 0 → doc.new.reserved ≡ 0) }
     ensures cause { IfErr result (λ e. (e ≡ Memory)
         ⊎ (GoesOn doc.old.log ops.now → length doc.old.log + length ops.now ≤ MAX_OPERATIONS → ⊥)) }
 {
@@ -147,7 +147,7 @@ pub fn append_operations(doc: &mut Doc, ops: &[Op]) -> Result<(), Refusal>
 
 // Appends an operation that may follow the log.
 fn append(doc: &mut Doc, op: &Op) -> Result<(), Refusal>
-    ensures grown { OnOk result (doc.new ≡ record { log = doc.old.log ++ op.now ∷ []; room = doc.old.room - 1 }) }
+    ensures grown { OnOk result (doc.new ≡ record { log = doc.old.log ++ op.now ∷ []; reserved = doc.old.reserved - 1 }) }
     ensures cause { IfErr result (λ e. (e ≡ Memory) ⊎ (MayFollow doc.old.log op.now → length doc.old.log < MAX_OPERATIONS → ⊥)) }
 {
     let site = op.site();

@@ -21,7 +21,7 @@ use versions::{Doc, MAX_OPERATIONS};
 /// `Memory`.
 pub(crate) fn read_spelled(alloc: Global, bytes: &[u8]) -> Result<Option<Doc>, Refusal>
     ensures stands { IfOk result (λ r. IfSome r (λ doc. StandsFor bytes.now doc.log)) }
-    ensures unreserved { IfOk result (λ r. IfSome r (λ doc. doc.room ≡ 0)) }
+    ensures unreserved { IfOk result (λ r. IfSome r (λ doc. doc.reserved ≡ 0)) }
     ensures cause { IfErr result (λ e. (e ≡ Memory) ⊎ ((e ≡ BadSnapshot) × StandsForNone bytes.now)) }
 {
     if !begins_as_log(bytes) {

@@ -5,4 +5,4 @@ use Rattle.opid.specs.Operations.{Operation}
 -- the log, and how many further operations have their memory already
 pub record Document : Type 0 where
   pub log : List Operation
-  pub room : ℕ
+  pub reserved : ℕ

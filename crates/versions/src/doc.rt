@@ -9,14 +9,14 @@ ghost use Rattle.opid.specs.Reading.{visible_at, visible_in_at, reading, reading
 ghost use Rattle.opid.specs.Lawful.{IsLawful, IsRisingAt};
 ghost use Rattle.opid.specs.Splice.{apply};
 ghost use Rattle.opid.specs.Edits.{edit_after, edits, edit_after_in, edits_in};
-ghost use Rattle.causal_clock.specs.Kinds.{IsOperation};
-ghost use Rattle.versions.specs.Causes.{refusal_of};
-ghost use Rattle.versions.specs.Sums.{last_sum};
+ghost use Rattle.opid.specs.Kinds.{IsOperation};
+ghost use Rattle.opid.specs.Rising.{refusal_of};
+ghost use Rattle.opid.specs.Rising.{last_sum};
 
 use crate::integrate::{integrate, look_up};
 use crate::kept_edit::KeptEdit;
 use crate::read_op::read_op;
-use crate::reserved::{make_room, reserve_each};
+use crate::reserved::{reserve_each, reserve_next};
 use crate::text::text_in;
 use causal_clock::{Clock, Op, OpLog, Replay};
 use characters::Characters;
@@ -37,7 +37,7 @@ pub struct Doc {
     clock: Clock,
     sums: [u32; SITES],
     list: Rga,
-    room: usize,
+    reserved: usize,
     alloc: Global,
 }
 
@@ -49,16 +49,16 @@ impl Model for Doc {
 
     ghost use Rattle.versions.specs.Internal.Kept.{IsDocument, AreReserved};
 
-    ghost view = { λ d. record { log = d.log.ops; room = d.room } };
+    ghost view = { λ d. record { log = d.log.ops; reserved = d.reserved } };
 
     ghost invariant = { λ d. IsDocument d.log.ops d.edits.items d.tree d.clock d.sums d.list.entries
-        × AreReserved d.log.room (vec_len d.edits) (vec_capacity d.edits) d.tree d.list.room d.room };
+        × AreReserved d.log.reserved (vec_len d.edits) (vec_capacity d.edits) d.tree d.list.reserved d.reserved };
 }
 
 impl Doc {
     /// The document of no operations. Constant time; takes no memory.
     pub fn new(alloc: Global) -> Doc
-        ensures { result ≡ record { log = []; room = 0 } }
+        ensures { result ≡ record { log = []; reserved = 0 } }
     {
         Doc {
             log: OpLog::new(alloc),
@@ -67,7 +67,7 @@ impl Doc {
             clock: Clock::zero(),
             sums: [0; SITES],
             list: Rga::new(alloc),
-            room: 0,
+            reserved: 0,
             alloc,
         }
     }
@@ -146,11 +146,11 @@ impl Doc {
     /// an insertion by any of 32 sites. Constant time; nothing grows where so many are reserved already. Refused with `Memory`, only
     /// where fewer are.
     pub fn reserve(&mut self, n: usize) -> Result<(), Refusal>
-        ensures ok { OnOk result (self.new ≡ record self.old { room = max self.old.room n }) }
+        ensures ok { OnOk result (self.new ≡ record self.old { reserved = max self.old.reserved n }) }
         ensures err { OnErr result (self.new ≡ self.old) }
-        ensures memory { IfErr result (λ e. (e ≡ Memory) × (self.old.room < n)) }
+        ensures memory { IfErr result (λ e. (e ≡ Memory) × (self.old.reserved < n)) }
     {
-        if self.room < n {
+        if self.reserved < n {
             reserve_each(
                 &mut self.log,
                 &mut self.edits,
@@ -158,7 +158,7 @@ impl Doc {
                 &mut self.list,
                 n,
             )?;
-            self.room = n;
+            self.reserved = n;
         }
         Ok(())
     }
@@ -172,7 +172,7 @@ impl Doc {
     pub fn integrate(&mut self, op: &Op) -> Result<Edit, Refusal>
         requires ready { is_ready self.old.log op.now ≡ true }
         requires rising { IsRisingAt self.old.log op.now }
-        ensures grown { OnOk result (self.new ≡ record { log = self.old.log ++ op.now ∷ []; room = self.old.room - 1 }) }
+        ensures grown { OnOk result (self.new ≡ record { log = self.old.log ++ op.now ∷ []; reserved = self.old.reserved - 1 }) }
         ensures edit { IfOk result (λ edit. edit ≡ edit_after self.old.log op.now) }
 
         // The edit leads from what was read before to what is read then.
@@ -181,16 +181,16 @@ impl Doc {
         // Each cause, and only then; on a refusal the document is as before.
         ensures ok { OnOk result (refusal_of self.old.log op.now ≡ None) }
         ensures cause { IfErr result (λ e. (refusal_of self.old.log op.now ≡ Some e)
-            ⊎ ((refusal_of self.old.log op.now ≡ None) × (e ≡ Memory) × (self.old.room ≡ 0))) }
+            ⊎ ((refusal_of self.old.log op.now ≡ None) × (e ≡ Memory) × (self.old.reserved ≡ 0))) }
         ensures err { OnErr result (self.new ≡ self.old) }
     {
         let found = look_up(&self.log, &self.list, op)?;
-        make_room(
+        reserve_next(
             &mut self.log,
             &mut self.edits,
             &mut self.tree,
             &mut self.list,
-            self.room,
+            self.reserved,
         )?;
         let mut steps = Steps::new();
         let edit = integrate(
@@ -204,7 +204,7 @@ impl Doc {
             found,
             &mut steps,
         );
-        self.room = self.room.saturating_sub(1);
+        self.reserved = self.reserved.saturating_sub(1);
         Ok(edit)
     }
 

@@ -7,8 +7,8 @@ use Rattle.json.specs.Lex.{tokens}
 use Rattle.opid.specs.declared.refusal.Refusal.{Refusal}
 use Rattle.json.specs.Token.{Token, begin_object, end_object, key}
 use Rattle.serde_json.specs.Data.{Data, object, string, number, unsigned, no_members}
-use Rattle.room_calls.specs.declared.call.Call.{Call}
-use Rattle.room_calls.specs.declared.call.Call.TheVariants.{Ins, Del, Pull, Ops, Read, Join, Leave}
+use Rattle.room_model.specs.declared.call.Call.{Call}
+use Rattle.room_model.specs.declared.call.Call.TheVariants.{Ins, Del, Pull, Ops, Read, Join, Leave}
 use Rattle.json_bytes.specs.Internal.Coming.{value_of_tokens, put_entries}
 use Rattle.json_bytes.specs.Plain.{Comes}
 use Rattle.wire_json.specs.Internal.Handed.{ReadsField, ReadsPlace, ReadsRest, ReadsKind, ReadsCall, AsksFor}

@@ -5,7 +5,7 @@ use Rattle.json.specs.Token.{Token, begin_object, end_object, begin_array, end_a
 use Rattle.serde_json.specs.Data.{Data, array, object, string, no_members}
 use Rattle.opid.specs.declared.refusal.Refusal.{Refusal}
 use Rattle.opid.specs.Operations.{Operation}
-use Rattle.room_calls.specs.declared.call.Call.TheVariants.{Put}
+use Rattle.room_model.specs.declared.call.Call.TheVariants.{Put}
 use Rattle.operation_json.specs.Members.{◌>>=◌}
 use Rattle.wire_json.specs.Request.{call_in, unless_too_many}
 use Rattle.operation_json.specs.Packing.{typed_behind}

@@ -4,7 +4,7 @@ use Rattle.std.specs.Prelude.{encode_utf8_all}
 use Rattle.std.specs.List.{AllByRecursion}
 use Rattle.json.proofs.Printed.Utf8.{IsUtf8-are_ascii, IsUtf8-quoted}
 use Rattle.opid.specs.Operations.{Operation}
-use Rattle.room_calls.specs.declared.reply.Reply.TheVariants.{Ops, Edits, Put, Ok}
+use Rattle.room_model.specs.declared.reply.Reply.TheVariants.{Ops, Edits, Put, Ok}
 use Rattle.operation_json.specs.Text.{IsOperationInRange, packed_text, in_brackets}
 use Rattle.json_bytes.specs.Quote.{quote}
 use Rattle.wire_json.specs.Text.{text, edit_text, outcome_text, IsEditInRange, IsOutcomeInRange}
@@ -12,8 +12,8 @@ use Rattle.operation_json.proofs.PackedUtf8.{all_texts, listed_texts, number_tex
 use Rattle.opid.specs.declared.edit.Edit as edit
 use Rattle.opid.specs.declared.edit.Edit.TheVariants.{Ins, Del, DelUnits, Nop}
 use Rattle.opid.specs.Refusals.{number_of}
-use Rattle.room_calls.specs.declared.outcome.Outcome as outcome
-use Rattle.room_calls.specs.declared.outcome.Outcome.TheVariants as outcomes
+use Rattle.room_model.specs.declared.outcome.Outcome as outcome
+use Rattle.room_model.specs.declared.outcome.Outcome.TheVariants as outcomes
 use Rattle.wire_json.proofs.Texts.{number_small}
 
 pub ops_utf8 : (n : ℕ) (ops : List Operation) → n < 2 ^ 32 → AllByRecursion IsOperationInRange ops → IsUtf8 (text (Ops n ops))

@@ -5,10 +5,10 @@ use Rattle.std.specs.List.{AllByRecursion}
 use Rattle.opid.specs.Refusals.{number_of}
 use Rattle.opid.specs.declared.edit.Edit as edit
 use Rattle.opid.specs.declared.edit.Edit.TheVariants.{Ins, Del, DelUnits, Nop}
-use Rattle.room_calls.specs.declared.outcome.Outcome as outcome
-use Rattle.room_calls.specs.declared.outcome.Outcome.TheVariants as outcomes
-use Rattle.room_calls.specs.declared.reply.Reply as reply
-use Rattle.room_calls.specs.declared.reply.Reply.TheVariants.{Joined, Ok, Edits, Left, Ops, Put, Text, No}
+use Rattle.room_model.specs.declared.outcome.Outcome as outcome
+use Rattle.room_model.specs.declared.outcome.Outcome.TheVariants as outcomes
+use Rattle.room_model.specs.declared.reply.Reply as reply
+use Rattle.room_model.specs.declared.reply.Reply.TheVariants.{Joined, Ok, Edits, Left, Ops, Put, Text, No}
 use Rattle.operation_json.specs.Text.{IsOperationInRange, in_brackets, packed_text}
 use Rattle.json_bytes.specs.Quote.{quote}
 

@@ -12,7 +12,7 @@ use arrayvec::ArrayString;
 use json_bytes::{MAX_TEXT, PlainReader};
 use operation_json::is_closed;
 use opid::Refusal;
-use room_calls::{Call, Characters};
+use room_model::{Call, Characters};
 use std::alloc::Global;
 
 /// Whether bytes may be read so, by the first of them, since what gives up later is begun twice: `{"t":`, with a blank behind it or

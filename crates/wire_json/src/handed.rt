@@ -1,7 +1,7 @@
 //! What a `put` hands over read byte by byte, with no tree, where its operations are spelled as servers spell them.
 ghost use Rattle.std.specs.Prelude.{◌≡◌, ◌≤◌, codes, length, IfOk, IfErr, IfSome};
 ghost use Rattle.opid.specs.declared.refusal.Refusal.TheVariants.{Memory};
-ghost use Rattle.room_calls.specs.declared.call.Call.TheVariants.{Put};
+ghost use Rattle.room_model.specs.declared.call.Call.TheVariants.{Put};
 ghost use Rattle.wire_json.specs.Request.{unless_too_many};
 ghost use Rattle.wire_json.specs.Internal.Handed.{ReadsOps, ReadsRest};
 
@@ -10,7 +10,7 @@ use causal_clock::Op;
 use json_bytes::{MAX_TEXT, PlainReader};
 use operation_json::{behind_first, is_closed, rest_of_item, unfold_run};
 use opid::{MAX_COUNT, MAX_REQUEST_BYTES, Refusal};
-use room_calls::{Call, Operations};
+use room_model::{Call, Operations};
 use std::alloc::Global;
 
 // What a `put` has behind its kind: operation objects and run objects, each spelled as `rest_of_item` reads it. The call has none

@@ -3,8 +3,8 @@ ghost use Rattle.std.specs.Prelude.{◌≡◌, ◌≤◌, ℕ, option_map, optio
 ghost use Rattle.serde_json.specs.Find.{get, as_array};
 ghost use Rattle.serde_json.specs.Read.{read};
 ghost use Rattle.opid.specs.Operations.{Operation};
-ghost use Rattle.room_calls.specs.declared.reply.Reply.{Reply};
-ghost use Rattle.room_calls.specs.declared.reply.Reply.TheVariants.{Ops};
+ghost use Rattle.room_model.specs.declared.reply.Reply.{Reply};
+ghost use Rattle.room_model.specs.declared.reply.Reply.TheVariants.{Ops};
 ghost use Rattle.operation_json.specs.Operations.{items_told};
 ghost use Rattle.operation_json.specs.PackedOperations.{packed_ops_of, handed_over};
 ghost use Rattle.wire_json.specs.Text.{IsInRange, text};

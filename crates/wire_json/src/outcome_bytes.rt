@@ -3,7 +3,7 @@ ghost use Rattle.std.specs.Prelude.{◌≡◌, ◌++◌, OnOk};
 ghost use Rattle.wire_json.specs.Text.{IsOutcomeInRange, outcome_text};
 
 use json_bytes::{put, put_all, put_number};
-use room_calls::Outcome;
+use room_model::Outcome;
 use std::alloc::AllocError;
 
 // Room for the text of any outcome: `["took",`, two numbers of at most 20 digits, a comma and a bracket take 50 bytes.

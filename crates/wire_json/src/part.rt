@@ -8,7 +8,7 @@ use crate::spelled_part::read_spelled_part;
 use causal_clock::Op;
 use operation_json::{check_keys, read_items, read_list, read_number, read_text, read_value};
 use opid::{MAX_COUNT, Refusal};
-use room_calls::Operations;
+use room_model::Operations;
 use serde_json::Value;
 use std::alloc::Global;
 

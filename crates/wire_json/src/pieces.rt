@@ -2,7 +2,7 @@
 //! bound is put from its end into a few bytes first, so that one copy appends it.
 ghost use Rattle.std.specs.Prelude.{◌≡◌, ◌++◌, map, IfOk, OnOk, string_bytes};
 ghost use Rattle.std.specs.List.{AllByRecursion};
-ghost use Rattle.room_calls.specs.declared.reply.Reply.TheVariants as replies;
+ghost use Rattle.room_model.specs.declared.reply.Reply.TheVariants as replies;
 ghost use Rattle.wire_json.specs.Text.{IsEditInRange, IsOutcomeInRange, edit_text, outcome_text, text};
 ghost use Rattle.operation_json.specs.Text.{IsOperationInRange, in_brackets, more};
 
@@ -12,7 +12,7 @@ use causal_clock::Op;
 use json_bytes::{put, put_all, put_number, text_of_bytes};
 use operation_json::push_packed;
 use opid::Edit;
-use room_calls::Outcome;
+use room_model::Outcome;
 use std::alloc::{AllocError, Global};
 
 // Room for the text of an `ok`: its two numbers have at most 20 digits, and the rest takes 24 bytes.

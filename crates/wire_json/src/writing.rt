@@ -9,7 +9,7 @@ use crate::pieces::{edits_text, ok_text, ops_text, put_text};
 use crate::tokens::{append_number, append_text, text_of, writer};
 use json::Writer;
 use opid::Refusal;
-use room_calls::Reply;
+use room_model::Reply;
 use std::alloc::{AllocError, Global};
 
 /// The one text of a reply: a compact JSON object, its keys in the order of their bytes, with no line feed. Operations are

@@ -1,8 +1,8 @@
 -- The answer to a message that asks a call is what the desk did, behind the gate.
 use Rattle.std.proofs.Common.{◌≡◌, ℕ, List, Result, Ok, Err, MatchResult}
-use Rattle.room_calls.specs.declared.call.Call.{Call}
-use Rattle.room_calls.specs.declared.reply.Reply.{Reply}
-use Rattle.room.specs.declared.desk.DeskFault.{DeskFault}
+use Rattle.room_model.specs.declared.call.Call.{Call}
+use Rattle.room_model.specs.declared.reply.Reply.{Reply}
+use Rattle.room_model.specs.declared.desk_fault.DeskFault.{DeskFault}
 use Rattle.wire_json.specs.Request.{request}
 use Rattle.wire_json.specs.Text.{text as text_of}
 use Rattle.line_engine.specs.AnsweredRequests.{AnswersRequest, reply_of}

@@ -1,8 +1,8 @@
 -- Replicas that become rooms one after another, and rooms over empty logs.
 use Rattle.std.proofs.Common.{◌≡◌, ℕ, zero, suc, ◌+◌, List, [], ◌∷◌, length, map, drop, replicate, Some, slice_get, refl, ap, sym, ◌∙◌}
 use Rattle.std.proofs.Common.{arith}
-use Rattle.replica.specs.Deliver.{ReplicaState}
-use Rattle.room.specs.Machine.{room_over, empty_room}
+use Rattle.opid.specs.Delivered.{ReplicaState}
+use Rattle.room_model.specs.Machine.{room_over, empty_room}
 
 -- what is left from a place on has the item at that place, and then those behind it
 pub left_after : {A : Type 0} (xs : List A) (at : ℕ) (x : A) (rest : List A) → drop at xs ≡ x ∷ rest
@@ -17,7 +17,7 @@ left_after {A} (y ∷ ys) (suc at) x rest e =
 
 -- the replica of a site that has no operation yet
 abbrev pub empty_replica : ℕ → ReplicaState
-empty_replica site = record { site = site; log = []; held = []; room = 0 }
+empty_replica site = record { site = site; log = []; held = []; reserved = 0 }
 
 over_empty : {A : Type 0} (site : ℕ) (asked : List A)
     → map (λ (r : ReplicaState). room_over r.site r.log) (replicate (length asked) (empty_replica site))

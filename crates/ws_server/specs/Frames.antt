@@ -3,7 +3,7 @@ use Rattle.std.specs.Prelude.{◌≡◌, ◌⊎◌, ℕ, ◌≤◌, List, length
 use Rattle.opid.specs.declared.limits.TheConstants.{MAX_REQUEST_BYTES}
 use Rattle.opid.specs.declared.refusal.Refusal.{Refusal}
 use Rattle.opid.specs.declared.refusal.Refusal.TheVariants as Why
-use Rattle.room_calls.specs.declared.reply.Reply.TheVariants.{No}
+use Rattle.room_model.specs.declared.reply.Reply.TheVariants.{No}
 use Rattle.wire_json.specs.Request as requests
 use Rattle.wire_json.specs.Text.{text}
 use Rattle.shared_room.specs.declared.pass.Pass.{Pass}

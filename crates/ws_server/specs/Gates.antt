@@ -1,9 +1,9 @@
 -- The gate before a connection's calls, and the count of its calls. What is told before a call is told with the desk as it is then,
 -- which a call changes. The rules are the server's own.
 use Rattle.std.specs.Prelude.{◌≡◌, ℕ, ◌+◌, ◌-◌, ◌^◌, min, Option, None, Some}
-use Rattle.room_calls.specs.declared.call.Call.{Call}
-use Rattle.room_calls.specs.declared.reply.Reply.{Reply}
-use Rattle.room.specs.declared.desk.DeskFault.{DeskFault}
+use Rattle.room_model.specs.declared.call.Call.{Call}
+use Rattle.room_model.specs.declared.reply.Reply.{Reply}
+use Rattle.room_model.specs.declared.desk_fault.DeskFault.{DeskFault}
 
 -- the number of a connection's call after so many, counted from 1; it stays at 2^64 - 1 once it is there
 abbrev pub next_call : ℕ → ℕ

@@ -1,7 +1,7 @@
 -- What the public contracts say of a hall and of the passes of its rooms, which are the server's own.
 use Rattle.std.specs.Prelude.{◌≡◌, ◌<◌, ◌^◌, ℕ, zero, suc, length, IfSome, List, [], ◌∷◌, Option, map, bytes_eq, string_bytes}
-use Rattle.replica.specs.Deliver.{ReplicaState}
-use Rattle.room.specs.Machine.{empty_room, room_over}
+use Rattle.opid.specs.Delivered.{ReplicaState}
+use Rattle.room_model.specs.Machine.{empty_room, room_over}
 use Rattle.indexmap.specs.IndexMap.{index_of_by}
 use Rattle.shared_room.specs.declared.pass.Pass.{Pass}
 use Rattle.shared_room.specs.declared.shared.SharedRoom.{SharedRoom}

@@ -7,7 +7,7 @@ use Rattle.opid.specs.declared.kind.OpKind.TheVariants.{Del}
 use Rattle.opid.specs.Operations.{Operation}
 use Rattle.opid.specs.Delivery.{clock_of, count_of}
 use Rattle.causal_clock.specs.declared.row.Row.{Row}
-use Rattle.causal_clock.specs.Kinds.{IsOperation}
+use Rattle.opid.specs.Kinds.{IsOperation}
 use Rattle.causal_clock.specs.Stored.{changes, latest, stored}
 
 -- a kind, a row and an operation for places past the end
@@ -128,8 +128,8 @@ pub record IsPacked (entries marks : List (ℕ × ℕ)) (rows : List Row) (ops :
 
 -- memory for so many operations more, each with up to 32 entries, and for each eight of a site, those since its last mark included,
 -- a mark with as many
-pub record AreReserved (rows_len rows_capacity entries_len entries_capacity marks_len marks_capacity since room : ℕ) : Type 0 where
-  pub rows : rows_len + room ≤ rows_capacity
-  pub entries : entries_len + 32 * room ≤ entries_capacity
-  pub marks : marks_len + 4 * (since + room) ≤ marks_capacity
-  pub few : rows_len + room ≤ 67108864
+pub record AreReserved (rows_len rows_capacity entries_len entries_capacity marks_len marks_capacity since reserved : ℕ) : Type 0 where
+  pub rows : rows_len + reserved ≤ rows_capacity
+  pub entries : entries_len + 32 * reserved ≤ entries_capacity
+  pub marks : marks_len + 4 * (since + reserved) ≤ marks_capacity
+  pub few : rows_len + reserved ≤ 67108864

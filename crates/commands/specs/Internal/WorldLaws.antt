@@ -1,8 +1,8 @@
 -- That a line above a script's limit is refused.
 use Rattle.std.proofs.Common.{ℕ, ◌<◌, List, length, Err, refl, inl}
 use Rattle.opid.specs.declared.refusal.Refusal.TheVariants.{TooLong}
-use Rattle.room.specs.History.{Account}
-use Rattle.room_calls.specs.declared.reply.Reply.TheVariants.{No}
+use Rattle.room_model.specs.History.{Account}
+use Rattle.room_model.specs.declared.reply.Reply.TheVariants.{No}
 use Rattle.wire_json.specs.Text.{text}
 use Rattle.commands.specs.Worlds.{AnswersLine}
 

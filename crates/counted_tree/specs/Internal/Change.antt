@@ -15,11 +15,11 @@ tree_in store link = linked (trees store.nodes) link
 pub record Adds (old new : Store) (most : ℕ) : Type 0 where
   pub longer : length old.nodes ≤ length new.nodes
   pub at_most : length new.nodes ≤ length old.nodes + most
-  pub reserve : length new.nodes + new.node_room ≡ length old.nodes + old.node_room
+  pub reserve : length new.nodes + new.reserved_nodes ≡ length old.nodes + old.reserved_nodes
   pub sound : AreSound new.nodes
   pub stays : (i : ℕ) → i < length old.nodes → slice_get new.nodes i ≡ slice_get old.nodes i
   pub keys_and_widths : new.keys_and_widths ≡ old.keys_and_widths
-  pub key_and_width_room : new.key_and_width_room ≡ old.key_and_width_room
+  pub reserved_keys_and_widths : new.reserved_keys_and_widths ≡ old.reserved_keys_and_widths
   pub same : (link : Option ℕ) → IsLinkBelow (length old.nodes) link → tree_in new link ≡ tree_in old link
 
 -- neither number is more than `by` above the other

@@ -17,9 +17,9 @@ use Rattle.counted_tree.specs.Internal.Settled.{grown_link, IsTold}
 use Rattle.counted_tree.specs.Internal.Along.{entry_at, inserted_at, turned, under}
 use Rattle.counted_tree.specs.Internal.Table.{AreOwn, IsKept, HasRow, PointsTo, Hangs}
 
--- the tree can have the entry: the table has what is in the tree, and there is room for so many nodes
+-- the tree can have the entry: the table has what is in the tree, and so many nodes are reserved
 pub record IsFit (most : ℕ) (table : List Row) (t : Tree) (path : List Side) (x : Entry) : Type 0 where
-  pub room : height t + 6 ≤ most
+  pub reserved : height t + 6 ≤ most
   pub few : length (entries t) < MAX_ELEMENTS
   pub own : AreOwn (length table) (inserted_at t path x)
   pub kept : IsKept table t
@@ -39,7 +39,7 @@ pub record IsLift (a b : Store) (old new : List Row) (top : ℕ) (side : Side) (
     : Type 0 where
   pub sound : AreSound a.nodes
   pub below : top < length a.nodes
-  pub fit : IsFit a.node_room old (tree_in a (Some top)) (side ∷ path) x
+  pub fit : IsFit a.reserved_nodes old (tree_in a (Some top)) (side ∷ path) x
   pub side_made : IsInserted a b old new (turned (tree_in a (Some top)) side) path x made
 
 -- the numbers are those of the nodes on the way down a tree
@@ -53,5 +53,5 @@ pub record IsRisen (a b : Store) (old new : List Row) (t : Tree) (path : List Si
   pub sound : AreSound a.nodes
   pub along : AreAlong a t path numbers
   pub there : IsSome (entry_at t path)
-  pub fit : IsFit a.node_room old t path x
+  pub fit : IsFit a.reserved_nodes old t path x
   pub part_made : IsInserted a b old new (under t (take steps path)) (drop steps path) x made

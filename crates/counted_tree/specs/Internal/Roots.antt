@@ -30,12 +30,12 @@ lists_of ns roots = [] ∷ map (rooted ns) roots
 
 -- the nodes are sound, each root names one and tells how much it shows, no version has more entries than its number, and the
 -- reserve has the nodes for each version
-pub record AreVersions (store : Store) (roots : List Root) (room : ℕ) : Type 0 where
+pub record AreVersions (store : Store) (roots : List Root) (more : ℕ) : Type 0 where
   pub sound : AreSound store.nodes
   pub links : (i : ℕ) → i < length roots → IsLinkBelow (length store.nodes) (slice_index_or roots i no_root).link
   pub shows : (i : ℕ) → i < length roots
       → IsSizeOf (slice_index_or roots i no_root).size (rooted store.nodes (slice_index_or roots i no_root))
   pub lengths : (i : ℕ) → i < length roots → length (rooted store.nodes (slice_index_or roots i no_root)) ≤ i + 1
   pub few_nodes : length store.nodes ≤ 31 * length roots
-  pub reserved : 31 * room ≤ store.node_room
-  pub limit : length roots + room ≤ MAX_ELEMENTS
+  pub reserved : 31 * more ≤ store.reserved_nodes
+  pub limit : length roots + more ≤ MAX_ELEMENTS

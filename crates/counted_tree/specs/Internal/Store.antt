@@ -7,14 +7,14 @@ use Rattle.counted_tree.specs.Internal.PackedNode.{elem_of, node_of}
 -- the nodes and how many more are reserved, the number that each element's key and width are kept as, and how many more of these
 pub record Store : Type 0 where
   pub nodes : List Node
-  pub node_room : ℕ
+  pub reserved_nodes : ℕ
   pub keys_and_widths : List ℕ
-  pub key_and_width_room : ℕ
+  pub reserved_keys_and_widths : ℕ
 
 -- the same with what is kept of one more element
 abbrev pub with_element : Store → ℕ → Store
 with_element a key_and_width =
-    record a { keys_and_widths = a.keys_and_widths ++ key_and_width ∷ []; key_and_width_room = a.key_and_width_room - 1 }
+    record a { keys_and_widths = a.keys_and_widths ++ key_and_width ∷ []; reserved_keys_and_widths = a.reserved_keys_and_widths - 1 }
 
 -- the nodes that are kept so, with the keys and widths of their elements
 abbrev pub nodes_of : List ℕ → List PackedNode → List Node

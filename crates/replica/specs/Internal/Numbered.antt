@@ -6,12 +6,12 @@ use Rattle.opid.specs.Lawful.{IsLawful}
 -- the places of one site's operations, and for how many more there is memory
 pub record PlacesOfOne : Type 0 where
   pub places : List ℕ
-  pub room : ℕ
+  pub reserved : ℕ
 
 -- of each site the places of its operations in rising order, and for how many more there is memory
 pub record AllPlaces : Type 0 where
   pub rows : List (List ℕ)
-  pub room : ℕ
+  pub reserved : ℕ
 
 -- the places that are kept of a site
 abbrev pub places_at : List (List ℕ) → ℕ → List ℕ
@@ -32,7 +32,7 @@ pub record AreNumbered (log : List Operation) (rows : List (List ℕ)) : Type 0 
   pub each : (site : ℕ) → site < 32 → places_at rows site ≡ places_of site log
 
 -- a lawful log, the places of each site's operations in it, and as much memory for these as for the log
-pub record IsLog (log : List Operation) (rows : List (List ℕ)) (log_room rows_room : ℕ) : Type 0 where
+pub record IsLog (log : List Operation) (rows : List (List ℕ)) (log_reserved rows_reserved : ℕ) : Type 0 where
   pub lawful : IsLawful log
   pub numbered : AreNumbered log rows
-  pub reserved : log_room ≤ rows_room
+  pub reserved : log_reserved ≤ rows_reserved

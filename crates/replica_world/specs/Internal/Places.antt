@@ -1,8 +1,8 @@
 -- Where a site's room stands among the rooms of a world.
 use Rattle.std.specs.Prelude.{◌≡◌, ◌<◌, slice_set, ℕ}
 use Rattle.std.specs.Prelude.{List, length, slice_get}
-use Rattle.room.specs.History.{Account}
-use Rattle.replica_world.specs.World.{room_of, with_room}
+use Rattle.room_model.specs.History.{Account}
+use Rattle.room_model.specs.World.{room_of, with_room}
 
 -- the site's room is the first of its site, and stands at this place
 pub record IsPlaceOf (site : ℕ) (world : List Account) (place : ℕ) : Type 0 where

@@ -63,7 +63,7 @@ AreApart nodes = (i j : ℕ) → i < length nodes → j < length nodes → (node
 
 -- the row of a site
 abbrev pub ids_at : List SiteIds → ℕ → SiteIds
-ids_at rows site = slice_index_or rows site (record { ids = []; room = 0 })
+ids_at rows site = slice_index_or rows site (record { ids = []; reserved = 0 })
 
 -- the place that the rows name for a stamp
 abbrev pub named : List SiteIds → Stamp → Option ℕ
@@ -76,9 +76,9 @@ pub record AreNamed (nodes : List Node) (rows : List SiteIds) : Type 0 where
   pub only : (s : Stamp) (i : ℕ) → named rows s ≡ Some i → (i < length nodes) × ((node_at nodes i).stamp ≡ s)
 
 -- the memory that is reserved is there: in the vector of elements, and in each row
-pub record AreReserved (nodes capacity : ℕ) (rows : List SiteIds) (room : ℕ) : Type 0 where
-  pub elements : nodes + room ≤ capacity
-  pub ids : (site : ℕ) → site < 32 → room ≤ (ids_at rows site).room
+pub record AreReserved (nodes capacity : ℕ) (rows : List SiteIds) (reserved : ℕ) : Type 0 where
+  pub elements : nodes + reserved ≤ capacity
+  pub ids : (site : ℕ) → site < 32 → reserved ≤ (ids_at rows site).reserved
 
 -- what holds of every list
 pub record IsList (nodes : List Node) (first : Option ℕ) (rows : List SiteIds) : Type 0 where

@@ -5,7 +5,7 @@ use Rattle.std.specs.List.{AllByRecursion}
 -- the identifiers of a site, and how many more have their memory already
 pub record SiteIds : Type 0 where
   pub ids : List (ℕ × ℕ)
-  pub room : ℕ
+  pub reserved : ℕ
 
 -- the element that the sum names
 abbrev pub find_id : ℕ → List (ℕ × ℕ) → Option ℕ

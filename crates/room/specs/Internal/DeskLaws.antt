@@ -5,12 +5,12 @@ use Rattle.std.specs.Prelude.{if◌then◌else◌}
 use Rattle.std.proofs.lemmas.Bool.Decides.{nat_tests}
 use Rattle.opid.specs.declared.limits.TheConstants.{MAX_CALLS, MAX_OPERATIONS}
 use mathlib.Core.List.{IsPrefix}
-use Rattle.room_calls.specs.declared.call.Call.{Call}
-use Rattle.room_calls.specs.declared.reply.Reply.{Reply}
-use Rattle.room.specs.declared.desk.DeskFault.{DeskFault}
-use Rattle.room.specs.Machine.{State, answer}
-use Rattle.room.specs.History.{Account, state_of, mark, AreRisingFrom, StepsRoom, FaultsRoom}
-use Rattle.room.specs.Desks.{IsSight, IsAnswered, IsPassedOver, sight_of}
+use Rattle.room_model.specs.declared.call.Call.{Call}
+use Rattle.room_model.specs.declared.reply.Reply.{Reply}
+use Rattle.room_model.specs.declared.desk_fault.DeskFault.{DeskFault}
+use Rattle.room_model.specs.Machine.{State, answer}
+use Rattle.room_model.specs.History.{Account, state_of, mark, AreRisingFrom, StepsRoom, FaultsRoom}
+use Rattle.room_model.specs.Desks.{IsSight, IsAnswered, IsPassedOver, sight_of}
 
 -- tickets rise, so one ticket is at one place
 at_least : (t : ℕ) (h : List (ℕ × Call)) (i : ℕ) (e : ℕ × Call) → AreRisingFrom t h → slice_get h i ≡ Some e → t ≤ e.0

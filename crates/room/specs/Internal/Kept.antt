@@ -2,9 +2,9 @@
 use Rattle.std.specs.Prelude.{◌≡◌, ◌<◌, ◌≤◌, ℕ, List, length, take}
 use Rattle.opid.specs.declared.limits.TheConstants.{MAX_CALLS, MAX_OPERATIONS}
 use Rattle.opid.specs.Lawful.{IsLawful}
-use Rattle.room_calls.specs.declared.call.Call.{Call}
-use Rattle.room.specs.Machine.{State, room_over}
-use Rattle.room.specs.History.{state_of, mark, AreRisingFrom}
+use Rattle.room_model.specs.declared.call.Call.{Call}
+use Rattle.room_model.specs.Machine.{State, room_over}
+use Rattle.room_model.specs.History.{state_of, mark, AreRisingFrom}
 
 -- the state that a room was opened with, whose log is the beginning of its log of this length
 abbrev pub opening_of : ℕ → State → State

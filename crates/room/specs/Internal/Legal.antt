@@ -2,8 +2,8 @@
 use Rattle.std.specs.Prelude.{◌≡◌, ℕ, ◌+◌, ◌^◌, ◌<◌, ◌≤◌, List, [], ◌∷◌}
 use mathlib.Core.Path.{ap}
 use Rattle.std.specs.Coded.{×_prop, Unit-prop, le_prop}
-use Rattle.room_calls.specs.declared.call.Call.{Call}
-use Rattle.room.specs.History.{AreRisingFrom}
+use Rattle.room_model.specs.declared.call.Call.{Call}
+use Rattle.room_model.specs.History.{AreRisingFrom}
 
 -- there is one proof that a number is at most another
 at_most-prop : (a b : ℕ) → IsProp (a ≤ b)

@@ -6,17 +6,17 @@ use Rattle.opid.specs.declared.refusal.Refusal.{Refusal}
 use Rattle.opid.specs.declared.refusal.Refusal.TheVariants.{Memory}
 use Rattle.opid.specs.Limits.{is_bad_count}
 use Rattle.opid.specs.Operations.{Operation}
-use Rattle.replica.specs.Part.{part_of}
-use Rattle.replica.specs.Deliver.{ReplicaState}
-use Rattle.room_calls.specs.declared.outcome.Outcome.{Outcome}
-use Rattle.room.specs.Deliveries.{hand_over}
-use Rattle.session_outbox.specs.declared.submission.Submission.TheVariants.{New, Repeat}
-use Rattle.session_outbox.specs.Sessions.{Outbox, after_accept}
-use Rattle.room_calls.specs.declared.call.Call.{Call}
-use Rattle.room_calls.specs.declared.call.Call.TheVariants.{Join, Leave, Ops, Put}
-use Rattle.room_calls.specs.declared.reply.Reply.{Reply}
-use Rattle.room_calls.specs.declared.reply.Reply.TheVariants as replies
-use Rattle.room.specs.Machine.{State, Finding, recorded_answer, recorded_next}
+use Rattle.opid.specs.Delivered.{part_of}
+use Rattle.opid.specs.Delivered.{ReplicaState}
+use Rattle.room_model.specs.declared.outcome.Outcome.{Outcome}
+use Rattle.room_model.specs.Deliveries.{hand_over}
+use Rattle.opid.specs.declared.submission.Submission.TheVariants.{New, Repeat}
+use Rattle.opid.specs.Sessions.{Outbox, after_accept}
+use Rattle.room_model.specs.declared.call.Call.{Call}
+use Rattle.room_model.specs.declared.call.Call.TheVariants.{Join, Leave, Ops, Put}
+use Rattle.room_model.specs.declared.reply.Reply.{Reply}
+use Rattle.room_model.specs.declared.reply.Reply.TheVariants as replies
+use Rattle.room_model.specs.Machine.{State, Finding, recorded_answer, recorded_next}
 
 -- the state of these parts, with so many calls counted
 abbrev pub state_with : ReplicaState → Outbox → ℕ → State

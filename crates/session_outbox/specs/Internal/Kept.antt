@@ -1,7 +1,7 @@
 -- How the sessions are kept: a map from each one's number to its facts.
 use Rattle.std.specs.Prelude.{ℕ, List, map}
 use Rattle.session_outbox.specs.declared.facts.Facts.{Facts}
-use Rattle.session_outbox.specs.Sessions.{Session}
+use Rattle.opid.specs.Sessions.{Session}
 
 -- the session of this number with these facts
 abbrev pub session_of : ℕ × Facts → Session

@@ -2,13 +2,13 @@
 use Rattle.std.proofs.Common.{◌≡◌, ◌≤◌, ap, sym, subst, length, ℕ, List}
 use Rattle.opid.specs.declared.limits.TheConstants.{MAX_OPERATIONS}
 use mathlib.Core.List.{IsPrefix}
-use Rattle.room_calls.specs.declared.call.Call.{Call}
-use Rattle.room_calls.specs.declared.reply.Reply.{Reply}
-use Rattle.room.specs.declared.desk.DeskFault.{DeskFault}
-use Rattle.room.specs.declared.desk.DeskFault.TheVariants as Fault
-use Rattle.room.specs.Machine.{State}
-use Rattle.room.specs.History.{IsLegal, state_of}
-use Rattle.room.specs.Desks.{Owns, AreDistinct, IsSight, IsAnswered, IsPassedOver}
+use Rattle.room_model.specs.declared.call.Call.{Call}
+use Rattle.room_model.specs.declared.reply.Reply.{Reply}
+use Rattle.room_model.specs.declared.desk_fault.DeskFault.{DeskFault}
+use Rattle.room_model.specs.declared.desk_fault.DeskFault.TheVariants as Fault
+use Rattle.room_model.specs.Machine.{State}
+use Rattle.room_model.specs.History.{IsLegal, state_of}
+use Rattle.room_model.specs.Desks.{Owns, AreDistinct, IsSight, IsAnswered, IsPassedOver}
 use Rattle.history_lock.proofs.Prefixes.{prefix_self}
 use Rattle.shared_room.specs.Views.{View, sight_through}
 use Rattle.shared_room.specs.Turns.{Answers, FaultsPass}

@@ -4,10 +4,10 @@ use Rattle.std.specs.List.{AllByRecursion, AllByRecursion-prop}
 use Rattle.std.specs.Coded.{Unit-prop}
 use Rattle.std.proofs.Props.{props}
 use Rattle.opid.specs.Operations.{Operation}
-use Rattle.causal_clock.specs.Kinds.{IsOperation}
-use Rattle.room_calls.specs.declared.call.Call.{Call}
-use Rattle.room_calls.specs.declared.call.Call.TheVariants.{Put}
-use Rattle.room.specs.History.{HandsOperations}
+use Rattle.opid.specs.Kinds.{IsOperation}
+use Rattle.room_model.specs.declared.call.Call.{Call}
+use Rattle.room_model.specs.declared.call.Call.TheVariants.{Put}
+use Rattle.room_model.specs.History.{HandsOperations}
 
 -- there is one proof that something is an operation
 IsOperation-prop : (x : Operation) → IsProp (IsOperation x)

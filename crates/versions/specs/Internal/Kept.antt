@@ -10,7 +10,7 @@ use Rattle.rga_list.specs.Listed.{listed}
 use Rattle.counted_tree.specs.Versions.{Versions, newest}
 use Rattle.versions.specs.declared.kept_edit.KeptEdit.{KeptEdit}
 use Rattle.versions.specs.Internal.KeptEdits.{edit_in}
-use Rattle.versions.specs.Sums.{last_sum}
+use Rattle.opid.specs.Rising.{last_sum}
 use Rattle.versions.specs.Internal.Joined.{TellsVersions}
 
 -- each site's last sum
@@ -35,8 +35,8 @@ pub record IsDocument (log : List Operation) (changes : List KeptEdit) (tree : V
 
 -- Each part has memory for so many more, up to what the limit of 131,072 versions leaves: the log's reserve, of the edits their
 -- length and capacity, the tree, and the list's reserve.
-pub record AreReserved (log_room changes_len changes_capacity : ℕ) (tree : Versions) (list_room room : ℕ) : Type 0 where
-  pub log : min room (MAX_OPERATIONS - newest tree) ≤ log_room
-  pub changes : changes_len + min room (MAX_OPERATIONS - newest tree) ≤ changes_capacity
-  pub tree_room : min room (MAX_OPERATIONS - newest tree) ≤ tree.room
-  pub list : min room (MAX_OPERATIONS - newest tree) ≤ list_room
+pub record AreReserved (log_reserved changes_len changes_capacity : ℕ) (tree : Versions) (list_reserved reserved : ℕ) : Type 0 where
+  pub log : min reserved (MAX_OPERATIONS - newest tree) ≤ log_reserved
+  pub changes : changes_len + min reserved (MAX_OPERATIONS - newest tree) ≤ changes_capacity
+  pub tree_reserved : min reserved (MAX_OPERATIONS - newest tree) ≤ tree.reserved
+  pub list : min reserved (MAX_OPERATIONS - newest tree) ≤ list_reserved

@@ -3,7 +3,7 @@ use Rattle.std.specs.Prelude.{◌≡◌, ◌<◌, ◌^◌, ℕ, List, [], ◌∷
 use Rattle.json.specs.Token.{Token, key, end_object}
 use Rattle.serde_json.specs.Data.{Data, array, number, string, unsigned, object, no_members}
 use Rattle.opid.specs.Operations.{Operation}
-use Rattle.room_calls.specs.declared.call.Call.{Call}
+use Rattle.room_model.specs.declared.call.Call.{Call}
 use Rattle.json_bytes.specs.Internal.Coming.{value_of_tokens, TellsItems, TellsEntries, items_of, put_entries}
 use Rattle.operation_json.specs.Members.{json_of}
 use Rattle.wire_json.specs.Request.{call_in}

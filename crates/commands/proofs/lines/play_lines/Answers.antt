@@ -1,6 +1,6 @@
 -- A room opens and is served, or doesn't.
 use Rattle.std.proofs.Common.{[], ◌++◌, inl, inr, refl, subst}
-use Rattle.room.specs.History.{Account}
+use Rattle.room_model.specs.History.{Account}
 use Rattle.line_engine.specs.declared.fault.ServeFault.TheVariants.{Memory}
 use Rattle.line_engine.proofs.Known.{Consumes-none, Consumes-then, Appends-none}
 use Rattle.commands.specs.declared.stop.Stop.TheVariants.{Fault}

@@ -1,6 +1,6 @@
 -- What was served, and the room's closing.
 use Rattle.std.proofs.Common.{◌++◌, ◌∙◌, ap}
-use Rattle.room.specs.History.{Account}
+use Rattle.room_model.specs.History.{Account}
 use Rattle.line_engine.proofs.Known.{Appends-then}
 use Rattle.commands.proofs.Playing.{closed, broken}
 use Rattle.commands.proofs.lines.serve_room.Goals as goal

@@ -1,7 +1,7 @@
 -- An event is answered by the world's step, or by the refusal of memory.
 use Rattle.std.proofs.Common.{inl, inr, refl, ap}
 use Rattle.opid.specs.declared.refusal.Refusal.TheVariants.{Memory}
-use Rattle.room_calls.specs.declared.reply.Reply.TheVariants.{No}
+use Rattle.room_model.specs.declared.reply.Reply.TheVariants.{No}
 use Rattle.wire_json.specs.Text.{text}
 use Rattle.commands.specs.Worlds.{reply_text}
 use Rattle.commands.proofs.scripts.take.Goals as goal

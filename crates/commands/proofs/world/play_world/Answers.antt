@@ -1,7 +1,7 @@
 -- A world answers the lines, and then tells what its sites read.
 use Rattle.std.proofs.Common.{◌≡◌, ◌∙◌, ℕ, List, [], ◌++◌, Option, Result, Ok, Err, inl, inr, refl, sym, ap, subst, append-nil}
-use Rattle.room.specs.History.{Account}
-use Rattle.replica_world.specs.World.{empty_rooms}
+use Rattle.room_model.specs.History.{Account}
+use Rattle.room_model.specs.World.{empty_rooms}
 use Rattle.line_engine.specs.ServedLines.{Serves}
 use Rattle.line_engine.specs.declared.fault.ServeFault.{ServeFault}
 use Rattle.commands.specs.declared.stop.Stop.{Stop}

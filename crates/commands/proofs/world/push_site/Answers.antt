@@ -1,13 +1,13 @@
 -- The line of a room that is there.
 use Rattle.std.specs.Result.{is_ok}
 use Rattle.std.proofs.lemmas.Bool.{eqb-true}
-use Rattle.replica_world.specs.World.{room_of}
+use Rattle.room_model.specs.World.{room_of}
 use Rattle.std.proofs.Common.{Bool, true, false, [], ◌∷◌, string_bytes, ◌≡◌, ◌∙◌, ℕ, List, ◌++◌, Option, Some, None, length, refl, sym, ap}
 use Rattle.std.proofs.Common.{subst, decimal}
 use Rattle.std.specs.Prelude.{IfOk, Result, Ok, Err, ◌==◌, if◌then◌else◌, option_map, encode_utf8_all}
 use Rattle.json.specs.Print.{quoted}
 use Rattle.opid.specs.Reading.{reading}
-use Rattle.room.specs.History.{Account}
+use Rattle.room_model.specs.History.{Account}
 use Rattle.line_engine.specs.Lines.{ended}
 use Rattle.commands.specs.Script.{spaced}
 use Rattle.commands.specs.Worlds.{site_lines}

@@ -2,7 +2,7 @@
 use Rattle.std.proofs.Common.{◌≡◌, ◌∙◌, ◌+◌, ◌++◌, ℕ, List, refl, sym, ap, arith}
 use Rattle.std.specs.List.{flat_map, range_with_len}
 use Rattle.opid.specs.Clocks.{sites}
-use Rattle.replica_world.specs.World.{room_of}
+use Rattle.room_model.specs.World.{room_of}
 use Rattle.commands.specs.Worlds.{site_lines}
 use Rattle.commands.proofs.Answering.{one_more}
 use Rattle.commands.proofs.world.readings.Goals as goal

@@ -1,7 +1,7 @@
 use Rattle.std.proofs.Common.{◌≡◌}
 use Rattle.std.specs.Prelude.{string_bytes}
 use Rattle.std.specs.List.{flat_map, range_with_len}
-use Rattle.replica_world.specs.World.{room_of}
+use Rattle.room_model.specs.World.{room_of}
 use Rattle.commands.specs.Worlds.{site_lines}
 use Rattle.commands.proofs.world.readings.Given as goal
 

@@ -38,8 +38,8 @@ push-requires-clause-wide c =
 
 pub returns-clause-adds : goal.returns-clause-adds
 returns-clause-adds c =
-    adds_push c.args.nodes.now c.push.new.self c.args.node c.requires.sound c.requires.node c.push.ensures.nodes c.push.ensures.room
-    c.push.ensures.keys_and_widths c.push.ensures.key_and_width_room
+    adds_push c.args.nodes.now c.push.new.self c.args.node c.requires.sound c.requires.node c.push.ensures.nodes c.push.ensures.reserved
+    c.push.ensures.keys_and_widths c.push.ensures.reserved_keys_and_widths
 
 pub returns-clause-tree : goal.returns-clause-tree
 returns-clause-tree c = tree_pushed c.args.nodes.now c.push.new.self _ c.push.result c.push.ensures.nodes c.push.ensures.number

@@ -13,7 +13,7 @@ push_with_left-requires c =
     let few = size_few c.args.size s c.requires.size in
     let some = units_few s in
     record {
-      room = c.requires.room;
+      reserved = c.requires.reserved;
       number = slice_get_within c.args.nodes.now.nodes c.args.at c.args.node c.requires.at;
       left = c.requires.left;
       shown = omega (arith, few.0, c.requires.few);
@@ -26,5 +26,5 @@ returns c =
     let p = c.push_with_left.ensures in
     let copied = copied_left c.args.nodes.now c.push_with_left.new.self c.args.node (Some c.args.left) c.args.size c.push_with_left.result
     c.requires.sound c.requires.node c.requires.left c.requires.balanced c.requires.size (p.nodes c.args.node c.requires.at)
-    p.room p.keys_and_widths p.key_and_width_room p.number in
+    p.reserved p.keys_and_widths p.reserved_keys_and_widths p.number in
     record { adds = copied.adds; count = copied.count; number = copied.number; tree = copied.tree }

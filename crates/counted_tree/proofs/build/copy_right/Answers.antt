@@ -11,5 +11,5 @@ returns c =
     let p = c.push_with_right.ensures in
     let copied = copied_right c.args.nodes.now c.push_with_right.new.self c.args.node (Some c.args.right) c.push_with_right.result
     c.requires.sound c.requires.node c.requires.right c.requires.balanced (p.nodes c.args.node c.requires.at)
-    p.room p.keys_and_widths p.key_and_width_room p.number in
+    p.reserved p.keys_and_widths p.reserved_keys_and_widths p.number in
     record { adds = copied.adds; count = copied.count; number = copied.number; tree = copied.tree }

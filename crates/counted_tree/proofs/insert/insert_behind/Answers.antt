@@ -28,7 +28,7 @@ insert_first-right-requires c =
     record {
       sound = c.requires.sound;
       link = o.right;
-      room = omega (arith, high, c.requires.fit.room);
+      reserved = omega (arith, high, c.requires.fit.reserved);
       known = c.requires.known;
       few = omega (arith, size, few, c.requires.fit.few);
       own = d.own;
@@ -62,7 +62,7 @@ lift_right-top-requires c =
       sound = search rules;
       at = still_there a b _ c.args.at n c.insert_first-right.ensures.adds o.node;
       node = up.node;
-      room = search rules;
+      reserved = search rules;
       right = up.told;
       gains = up.gains;
       rises = up.rises;

@@ -36,7 +36,7 @@ push_with_left-top-requires c =
     let sum_shown = ap (λ (s : Size). s.shown) c.plus-size.ensures in
     let sum_units = ap (λ (s : Size). s.units) c.plus-size.ensures in
     record {
-      room = search rules;
+      reserved = search rules;
       number = search rules;
       left = p.there;
       shown = omega (arith, shown, sum_shown, p.shown);
@@ -67,8 +67,8 @@ returns-in-Left-clause-inserted c = λ a tb mid path x more given.
     ∙ ap (λ m. b.nodes ++ record n { left = Some c.args.below; left_size = m } ∷ []) size in
     subst (λ s. IsInserted a d tb mid (tree_in a (Some c.args.at)) (s ∷ path) x (record { top = Settled k; rank = c.args.rank }))
     (sym c.in-Left.is)
-    (stepped_left a b d tb mid c.args.at path x c.args.below k c.args.rank n h c.look-node.ensures.node nodes p.room p.keys_and_widths
-    p.key_and_width_room p.number)
+    (stepped_left a b d tb mid c.args.at path x c.args.below k c.args.rank n h c.look-node.ensures.node nodes p.reserved p.keys_and_widths
+    p.reserved_keys_and_widths p.number)
 
 pub returns-in-Right-clause-inserted : goal.returns-in-Right-clause-inserted
 returns-in-Right-clause-inserted c = λ a tb mid path x more given.
@@ -80,7 +80,7 @@ returns-in-Right-clause-inserted c = λ a tb mid path x more given.
     let h = subst (λ s. IsLift a b tb mid c.args.at s path x (record { top = Settled c.args.below; rank = c.args.rank })) c.in-Right.is
     given in
     let whole = stepped_right a b d tb mid c.args.at path x c.args.below k c.args.rank n h c.look-node.ensures.node
-    (p.nodes n c.look-node.ensures.node) p.room p.keys_and_widths p.key_and_width_room p.number in
+    (p.nodes n c.look-node.ensures.node) p.reserved p.keys_and_widths p.reserved_keys_and_widths p.number in
     subst (λ s. IsInserted a d tb mid (tree_in a (Some c.args.at)) (s ∷ path) x (record { top = Settled k; rank = c.through-past.result }))
     (sym c.in-Right.is)
     (subst (λ z. IsInserted a d tb mid (tree_in a (Some c.args.at)) (Right ∷ path) x (record { top = Settled k; rank = z }))

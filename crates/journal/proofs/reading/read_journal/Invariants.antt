@@ -7,7 +7,7 @@ use Rattle.journal.proofs.reading.read_journal.Given as goal
 abbrev pub invariant-each_line : goal.invariant-each_line
 invariant-each_line l = record {
   reads : Reads l.bytes l.at l.lines l.doc.log;
-  unreserved : l.doc.room ≡ 0;
+  unreserved : l.doc.reserved ≡ 0;
   digest : Holds256 l.digest (take l.at l.bytes);
 }
 

@@ -4,7 +4,7 @@ use Rattle.std.proofs.lemmas.List.{take_more}
 use Rattle.std.proofs.lemmas.Option.{slice_get_within, get_or_from_slice_get}
 use Rattle.std.proofs.lemmas.List.Elements.{All-same, All-push, All-head, All-drop, All-map}
 use Rattle.std.specs.Vec.Iter.{into_iter_len}
-use Rattle.replica.specs.Deliver.{ReplicaState}
+use Rattle.opid.specs.Delivered.{ReplicaState}
 use Rattle.snapshot.specs.Snapshot.{LacksSite}
 use Rattle.ws_server.proofs.Opened.{left_after}
 use Rattle.ws_server.proofs.Passes.{map_next}
@@ -14,7 +14,7 @@ use Rattle.kept_rooms.proofs.opening.open_hall.Goals as goal
 
 pub open_over-requires : goal.open_over-requires
 open_over-requires c =
-    let P : Opening → Type 0 = λ it. it.doc.room ≡ 0 in
+    let P : Opening → Type 0 = λ it. it.doc.reserved ≡ 0 in
     let left = sym c.loop-place.invariant.rest ∙ c.in-Some.ensures.items in
     All-head P c.in-Some.opening _ (All-same P _ _ (sym left) (All-drop P c.loop-place.place c.args.openings.items c.requires.unreserved))
 

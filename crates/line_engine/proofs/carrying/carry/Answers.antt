@@ -1,6 +1,6 @@
 -- Where operations are told, their place is within the log.
-use Rattle.room_calls.specs.declared.call.Call.TheVariants as calls
-use Rattle.room_calls.specs.declared.reply.Reply.TheVariants as replies
+use Rattle.room_model.specs.declared.call.Call.TheVariants as calls
+use Rattle.room_model.specs.declared.reply.Reply.TheVariants as replies
 use Rattle.room.proofs.Desks.{told_place}
 use Rattle.line_engine.proofs.carrying.carry.Goals as goal
 

@@ -1,8 +1,8 @@
 -- At most 64 outcomes are told, so the sum fits.
 use Rattle.std.proofs.Common.{◌<◌, ◌≤◌, length, arith}
 use Rattle.std.proofs.lemmas.Grind.{common_steps}
-use Rattle.room_calls.specs.declared.call.Call.TheVariants as calls
-use Rattle.room_calls.specs.declared.reply.Reply.TheVariants as replies
+use Rattle.room_model.specs.declared.call.Call.TheVariants as calls
+use Rattle.room_model.specs.declared.reply.Reply.TheVariants as replies
 use Rattle.room.proofs.Desks.{put_outcomes}
 use Rattle.line_engine.proofs.carrying.hand.Goals as goal
 

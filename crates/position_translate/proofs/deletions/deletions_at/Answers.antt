@@ -1,7 +1,7 @@
 use Rattle.std.proofs.Common.{◌≡◌, ◌∙◌, ◌≤◌, ◌+◌, false, sym, length, vec_len, arith, rules}
 use Rattle.opid.specs.Reading.{visible_in_at, reading_in_at}
 use Rattle.opid.specs.Splice.{is_inside}
-use Rattle.position_translate.specs.Causes.{element_count}
+use Rattle.opid.specs.Places.{element_count}
 use Rattle.position_translate.proofs.Asking.{few_for, asked_deletions-is, deletions_lawful, length-once, length-asked_deletions}
 use Rattle.position_translate.proofs.deletions.deletions_at.Goals as goal
 

@@ -12,5 +12,5 @@ invariant-loop-ch l = record {
   lawful : IsLawful l.doc.log;
   count : length l.doc.log ≡ length l.yielded;
   few : length (chars l.text) ≤ 131072;
-  unreserved : l.doc.room ≡ 0;
+  unreserved : l.doc.reserved ≡ 0;
 }

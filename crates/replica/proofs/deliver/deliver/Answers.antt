@@ -1,9 +1,9 @@
 -- What each check leads to.
 use Rattle.std.proofs.Common.{◌≡◌, ◌∙◌, ◌<◌, Ok, Err, false, true, ap, sym, arith, inl, inr, length}
 use Rattle.std.proofs.lemmas.Result.{err_from_is_err_and}
-use Rattle.holdback.specs.Offered.{HeldOperations, look_for, after_arrival}
-use Rattle.replica.specs.declared.delivery.Delivery.TheVariants.{Kept, Again}
-use Rattle.replica.specs.Deliver.{Delivered, claims_site, settled}
+use Rattle.opid.specs.Held.{HeldOperations, look_for, after_arrival}
+use Rattle.opid.specs.declared.delivery.Delivery.TheVariants.{Kept, Again}
+use Rattle.opid.specs.Delivered.{Delivered, claims_site, settled}
 use Rattle.replica.proofs.Checks.{deliver-own, deliver-in_log, deliver-other_in_log, deliver-held, deliver-other_held, deliver-kept}
 use Rattle.replica.proofs.Checks.{deliver-kept_again, deliver-not_kept, deliver-refused, deliver-took, kept-few, look_for-same}
 use Rattle.replica.proofs.Clocks.{clock_of-same, is_ready-same}

@@ -4,7 +4,7 @@ use mathlib.Core.Path.{ap₂}
 use Rattle.std.proofs.lemmas.List.{length-append}
 use Rattle.opid.specs.Delivery.{clock_of}
 use Rattle.versions.specs.Document as document
-use Rattle.replica.specs.Refused.{refusal_of}
+use Rattle.opid.specs.Delivered.{refusal_of}
 use Rattle.replica.specs.Internal.Kept.{settling_of}
 use Rattle.replica.proofs.Clocks.{clock_of-same, first_ready-same, without_first_ready-same}
 use Rattle.replica.proofs.Rounds.{round-full, round-none, round-some}
@@ -53,26 +53,26 @@ returns-in-Err-clause-next c =
     c.take_first_ready.ensures.others in
     let refused : refusal_of log.log c.in-Some.op ≡ Some c.in-Err.field-0 = elim (c.in-Err.ensures.cause) [
       | inl q ↦ q
-      | inr q ↦ absurd (omega (arith, q.1, c.requires.reserved, c.in-Some.ensures.fewer, short))
+      | inr q ↦ absurd (omega (arith, q.1, c.requires.enough, c.in-Some.ensures.fewer, short))
     ] in
     ap₂ (λ l h. settling_of l h after) c.in-Err.ensures.err others
     ∙ sym (round-some before c.in-Some.op (Some c.in-Err.field-0) short some refused)
 
-pub returns-in-Ok-clause-reserved : goal.returns-in-Ok-clause-reserved
-returns-in-Ok-clause-reserved c = omega (
+pub returns-in-Ok-clause-enough : goal.returns-in-Ok-clause-enough
+returns-in-Ok-clause-enough c = omega (
   arith,
-  ap (λ (d : document.Document). d.room) c.in-Ok.ensures.grown,
+  ap (λ (d : document.Document). d.reserved) c.in-Ok.ensures.grown,
   ap (λ (d : document.Document). length d.log) c.in-Ok.ensures.grown,
   length-append c.args.log.now.log (c.in-Some.op ∷ []),
   c.in-Some.ensures.fewer,
-  c.requires.reserved,
+  c.requires.enough,
 )
 
-pub returns-in-Err-clause-reserved : goal.returns-in-Err-clause-reserved
-returns-in-Err-clause-reserved c = omega (
+pub returns-in-Err-clause-enough : goal.returns-in-Err-clause-enough
+returns-in-Err-clause-enough c = omega (
   arith,
-  ap (λ (d : document.Document). d.room) c.in-Err.ensures.err,
+  ap (λ (d : document.Document). d.reserved) c.in-Err.ensures.err,
   ap (λ (d : document.Document). length d.log) c.in-Err.ensures.err,
   c.in-Some.ensures.fewer,
-  c.requires.reserved,
+  c.requires.enough,
 )

@@ -1,6 +1,6 @@
 -- The rounds that are left lead to the end; the last one changes nothing.
 use Rattle.std.proofs.Common.{◌≡◌, ◌∙◌, ◌-◌, sym, arith}
-use Rattle.replica.specs.Settle.{Settling, round}
+use Rattle.opid.specs.Delivered.{Settling, round}
 use Rattle.replica.specs.Internal.Kept.{settling_of}
 use Rattle.replica.proofs.Rounds.{rounds-stay, rounds-step}
 use Rattle.replica.proofs.settle.settle.Goals as goal
@@ -18,8 +18,8 @@ rounds-preserved c =
     let after : Settling = settling_of c.round.new.log c.round.new.held c.round.new.tally in
     record {
       leads = sym (rounds-step c.len-i-end.result c.rounds._i before after (omega arith) c.round.ensures.next) ∙ c.rounds.invariant.leads;
-      reserved = c.round.ensures.reserved;
-      room = omega (arith, c.round.ensures.room, c.rounds.invariant.room);
+      enough = c.round.ensures.enough;
+      less = omega (arith, c.round.ensures.less, c.rounds.invariant.less);
       longer = omega (arith, c.round.ensures.longer, c.rounds.invariant.longer);
       held = c.round.ensures.held ∙ c.rounds.invariant.held;
       lawful = c.round.ensures.lawful;

@@ -9,7 +9,7 @@ append-requires c =
 
 pub unreachable-requires : goal.unreachable-requires
 unreachable-requires c =
-    never_refused c.loop-op.log.log c.op-item.result c.in-Err.field-0 c.loop-op.log.room
+    never_refused c.loop-op.log.log c.op-item.result c.in-Err.field-0 c.loop-op.log.reserved
     (next_accepted c.args.log.now.log c.loop-op.log.log c.args.ops.now c.loop-op.op-index c.op-item.result c.site.ensures.kept
     c.requires.lawful c.requires.few c.loop-op-test.true c.op-item.is c.loop-op.invariant.log)
-    (omega (arith, c.loop-op.invariant.room, c.requires.room, c.loop-op-test.true)) c.in-Err.ensures.cause
+    (omega (arith, c.loop-op.invariant.reserved, c.requires.reserved, c.loop-op-test.true)) c.in-Err.ensures.cause

@@ -5,5 +5,5 @@ use Rattle.replica.proofs.submissions.append_each.Given as goal
 abbrev pub invariant-loop-op : goal.invariant-loop-op
 invariant-loop-op l = record {
   log : l.log.log ++ drop l.op-index l.ops ≡ l.initial.log.log ++ l.ops;
-  room : l.log.room + l.op-index ≡ l.initial.log.room;
+  reserved : l.log.reserved + l.op-index ≡ l.initial.log.reserved;
 }

@@ -4,7 +4,7 @@ use Rattle.rgatext.proofs.rooms.open_rooms.Given as goal
 
 abbrev pub invariant-loop-name : goal.invariant-loop-name
 invariant-loop-name g l = record {
-  unreserved : All (λ it. it.doc.room ≡ 0) l.rooms.openings.items;
+  unreserved : All (λ it. it.doc.reserved ≡ 0) l.rooms.openings.items;
   openings : length l.rooms.openings.items ≡ length l.rooms.names.items;
   turns : length l.rooms.turns.items ≡ length l.rooms.names.items;
   states : length l.rooms.states.items ≡ length l.rooms.names.items;

@@ -12,9 +12,9 @@ loop-version-preserved c = record {
       c.loop-version.version c.args.to c.edit_in.result c.loop-version-test.true
       (subst (λ n. slice_get (edits_in c.args.units c.args.doc.now.log) n ≡ Some c.edit_in.result) (omega arith) c.edit_in.ensures)
       c.loop-version.invariant.edits c.push_reserved.ensures.items;
-  room = omega (
+  reserved = omega (
     arith,
-    c.loop-version.invariant.room,
+    c.loop-version.invariant.reserved,
     c.push_reserved.ensures.capacity,
     ap length c.push_reserved.ensures.items,
     length-append c.loop-version.es.items (c.edit_in.result ∷ []),

@@ -9,7 +9,7 @@ loop-op-preserved c =
     let later = length-drop (c.loop-op.op-index + 1) c.args.ops.now in
     let d = delivers c.loop-op.replica c.put_copy.new.self c.op-item.result c.put_copy.result c.put_copy.ensures.outcome
     c.put_copy.ensures.next c.put_copy.ensures.cause c.put_copy.ensures.err
-    (omega (arith, c.loop-op.invariant.room, left, c.loop-op-test.true)) in
+    (omega (arith, c.loop-op.invariant.reserved, left, c.loop-op-test.true)) in
     record {
       site = d.site ∙ c.loop-op.invariant.site;
       handed =
@@ -17,8 +17,8 @@ loop-op-preserved c =
           c.loop-op.outcomes.items c.push_reserved.new.self.items c.outcome_of-outcome.result _ c.loop-op-test.true
           (subst (λ x. Delivers c.loop-op.replica c.put_copy.new.self x c.put_copy.result) c.op-item.is d) c.outcome_of-outcome.ensures
           c.push_reserved.ensures.items c.loop-op.invariant.handed;
-      room = d.room (length (drop (c.loop-op.op-index + 1) c.args.ops.now))
-          (omega (arith, c.loop-op.invariant.room, left, later, c.loop-op-test.true));
+      reserved = d.reserved (length (drop (c.loop-op.op-index + 1) c.args.ops.now))
+          (omega (arith, c.loop-op.invariant.reserved, left, later, c.loop-op-test.true));
       capacity = omega (
         arith,
         c.loop-op.invariant.capacity,

@@ -1,5 +1,5 @@
 use Rattle.std.proofs.Common.{◌≡◌, ◌+◌, ◌≤◌, length, drop, vec_len, vec_capacity}
-use Rattle.room.specs.Deliveries.{hand_over}
+use Rattle.room_model.specs.Deliveries.{hand_over}
 use Rattle.room.proofs.Handing.{with_before}
 use Rattle.room.proofs.calls.hand_over.Given as goal
 
@@ -9,6 +9,6 @@ invariant-loop-op l = record {
   site : l.replica.site ≡ l.initial.replica.site;
   handed : with_before l.outcomes.items (hand_over l.replica.site l.replica.log l.replica.held (drop l.op-index l.ops))
       ≡ hand_over l.initial.replica.site l.initial.replica.log l.initial.replica.held l.ops;
-  room : length l.replica.held + length (drop l.op-index l.ops) ≤ l.replica.room;
+  reserved : length l.replica.held + length (drop l.op-index l.ops) ≤ l.replica.reserved;
   capacity : vec_len l.outcomes + length (drop l.op-index l.ops) ≤ vec_capacity l.outcomes;
 }

@@ -1,10 +1,10 @@
 use Rattle.std.proofs.Common.{Bool, length, refl, subst, sym, ◌∙◌}
 use Rattle.opid.specs.Asked.{asked_insertions_in}
-use Rattle.position_translate.specs.Causes.{insertion_refusal_in}
-use Rattle.session_outbox.specs.Sessions.{session_with}
-use Rattle.session_outbox.specs.Answers.{submission_of}
-use Rattle.room_calls.specs.declared.call.Call.TheVariants.{Ins}
-use Rattle.room.specs.Machine.{counts_units}
+use Rattle.opid.specs.Places.{insertion_refusal_in}
+use Rattle.opid.specs.Sessions.{session_with}
+use Rattle.opid.specs.Sessions.{submission_of}
+use Rattle.room_model.specs.declared.call.Call.TheVariants.{Ins}
+use Rattle.room_model.specs.Machine.{counts_units}
 use Rattle.room.specs.Internal.Parts.{Submits}
 use Rattle.room.proofs.Replied.{at_once, carried}
 use Rattle.room.proofs.calls.insert.Goals as goal

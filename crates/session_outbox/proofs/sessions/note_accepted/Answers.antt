@@ -1,7 +1,7 @@
 use Rattle.std.proofs.Common.{◌+◌, ◌<◌, arith, refl, subst}
 use Rattle.std.specs.Prelude.{MatchOption}
 use Rattle.session_outbox.specs.declared.facts.Facts.{Facts}
-use Rattle.session_outbox.specs.Sessions.{with_accepted}
+use Rattle.opid.specs.Sessions.{with_accepted}
 use Rattle.session_outbox.proofs.Entries.{there, none_there, changed}
 use Rattle.session_outbox.proofs.sessions.note_accepted.Goals as goal
 

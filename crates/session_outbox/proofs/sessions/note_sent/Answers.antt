@@ -1,8 +1,8 @@
 use Rattle.std.proofs.Common.{◌∙◌, nat_eq, ap, sym}
 use Rattle.std.proofs.lemmas.Map.Steps.{set_value_same}
 use Rattle.session_outbox.specs.declared.facts.Facts.{Facts}
-use Rattle.session_outbox.specs.Sessions.{Session, sent_to}
-use Rattle.session_outbox.specs.Answers.{pull_of}
+use Rattle.opid.specs.Sessions.{Session, sent_to}
+use Rattle.opid.specs.Sessions.{pull_of}
 use Rattle.session_outbox.specs.Internal.Kept.{session_of, sessions_of}
 use Rattle.session_outbox.proofs.Entries.{there, none_there, changed}
 use Rattle.session_outbox.proofs.sessions.note_sent.Goals as goal

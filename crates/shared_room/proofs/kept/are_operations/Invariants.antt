@@ -1,6 +1,6 @@
 use Rattle.std.proofs.Common.{take}
 use Rattle.std.specs.List.{AllByRecursion}
-use Rattle.causal_clock.specs.Kinds.{IsOperation}
+use Rattle.opid.specs.Kinds.{IsOperation}
 use Rattle.shared_room.proofs.kept.are_operations.Given as goal
 
 -- those that were looked at

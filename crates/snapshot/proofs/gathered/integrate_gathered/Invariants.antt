@@ -6,5 +6,5 @@ use Rattle.snapshot.proofs.gathered.integrate_gathered.Given as goal
 abbrev pub invariant-loop-item : goal.invariant-loop-item
 invariant-loop-item l = record {
   told : l.doc.log ++ unfolded_all (drop l.item-index l.items) ≡ unfolded_all l.items;
-  unreserved : l.doc.room ≡ 0;
+  unreserved : l.doc.reserved ≡ 0;
 }

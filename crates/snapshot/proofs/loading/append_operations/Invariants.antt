@@ -5,5 +5,5 @@ use Rattle.snapshot.proofs.loading.append_operations.Given as goal
 abbrev pub invariant-loop-op : goal.invariant-loop-op
 invariant-loop-op l = record {
   grown : l.doc.log ≡ l.fn.doc.log ++ take l.op-index l.ops;
-  unreserved : l.fn.doc.room ≡ 0 → l.doc.room ≡ 0;
+  unreserved : l.fn.doc.reserved ≡ 0 → l.doc.reserved ≡ 0;
 }

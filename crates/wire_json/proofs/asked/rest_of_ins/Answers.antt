@@ -1,6 +1,6 @@
 use Rattle.std.proofs.Common.{◌≡◌, ◌∙◌, ◌∷◌, [], ℕ, List, ap, sym, subst, take}
 use Rattle.std.specs.Str.{chars}
-use Rattle.room_calls.specs.declared.call.Call.TheVariants.{Ins}
+use Rattle.room_model.specs.declared.call.Call.TheVariants.{Ins}
 use Rattle.wire_json.specs.Internal.Handed.{ReadsRest}
 use Rattle.wire_json.proofs.Calling.{ins_rest}
 use Rattle.wire_json.proofs.asked.rest_of_ins.Goals as goal

@@ -1,6 +1,6 @@
 use Rattle.std.proofs.Common.{codes, sym, subst}
 use Rattle.std.specs.Prelude.{IfSome}
-use Rattle.room_calls.specs.declared.call.Call.{Call}
+use Rattle.room_model.specs.declared.call.Call.{Call}
 use Rattle.wire_json.specs.Internal.Handed.{ReadsOps, ReadsRest}
 use Rattle.wire_json.proofs.Handing.{put_rest}
 use Rattle.wire_json.proofs.handed.rest_of_put.Goals as goal

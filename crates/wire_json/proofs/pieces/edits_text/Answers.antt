@@ -1,6 +1,6 @@
 use Rattle.std.proofs.Common.{◌≡◌, ◌<◌, ◌^◌, IsUtf8, sym, subst, arith}
 use Rattle.std.proofs.lemmas.Grind.{common_steps}
-use Rattle.room_calls.specs.declared.reply.Reply.TheVariants.{Edits}
+use Rattle.room_model.specs.declared.reply.Reply.TheVariants.{Edits}
 use Rattle.wire_json.specs.Text.{text}
 use Rattle.wire_json.proofs.Pieced.{edits_utf8}
 use Rattle.wire_json.proofs.pieces.edits_text.Goals as goal

@@ -1,6 +1,6 @@
 use Rattle.std.proofs.Common.{◌≡◌, ◌∙◌, ◌++◌, List, ℕ, IsUtf8, codes, decimal, sym, ap, subst, arith}
 use Rattle.std.proofs.lemmas.Grind.{common_steps}
-use Rattle.room_calls.specs.declared.reply.Reply.TheVariants.{Ops}
+use Rattle.room_model.specs.declared.reply.Reply.TheVariants.{Ops}
 use Rattle.operation_json.specs.Text.{packed_text}
 use Rattle.wire_json.specs.Text.{text}
 use Rattle.wire_json.proofs.Pieced.{ops_utf8}

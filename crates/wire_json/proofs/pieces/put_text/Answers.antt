@@ -1,6 +1,6 @@
 use Rattle.std.proofs.Common.{◌≡◌, ◌∙◌, ◌++◌, List, ℕ, IsUtf8, map, codes, sym, ap, subst, arith}
 use Rattle.std.proofs.lemmas.Grind.{common_steps}
-use Rattle.room_calls.specs.declared.reply.Reply.TheVariants.{Put}
+use Rattle.room_model.specs.declared.reply.Reply.TheVariants.{Put}
 use Rattle.operation_json.specs.Text.{in_brackets}
 use Rattle.wire_json.specs.Text.{outcome_text, text}
 use Rattle.wire_json.proofs.Pieced.{outcomes_utf8}

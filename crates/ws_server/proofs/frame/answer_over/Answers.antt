@@ -1,8 +1,8 @@
 -- A message over a pass is answered by what the desk did, or by its refusal.
 use Rattle.std.proofs.Common.{refl, ap, subst, inl, Err, None, Some, ◌∙◌, ◌⊎◌}
 use Rattle.wire_json.specs.Text.{text}
-use Rattle.room_calls.specs.declared.reply.Reply.{Reply}
-use Rattle.room_calls.specs.declared.reply.Reply.TheVariants.{No}
+use Rattle.room_model.specs.declared.reply.Reply.{Reply}
+use Rattle.room_model.specs.declared.reply.Reply.TheVariants.{No}
 use Rattle.shared_room.specs.Views.{view, opening}
 use Rattle.shared_room.specs.PassSteps.{pass_step, pass_fault}
 use Rattle.line_engine.specs.LineBytes.{IsFixed, TellsNoRefusal}

@@ -1,7 +1,7 @@
 -- What an opening is answered.
 use Rattle.std.proofs.Common.{◌≡◌, ℕ, Option, Some, None, refl, sym, ap, subst, ◌∙◌, string_bytes}
 use Rattle.opid.specs.declared.refusal.Refusal.TheVariants as Why
-use Rattle.room_calls.specs.declared.reply.Reply.TheVariants.{No}
+use Rattle.room_model.specs.declared.reply.Reply.TheVariants.{No}
 use Rattle.wire_json.specs.Text.{text}
 use Rattle.ws_server.specs.Halls.{place_named}
 use Rattle.ws_server.specs.Frames.{OpensAt, opened_text}

@@ -1,7 +1,7 @@
 -- A line is answered by the world, or by its refusal.
 use Rattle.std.proofs.Common.{Err, refl}
 use Rattle.wire_json.specs.Text.{text}
-use Rattle.room_calls.specs.declared.reply.Reply.TheVariants.{No}
+use Rattle.room_model.specs.declared.reply.Reply.TheVariants.{No}
 use Rattle.commands.proofs.Answering.{answers_event, answers_refusal}
 use Rattle.commands.proofs.scripts.ScriptsProtocol.answer.Goals as goal
 

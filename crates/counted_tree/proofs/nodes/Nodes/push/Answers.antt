@@ -13,10 +13,10 @@ invariant_of-self c =
     subst (λ (s : Store). slice_get s.keys_and_widths c.args.node.entry.elem ≡ Some (key_and_width_of c.args.node.entry))
     (sym c.self.view_is)
     c.requires.known.1 in
-    let room = ap (λ (s : Store). s.node_room) c.self.view_is in
+    let reserved = ap (λ (s : Store). s.reserved_nodes) c.self.view_is in
     let below = slice_get_within keys_and_widths c.args.node.entry.elem (key_and_width_of c.args.node.entry) told in (
-      omega (arith, room),
-      omega (arith, room),
+      omega (arith, reserved),
+      omega (arith, reserved),
       c.self.invariant.2,
       subst (AreElemsBelow (length keys_and_widths)) (sym c.push_reserved.ensures.items)
           (elems_below_push (length keys_and_widths) c.self.inside.nodes.items

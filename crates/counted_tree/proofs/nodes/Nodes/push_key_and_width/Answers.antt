@@ -9,11 +9,11 @@ use Rattle.counted_tree.proofs.nodes.Nodes.push_key_and_width.Goals as goal
 pub invariant_of-self : goal.invariant_of-self
 invariant_of-self c =
     let keys_and_widths = c.self.inside.keys_and_widths.items in
-    let room = ap (λ (s : Store). s.key_and_width_room) c.self.view_is in
+    let reserved = ap (λ (s : Store). s.reserved_keys_and_widths) c.self.view_is in
     let more = ap length c.push_reserved.ensures.items ∙ length_push keys_and_widths c.key_and_width.result in (
       c.self.invariant.0,
       c.self.invariant.1,
-      omega (arith, room, c.requires.room),
+      omega (arith, reserved, c.requires.reserved),
       elems_below_more (length keys_and_widths) (length c.push_reserved.new.self.items) c.self.inside.nodes.items (omega (arith, more))
           c.self.invariant.3,
     )
@@ -29,9 +29,9 @@ returns c =
     ap (λ ks. nodes_of ks nodes) items ∙ nodes_with_element keys_and_widths key_and_width nodes c.self.invariant.3 in
     let made : List Node → List ℕ → Store = λ ns ks. record {
       nodes = ns;
-      node_room = c.self.inside.node_room;
+      reserved_nodes = c.self.inside.reserved_nodes;
       keys_and_widths = ks;
-      key_and_width_room = c.self.inside.key_and_width_room - 1;
+      reserved_keys_and_widths = c.self.inside.reserved_keys_and_widths - 1;
     } in
     ap (λ ns. made ns c.push_reserved.new.self.items) same ∙ ap (made (nodes_of keys_and_widths nodes)) items
     ∙ ap (λ (s : Store). with_element s key_and_width) c.self.view_is

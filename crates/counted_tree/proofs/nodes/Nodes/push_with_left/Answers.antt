@@ -10,14 +10,14 @@ invariant_of-self c =
     let nodes = c.self.inside.nodes.items in
     let keys_and_widths = c.self.inside.keys_and_widths.items in
     let packed = c.index-packed.result.now in
-    let room = ap (λ (s : Store). s.node_room) c.self.view_is in
+    let reserved = ap (λ (s : Store). s.reserved_nodes) c.self.view_is in
     let long : length (nodes_of keys_and_widths nodes) ≡ length c.args.self.now.nodes = ap (λ (s : Store). length s.nodes)
     c.self.view_is in
     let at : slice_get nodes c.args.at ≡ Some packed =
     read_at nodes c.args.at packed (omega (arith, long, length-nodes_of keys_and_widths nodes, c.requires.number)) c.index-packed.ensures in
     let below = elem_below_at (length keys_and_widths) nodes c.args.at packed c.self.invariant.3 at in (
-      omega (arith, room, c.requires.room),
-      omega (arith, room, c.requires.room),
+      omega (arith, reserved, c.requires.reserved),
+      omega (arith, reserved, c.requires.reserved),
       c.self.invariant.2,
       subst (AreElemsBelow (length keys_and_widths)) (sym c.push_reserved.ensures.items)
           (elems_below_push (length keys_and_widths) nodes c.with_left.result c.self.invariant.3

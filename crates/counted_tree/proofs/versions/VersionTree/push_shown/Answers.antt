@@ -26,7 +26,7 @@ push_shown_in-requires-clause-shown c =
     subst (λ (v : Versions). c.args.version < length v.lists) (sym c.self.view_is) c.requires in
     let within : c.args.version ≤ length roots = omega (arith, many, length-map roots (rooted ns)) in
     let top_is : top ≡ (root_at roots c.args.version).link = ap (λ (r : Root). r.link) root_is in
-    let shows = root_shows c.self.inside.nodes roots c.self.inside.room c.args.version c.self.invariant.0 within in
+    let shows = root_shows c.self.inside.nodes roots c.self.inside.reserved c.args.version c.self.invariant.0 within in
     let shown : c.root_of-root.result.size.shown ≡ length (visible (list_of ns top)) =
     ap (λ (r : Root). r.size.shown) root_is ∙ shows.0 ∙ ap (λ l. length (visible (list_of ns l))) (sym top_is) in
     shown
@@ -45,7 +45,7 @@ returns-clause-few c =
     let list : version_list c.args.self.now c.args.version ≡ list_of ns top =
     ap (λ (v : Versions). version_list v c.args.version) (sym c.self.view_is) ∙ list_at ns roots c.args.version within
     ∙ ap (list_of ns) (sym top_is) in
-    let shows = root_shows c.self.inside.nodes roots c.self.inside.room c.args.version c.self.invariant.0 within in
+    let shows = root_shows c.self.inside.nodes roots c.self.inside.reserved c.args.version c.self.invariant.0 within in
     let shown : c.root_of-root.result.size.shown ≡ length (visible (list_of ns top)) =
     ap (λ (r : Root). r.size.shown) root_is ∙ shows.0 ∙ ap (λ l. length (visible (list_of ns l))) (sym top_is) in
     let link : IsLinkBelow (length ns) top =
@@ -73,7 +73,7 @@ returns-clause-counted c =
     let list : version_list c.args.self.now c.args.version ≡ list_of ns top =
     ap (λ (v : Versions). version_list v c.args.version) (sym c.self.view_is) ∙ list_at ns roots c.args.version within
     ∙ ap (list_of ns) (sym top_is) in
-    let shows = root_shows c.self.inside.nodes roots c.self.inside.room c.args.version c.self.invariant.0 within in
+    let shows = root_shows c.self.inside.nodes roots c.self.inside.reserved c.args.version c.self.invariant.0 within in
     let shown : c.root_of-root.result.size.shown ≡ length (visible (list_of ns top)) =
     ap (λ (r : Root). r.size.shown) root_is ∙ shows.0 ∙ ap (λ l. length (visible (list_of ns l))) (sym top_is) in
     λ some. c.push_shown_in.ensures.counted (omega (arith, shown, some, ap (λ xs. length (visible xs)) list))

@@ -19,5 +19,5 @@ returns c =
     let within : c.args.version ≤ length roots = omega (arith, many, length-map roots (rooted ns)) in
     let list : version_list c.args.self.now c.args.version ≡ rooted ns (root_at roots c.args.version) =
     ap (λ (v : Versions). version_list v c.args.version) (sym c.self.view_is) ∙ list_at ns roots c.args.version within in
-    let shows = root_shows c.self.inside.nodes roots c.self.inside.room c.args.version c.self.invariant.0 within in
+    let shows = root_shows c.self.inside.nodes roots c.self.inside.reserved c.args.version c.self.invariant.0 within in
     c.items.ensures ∙ ap (λ (r : Root). r.size.units) root_is ∙ shows.1 ∙ ap (λ xs. length (units xs)) (sym list)

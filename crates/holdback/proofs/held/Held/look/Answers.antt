@@ -1,6 +1,6 @@
 use Rattle.std.proofs.Common.{◌∙◌, true, cond, Ok, Err, ap, sym, map}
 use Rattle.opid.specs.declared.refusal.Refusal.TheVariants.{Conflict}
-use Rattle.holdback.specs.Offered.{HeldOperations, look_for}
+use Rattle.opid.specs.Held.{HeldOperations, look_for}
 use Rattle.holdback.specs.Internal.Packed.{unpacked}
 use Rattle.holdback.proofs.Numbers.{not_among, among}
 use Rattle.holdback.proofs.held.Held.look.Goals as goal

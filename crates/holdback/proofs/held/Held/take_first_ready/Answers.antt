@@ -2,9 +2,9 @@
 use Rattle.std.proofs.Common.{length, ◌≡◌, ◌∙◌, None, Some, List, ap, sym, arith, map, position}
 use Rattle.opid.specs.Clocks.{is_next}
 use Rattle.opid.specs.Operations.{Operation, number_of}
-use Rattle.holdback.specs.Offered.{HeldOperations}
+use Rattle.opid.specs.Held.{HeldOperations}
 use Rattle.holdback.specs.Internal.Packed.{unpacked}
-use Rattle.holdback.specs.Ready.{first_ready, without_first_ready}
+use Rattle.opid.specs.Held.{first_ready, without_first_ready}
 use Rattle.holdback.proofs.Places.{none_taken, all_left, taken-ready}
 use Rattle.holdback.proofs.Numbers.{both_removed, no_more}
 use Rattle.holdback.proofs.held.Held.take_first_ready.Goals as goal
@@ -21,8 +21,8 @@ returns-in-None-clause-others c =
     let clock = c.args.clock.now in
     let none : None ≡ position (λ (x : Operation). is_next x.site x.clock clock) c.self.inside.kept.ops =
     c.in-None.ensures in
-    let with_ops : List Operation → HeldOperations = λ ops. record { ops = ops; room = c.self.inside.kept.room } in
-    let others_of : HeldOperations → HeldOperations = λ h. record { ops = without_first_ready clock h.ops; room = h.room } in
+    let with_ops : List Operation → HeldOperations = λ ops. record { ops = ops; reserved = c.self.inside.kept.reserved } in
+    let others_of : HeldOperations → HeldOperations = λ h. record { ops = without_first_ready clock h.ops; reserved = h.reserved } in
     sym c.self.view_is ∙ ap with_ops (all_left clock c.self.inside.kept.ops none) ∙ ap others_of c.self.view_is
 
 pub returns-in-Some-clause-ready : goal.returns-in-Some-clause-ready
@@ -41,7 +41,7 @@ invariant_of-self c = (
         c.in-Some.place,
     c.self.invariant.0,
   ),
-  omega (arith, ap (λ (h : HeldOperations). h.room) c.remove-in-Some.ensures.others, c.remove.ensures.capacity, c.self.invariant.1),
+  omega (arith, ap (λ (h : HeldOperations). h.reserved) c.remove-in-Some.ensures.others, c.remove.ensures.capacity, c.self.invariant.1),
   ap (map unpacked) c.remove.ensures.items
       ∙ both_removed c.self.inside.numbers.items c.self.inside.kept.ops c.in-Some.place c.self.invariant.2
       ∙ ap (λ (h : HeldOperations). map number_of h.ops) (sym c.remove-in-Some.ensures.others),

@@ -1,7 +1,7 @@
 use Rattle.std.proofs.Common.{◌-◌, ◌<◌, ◌≤◌, List, ℕ, ap, ◌∙◌, arith, length, set, vec_len}
 use Rattle.std.specs.List.{remove}
 use Rattle.opid.specs.Operations.{Operation}
-use Rattle.holdback.specs.Offered.{HeldOperations}
+use Rattle.opid.specs.Held.{HeldOperations}
 use Rattle.holdback.proofs.Slotted.{arranged_length, moved_back, taken_out, same_slots}
 use Rattle.holdback.proofs.in_order.InOrder.remove.Goals as goal
 
@@ -35,10 +35,11 @@ returns-clause-others c =
     let at = there c in
     let order : List ℕ = c.self.inside.order.items in
     let later : List ℕ = set c.copy_within.new.self.items (c.self.inside.len - 1) c.index-slot.result.now in
-    let with_ops : List Operation → HeldOperations = λ ops. record { ops = ops; room = c.self.inside.room } in
+    let with_ops : List Operation → HeldOperations = λ ops. record { ops = ops; reserved = c.self.inside.reserved } in
     ap with_ops
     (taken_out c.self.inside.slots.items order later c.self.inside.len (c.self.inside.len - 1) c.args.place c.index-slot.result.now
     (omega (arith, at.0)) at.0 at.1
     (moved_back order later c.self.inside.len c.args.place c.index-slot.result.now at.0 at.1
     (ap (λ ks. set ks (c.self.inside.len - 1) c.index-slot.result.now) c.copy_within.ensures.items)))
-    ∙ ap (λ (h : HeldOperations). let r : HeldOperations = record { ops = remove h.ops c.args.place; room = h.room } in r) c.self.view_is
+    ∙ ap (λ (h : HeldOperations). let r : HeldOperations = record { ops = remove h.ops c.args.place; reserved = h.reserved } in r)
+    c.self.view_is

@@ -1,8 +1,8 @@
 -- A line is answered by what the desk did, or by its refusal.
 use Rattle.std.proofs.Common.{◌≡◌, MatchResult, refl, subst, Err}
 use Rattle.wire_json.specs.Text.{text}
-use Rattle.room_calls.specs.declared.reply.Reply.{Reply}
-use Rattle.room_calls.specs.declared.reply.Reply.TheVariants.{No}
+use Rattle.room_model.specs.declared.reply.Reply.{Reply}
+use Rattle.room_model.specs.declared.reply.Reply.TheVariants.{No}
 use Rattle.line_engine.specs.AnsweredRequests.{reply_of}
 use Rattle.line_engine.specs.Lines.{ended}
 use Rattle.line_engine.specs.LineBytes.{line_bytes, TellsNoRefusal}

@@ -29,9 +29,9 @@ invariant_of-self-2 c =
           c.site-site.ensures.value sited c.version-place.ensures.value c.push.ensures.rows);
       reserved = omega (
         arith,
-        ap (λ (r : Document). r.room) c.in_ok-integrate.ensures.grown,
-        ap (λ (r : AllPlaces). r.room) c.in_ok-reserve.ensures.ok,
-        c.push.ensures.room,
+        ap (λ (r : Document). r.reserved) c.in_ok-integrate.ensures.grown,
+        ap (λ (r : AllPlaces). r.reserved) c.in_ok-reserve.ensures.ok,
+        c.push.ensures.reserved,
         c.self.invariant.reserved,
       );
     }

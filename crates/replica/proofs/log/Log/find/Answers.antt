@@ -1,7 +1,7 @@
 -- An operation is found by the place in its site's row.
 use Rattle.std.proofs.Common.{◌∙◌, ◌<◌, ◌-◌, ℕ, ap, sym, arith}
 use Rattle.std.specs.Prelude.{slice_get, option_and_then}
-use Rattle.holdback.specs.Offered.{with_number}
+use Rattle.opid.specs.Held.{with_number}
 use Rattle.versions.specs.Document.{Document}
 use Rattle.replica.proofs.Numbers.{with_number-zero, with_number-row, row-within}
 use Rattle.replica.proofs.log.Log.find.Goals as goal

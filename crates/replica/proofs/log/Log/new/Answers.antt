@@ -11,5 +11,5 @@ invariant_of-result c = record {
   lawful = subst (λ (v : Document). IsLawful v.log) (sym c.new.ensures) tt;
   numbered = subst (λ (v : Document). AreNumbered v.log c.new-2.result.rows) (sym c.new.ensures)
       (subst (λ (v : AllPlaces). AreNumbered [] v.rows) (sym c.new-2.ensures) AreNumbered-none);
-  reserved = omega (arith, ap (λ (v : Document). v.room) c.new.ensures, ap (λ (v : AllPlaces). v.room) c.new-2.ensures);
+  reserved = omega (arith, ap (λ (v : Document). v.reserved) c.new.ensures, ap (λ (v : AllPlaces). v.reserved) c.new-2.ensures);
 }

@@ -1,4 +1,4 @@
--- Each row has room for as many.
+-- Each row has memory for as many.
 use Rattle.std.proofs.Common.{arith}
 use Rattle.replica.proofs.places.Places.reserve.Goals as goal
 

@@ -1,7 +1,7 @@
 use Rattle.std.proofs.Common.{◌≡◌, [], ◌∷◌, true, false, sym, subst, get_or, rules, ◌∙◌}
-use Rattle.room_calls.specs.declared.call.Call.TheVariants as calls
-use Rattle.room.specs.Machine.{may_record}
-use Rattle.replica_world.specs.World.{call_of, room_of, NeedsMemory}
+use Rattle.room_model.specs.declared.call.Call.TheVariants as calls
+use Rattle.room_model.specs.Machine.{may_record}
+use Rattle.room_model.specs.World.{call_of, room_of, NeedsMemory}
 use Rattle.replica_world.proofs.Placed.{full_world, needs_memory, on_err}
 use Rattle.replica_world.proofs.world.World.put_at.Goals as goal
 

@@ -58,8 +58,8 @@ returns-clause-stamp c = (_, names c)
 
 pub returns-clause-list : goal.returns-clause-list
 returns-clause-list c target e =
-    ap₂ (λ (v : List Entry) (n : ℕ). let r : LinkedElements = record { entries = v; room = n } in r) (after c target e).1
-    (ap (λ (r : LinkedElements). r.room) c.self.view_is)
+    ap₂ (λ (v : List Entry) (n : ℕ). let r : LinkedElements = record { entries = v; reserved = n } in r) (after c target e).1
+    (ap (λ (r : LinkedElements). r.reserved) c.self.view_is)
 
 pub returns-clause-shown : goal.returns-clause-shown
 returns-clause-shown c target e = (after c target e).2

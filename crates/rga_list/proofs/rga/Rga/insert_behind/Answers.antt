@@ -9,7 +9,7 @@ use Rattle.rga_list.specs.Internal.SiteIds.{SiteIds}
 use Rattle.rga_list.specs.Internal.Links.{order_of, entries_of, ids_at, IsList, following, put_in, first_then}
 use Rattle.rga_list.proofs.Ordered.{length-entries, row_same, row-below}
 use Rattle.rga_list.proofs.Own.{AreOfOwn-once}
-use Rattle.rga_list.proofs.Reserved.{room-pushed}
+use Rattle.rga_list.proofs.Reserved.{reserved-pushed}
 use Rattle.rga_list.proofs.Put.{next_within}
 use Rattle.rga_list.proofs.Behind.{placed-behind}
 use Rattle.rga_list.proofs.Integrated.{made, inserted}
@@ -82,9 +82,9 @@ invariant_of-self-2 c =
     let width : c.from-site.result < length c.self.inside.tables =
     omega (arith, c.from-site.ensures, c.number.ensures.range, c.self.invariant.0.width) in
     let ahead : c.saturating_sub-self-inside-2.result ≡ c.self.inside.ahead - 1 = c.saturating_sub-self-inside-2.ensures in
-    let row : c.push.new.self.room ≡ (ids_at c.self.inside.tables c.from-site.result).room - 1 =
-    ap (λ (r : SiteIds). r.room) c.in_ok-push.ensures.ok
-    ∙ ap (λ (r : SiteIds). r.room - 1) (row_same c.self.inside.tables c.from-site.result c.from-site.result c.index-self-site.result
+    let row : c.push.new.self.reserved ≡ (ids_at c.self.inside.tables c.from-site.result).reserved - 1 =
+    ap (λ (r : SiteIds). r.reserved) c.in_ok-push.ensures.ok
+    ∙ ap (λ (r : SiteIds). r.reserved - 1) (row_same c.self.inside.tables c.from-site.result c.from-site.result c.index-self-site.result
     refl width) in (
       (after c).0,
       record {
@@ -98,8 +98,9 @@ invariant_of-self-2 c =
           c.reserve.ensures.capacity,
           c.self.invariant.1.elements,
         );
-        ids = λ k l. subst (λ n. n ≤ (ids_at (set c.self.inside.tables c.from-site.result c.push.new.self) k).room) (sym ahead)
-            (room-pushed c.self.inside.tables c.from-site.result k c.self.inside.ahead c.push.new.self width row c.self.invariant.1.ids l
+        ids = λ k l. subst (λ n. n ≤ (ids_at (set c.self.inside.tables c.from-site.result c.push.new.self) k).reserved) (sym ahead)
+            (reserved-pushed c.self.inside.tables c.from-site.result k c.self.inside.ahead
+            c.push.new.self width row c.self.invariant.1.ids l
             (omega (arith, c.from-site.ensures, c.number.ensures.range)));
       },
       omega (arith, ahead, c.saturating_sub-self-inside.ensures, c.self.invariant.2),
@@ -107,9 +108,9 @@ invariant_of-self-2 c =
 
 pub returns-clause-list : goal.returns-clause-list
 returns-clause-list c =
-    ap₂ (λ (e : List Entry) (n : ℕ). let r : LinkedElements = record { entries = e; room = n } in r)
+    ap₂ (λ (e : List Entry) (n : ℕ). let r : LinkedElements = record { entries = e; reserved = n } in r)
     (after c).1
-    (c.saturating_sub-self-inside.ensures ∙ ap (λ (r : LinkedElements). r.room - 1) c.self.view_is)
+    (c.saturating_sub-self-inside.ensures ∙ ap (λ (r : LinkedElements). r.reserved - 1) c.self.view_is)
 
 pub returns-clause-before : goal.returns-clause-before
 returns-clause-before c = (after c).2

@@ -49,7 +49,7 @@ pub returns-clause-list : goal.returns-clause-list
 returns-clause-list c =
     let is = c.in_ok-elem.ensures.list in
     let stands = c.in_ok-elem.ensures.placed c.args.parent c.in_ok-before.ensures.ok (ended c) in
-    is ∙ ap (λ (es : List Entry). let r : LinkedElements = record { entries = es; room = c.args.self.now.room - 1 } in r)
+    is ∙ ap (λ (es : List Entry). let r : LinkedElements = record { entries = es; reserved = c.args.self.now.reserved - 1 } in r)
     (sym (ap (λ (r : LinkedElements). r.entries) is) ∙ stands)
 
 pub returns-clause-shows : goal.returns-clause-shows

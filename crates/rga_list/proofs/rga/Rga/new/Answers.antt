@@ -9,7 +9,7 @@ use Rattle.rga_list.proofs.rga.Rga.new.Goals as goal
 
 pub invariant_of-result : goal.invariant_of-result
 invariant_of-result c =
-    let blank : SiteIds = record { ids = []; room = 0 } in
+    let blank : SiteIds = record { ids = []; reserved = 0 } in
     let made : (k : ℕ) → k < 32 → ids_at c.from_fn.result k ≡ blank =
     λ k l. (let h = c.from_fn.ensures.items.at k blank l in search rules) in
     let each : (k : ℕ) → ids_at c.from_fn.result k ≡ blank =

@@ -1,4 +1,4 @@
--- A reserve leaves what holds of the list, and the room is there.
+-- A reserve leaves what holds of the list, and the memory is there.
 use Rattle.std.proofs.Common.{List, subst, sym, arith}
 use Rattle.rga_list.specs.declared.links.Node.{Node}
 use Rattle.rga_list.specs.Internal.Links.{IsList}

@@ -1,7 +1,7 @@
 -- What may lack memory of the parts may lack it of the machine.
 use Rattle.std.proofs.Common.{Result, Ok, Err, subst}
 use Rattle.std.specs.Prelude.{OnErr}
-use Rattle.room.specs.Machine.{State}
+use Rattle.room_model.specs.Machine.{State}
 use Rattle.room.specs.Internal.Parts.{MayLackMemory}
 use Rattle.room.proofs.machine.Machine.answer.Goals as goal
 

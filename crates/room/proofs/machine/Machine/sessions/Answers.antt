@@ -1,6 +1,6 @@
 -- Sessions have rising numbers, so there are fewer than the number that the next one gets.
 use Rattle.std.proofs.Common.{ℕ, ◌+◌, ◌<◌, List, [], ◌∷◌, length, arith}
-use Rattle.session_outbox.specs.Sessions.{Session, HaveRisingNumbers}
+use Rattle.opid.specs.Sessions.{Session, HaveRisingNumbers}
 use Rattle.room.proofs.machine.Machine.sessions.Goals as goal
 
 fewer_than_next : (low next : ℕ) (ws : List Session) → HaveRisingNumbers low next ws → low + length ws < next

@@ -2,10 +2,10 @@ use Rattle.std.proofs.Common.{refl, ◌≡◌, ◌+◌, ◌^◌, ◌<◌, ◌≤
 use Rattle.std.proofs.Common.{append_assoc}
 use mathlib.Core.Path.{ap₂}
 use Rattle.std.proofs.lemmas.List.{take_more}
-use Rattle.room_calls.specs.declared.call.Call.{Call}
-use Rattle.room_calls.specs.declared.reply.Reply.{Reply}
-use Rattle.room.specs.Machine.{State, answer}
-use Rattle.room.specs.History.{Account, mark, called, ran, answers, after}
+use Rattle.room_model.specs.declared.call.Call.{Call}
+use Rattle.room_model.specs.declared.reply.Reply.{Reply}
+use Rattle.room_model.specs.Machine.{State, answer}
+use Rattle.room_model.specs.History.{Account, mark, called, ran, answers, after}
 use Rattle.room.proofs.Histories.{mark-within, ran-push, ran-state, answers-push}
 use Rattle.room.proofs.Intentions.{keeps_intentions}
 use Rattle.room.proofs.room.Room.run.Goals as goal

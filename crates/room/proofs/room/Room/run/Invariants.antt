@@ -1,5 +1,5 @@
 use Rattle.std.proofs.Common.{◌≡◌, ◌+◌, ◌^◌, ◌≤◌, ◌++◌, length, take}
-use Rattle.room.specs.History.{mark, answers, ran, IsConsistent}
+use Rattle.room_model.specs.History.{mark, answers, ran, IsConsistent}
 use Rattle.room.proofs.room.Room.run.Given as goal
 
 -- the calls so far are answered

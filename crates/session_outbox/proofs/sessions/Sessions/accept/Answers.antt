@@ -1,5 +1,5 @@
 use Rattle.std.proofs.Common.{◌∙◌, List, ap, refl, subst, sym}
-use Rattle.session_outbox.specs.Sessions.{Session, Outbox, HaveRisingNumbers, with_accepted, after_accept}
+use Rattle.opid.specs.Sessions.{Session, Outbox, HaveRisingNumbers, with_accepted, after_accept}
 use Rattle.session_outbox.specs.Internal.Kept.{sessions_of}
 use Rattle.session_outbox.proofs.Numbered.{numbered-changed}
 use Rattle.session_outbox.proofs.sessions.Sessions.accept.Goals as goal

@@ -1,5 +1,5 @@
 use Rattle.std.proofs.Common.{◌≡◌, ◌∙◌, ◌+◌, List, None, ap, refl, subst, sym}
-use Rattle.session_outbox.specs.Sessions.{Session, Outbox, HaveRisingNumbers, session_with, joined, after_join}
+use Rattle.opid.specs.Sessions.{Session, Outbox, HaveRisingNumbers, session_with, joined, after_join}
 use Rattle.session_outbox.specs.Internal.Kept.{sessions_of}
 use Rattle.session_outbox.proofs.Entries.{inserted}
 use Rattle.session_outbox.proofs.Numbered.{numbered-joined, next_is_new}

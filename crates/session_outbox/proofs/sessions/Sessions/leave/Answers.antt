@@ -1,5 +1,5 @@
 use Rattle.std.proofs.Common.{List, subst, sym}
-use Rattle.session_outbox.specs.Sessions.{Session, HaveRisingNumbers}
+use Rattle.opid.specs.Sessions.{Session, HaveRisingNumbers}
 use Rattle.session_outbox.specs.Internal.Kept.{sessions_of}
 use Rattle.session_outbox.proofs.Numbered.{numbered-without}
 use Rattle.session_outbox.proofs.sessions.Sessions.leave.Goals as goal

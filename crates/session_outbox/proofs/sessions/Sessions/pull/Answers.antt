@@ -1,7 +1,7 @@
 use Rattle.std.proofs.Common.{◌≡◌, ℕ, List, Result, Ok, Err, refl, subst, sym}
 use Rattle.std.specs.Prelude.{IfOk, OnErr}
 use Rattle.opid.specs.declared.refusal.Refusal.{Refusal}
-use Rattle.session_outbox.specs.Sessions.{Session, HaveRisingNumbers, change_session, sent_to}
+use Rattle.opid.specs.Sessions.{Session, HaveRisingNumbers, change_session, sent_to}
 use Rattle.session_outbox.specs.Internal.Kept.{sessions_of}
 use Rattle.session_outbox.proofs.Numbered.{numbered-changed}
 use Rattle.session_outbox.proofs.sessions.Sessions.pull.Goals as goal

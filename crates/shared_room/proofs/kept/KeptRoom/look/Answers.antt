@@ -1,9 +1,9 @@
 -- What is told is of the room's state, to which its history leads.
 use Rattle.std.proofs.Common.{◌≡◌, ℕ, ◌∙◌, ap, sym, subst, List, length, drop}
 use Rattle.opid.specs.Operations.{Operation}
-use Rattle.room_calls.specs.declared.call.Call.{Call}
-use Rattle.room.specs.Machine.{State}
-use Rattle.room.specs.History.{Account, state_of}
+use Rattle.room_model.specs.declared.call.Call.{Call}
+use Rattle.room_model.specs.Machine.{State}
+use Rattle.room_model.specs.History.{Account, state_of}
 use Rattle.shared_room.proofs.Looking.{rest_of_log}
 use Rattle.shared_room.proofs.kept.KeptRoom.look.Goals as goal
 

@@ -12,5 +12,5 @@ look_up-requires-clause-sound c = IsSound-lawful c.self.inside.log.ops c.self.in
 pub returns-clause-leads : goal.returns-clause-leads
 returns-clause-leads c =
     ap (λ (l : List Operation). apply (reading l) c.integrate-edit.result)
-    (sym (c.make_room.ensures.log ∙ ap (λ (r : Document). r.log) c.self.view_is))
+    (sym (c.reserve_next.ensures.log ∙ ap (λ (r : Document). r.log) c.self.view_is))
     ∙ c.integrate-edit.ensures.leads

@@ -1,7 +1,7 @@
 use Rattle.std.proofs.Common.{◌≡◌, ◌∙◌, ◌<◌, ap, arith, subst}
 use Rattle.opid.specs.Lawful.{IsRisingAt}
 use Rattle.versions.specs.Document.{Document}
-use Rattle.versions.specs.Sums.{last_sum}
+use Rattle.opid.specs.Rising.{last_sum}
 use Rattle.versions.proofs.Integrated.{above_last_sum}
 use Rattle.versions.proofs.doc.Doc.last_sum.Goals as goal
 

@@ -4,8 +4,8 @@ use Rattle.std.proofs.lemmas.Option.{slice_get_read}
 use Rattle.std.proofs.lemmas.List.Elements.{All-head, All-same, All-drop}
 use Rattle.std.specs.Vec.Iter.{into_iter_len}
 use Rattle.indexmap.proofs.CallerLemmas.{insert_entry-new}
-use Rattle.replica.specs.Deliver.{ReplicaState}
-use Rattle.room.specs.Machine.{room_over}
+use Rattle.opid.specs.Delivered.{ReplicaState}
+use Rattle.room_model.specs.Machine.{room_over}
 use Rattle.shared_room.specs.Views.{view, opening}
 use Rattle.ws_server.specs.Halls.{first_view}
 use Rattle.ws_server.proofs.Passes.{hall_grows, map_grows, map_next}

@@ -1,6 +1,6 @@
 use Rattle.std.proofs.Common.{◌≡◌, ◌+◌, length, map, take, drop, string_bytes}
 use Rattle.std.specs.Vec.Iter.{into_iter_items, into_iter_len}
-use Rattle.room.specs.Machine.{room_over}
+use Rattle.room_model.specs.Machine.{room_over}
 use Rattle.shared_room.specs.Views.{view, opening}
 use Rattle.ws_server.specs.Halls.{ArePassesOf, first_view}
 use Rattle.ws_server.proofs.hall.Hall.of_replicas.Given as goal

@@ -7,9 +7,9 @@ use Rattle.opid.specs.Operations.{Operation}
 use Rattle.opid.specs.Units.{text_in}
 use Rattle.opid.specs.Reading.{reading_in_at}
 use Rattle.opid.specs.Splice.{play_in}
-use Rattle.session_outbox.specs.Sessions.{Session}
-use Rattle.room_calls.specs.declared.reply.Reply.{Reply}
-use Rattle.room_calls.specs.declared.reply.Reply.TheVariants.{Joined, Ok, Edits, Left, Ops, Put, Text, No}
+use Rattle.opid.specs.Sessions.{Session}
+use Rattle.room_model.specs.declared.reply.Reply.{Reply}
+use Rattle.room_model.specs.declared.reply.Reply.TheVariants.{Joined, Ok, Edits, Left, Ops, Put, Text, No}
 
 -- what an editor shows: its text, and the version that it says it has
 pub record Editor : Type 0 where

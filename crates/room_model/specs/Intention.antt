@@ -4,12 +4,12 @@ use Rattle.std.specs.Prelude.{◌≡◌, ℕ, Bool, false, ◌-◌, ◌≤◌, L
 use mathlib.Core.List.{IsPrefix}
 use Rattle.opid.specs.Operations.{Operation}
 use Rattle.opid.specs.Asked.{asked_insertions_in, asked_deletions_in, IsPlaced_in}
-use Rattle.session_outbox.specs.declared.submission.Submission.TheVariants.{New}
-use Rattle.room_calls.specs.declared.call.Call.{Call}
-use Rattle.room_calls.specs.declared.call.Call.TheVariants.{Ins, Del}
-use Rattle.room_calls.specs.declared.reply.Reply.TheVariants as replies
-use Rattle.room.specs.Machine.{State, counts_units, check, answer}
-use Rattle.room.specs.History.{Account, state_of}
+use Rattle.opid.specs.declared.submission.Submission.TheVariants.{New}
+use Rattle.room_model.specs.declared.call.Call.{Call}
+use Rattle.room_model.specs.declared.call.Call.TheVariants.{Ins, Del}
+use Rattle.room_model.specs.declared.reply.Reply.TheVariants as replies
+use Rattle.room_model.specs.Machine.{State, counts_units, check, answer}
+use Rattle.room_model.specs.History.{Account, state_of}
 
 -- whether the call is a submission of a session whose places count UTF-16 units; no other call names a place
 abbrev pub names_units : State → Call → Bool

@@ -12,7 +12,7 @@ pub struct Outcomes {
 
 impl Model for Outcomes {
     ghost use Rattle.std.specs.Prelude.{List};
-    ghost use Rattle.room_calls.specs.declared.outcome.Outcome.{Outcome};
+    ghost use Rattle.room_model.specs.declared.outcome.Outcome.{Outcome};
 
     ghost Value = { List Outcome };
 

@@ -8,12 +8,12 @@ use Rattle.opid.specs.Delivery.{clock_of}
 use Rattle.opid.specs.Reading.{reading}
 use Rattle.opid.specs.Lawful.{IsPart}
 use Rattle.opid.specs.Strong.{SiteLog, AreLawful, AreOfOneWorld, IsOfOne, HaveOneOrder, IsWhole}
-use Rattle.holdback.specs.First.{NoneReady}
-use Rattle.room.specs.History.{Account, mark, IsConsistent}
-use Rattle.room.specs.Convergence.{EditorsConverge, EditorsKeepUp}
-use Rattle.room.specs.Intention.{KeepsIntentions, OnlyGrows}
-use Rattle.replica_world.specs.World.{logs_of}
-use Rattle.replica_world.specs.Received.{got}
+use Rattle.opid.specs.Held.{NoneReady}
+use Rattle.room_model.specs.History.{Account, mark, IsConsistent}
+use Rattle.room_model.specs.Convergence.{EditorsConverge, EditorsKeepUp}
+use Rattle.room_model.specs.Intention.{KeepsIntentions, OnlyGrows}
+use Rattle.room_model.specs.World.{logs_of}
+use Rattle.room_model.specs.Received.{got}
 
 -- the logs of a world, none of which is too long
 pub record AreLogs (logs : List SiteLog) : Type 0 where

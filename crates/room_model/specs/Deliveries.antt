@@ -3,11 +3,11 @@
 use Rattle.std.specs.Prelude.{ℕ, Result, Ok, Err, List, [], ◌∷◌}
 use Rattle.opid.specs.declared.refusal.Refusal.{Refusal}
 use Rattle.opid.specs.Operations.{Operation}
-use Rattle.replica.specs.declared.delivery.Delivery.{Delivery}
-use Rattle.replica.specs.declared.delivery.Delivery.TheVariants as deliveries
-use Rattle.replica.specs.Deliver.{Delivered, deliver}
-use Rattle.room_calls.specs.declared.outcome.Outcome.{Outcome}
-use Rattle.room_calls.specs.declared.outcome.Outcome.TheVariants.{Took, Kept, Again, No}
+use Rattle.opid.specs.declared.delivery.Delivery.{Delivery}
+use Rattle.opid.specs.declared.delivery.Delivery.TheVariants as deliveries
+use Rattle.opid.specs.Delivered.{Delivered, deliver}
+use Rattle.room_model.specs.declared.outcome.Outcome.{Outcome}
+use Rattle.room_model.specs.declared.outcome.Outcome.TheVariants.{Took, Kept, Again, No}
 
 -- what a `put` tells of a delivery
 abbrev pub outcome_of : Result Delivery Refusal → Outcome

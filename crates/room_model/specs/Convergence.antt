@@ -3,14 +3,14 @@
 use Rattle.std.specs.Prelude.{◌≡◌, ◌⊎◌, ℕ, Bool, false, ◌==◌, if◌then◌else◌, Option, Some, None, option_map, option_and_then, MatchOption}
 use Rattle.std.specs.Prelude.{List, [], ◌∷◌}
 use Rattle.std.specs.List.{AllByRecursion}
-use Rattle.session_outbox.specs.Sessions.{Session, session_with}
-use Rattle.room_calls.specs.declared.call.Call.{Call}
-use Rattle.room_calls.specs.declared.call.Call.TheVariants.{Join, Ins, Del, Pull, Leave, Ops, Put, Read}
-use Rattle.room_calls.specs.declared.reply.Reply.{Reply}
-use Rattle.room_calls.specs.declared.reply.Reply.TheVariants as replies
-use Rattle.room.specs.Machine.{State, may_record, answer, next}
-use Rattle.room.specs.History.{Account}
-use Rattle.room.specs.Editor.{Editor, empty_editor, with_reply_in, editor_in, IsInStep}
+use Rattle.opid.specs.Sessions.{Session, session_with}
+use Rattle.room_model.specs.declared.call.Call.{Call}
+use Rattle.room_model.specs.declared.call.Call.TheVariants.{Join, Ins, Del, Pull, Leave, Ops, Put, Read}
+use Rattle.room_model.specs.declared.reply.Reply.{Reply}
+use Rattle.room_model.specs.declared.reply.Reply.TheVariants as replies
+use Rattle.room_model.specs.Machine.{State, may_record, answer, next}
+use Rattle.room_model.specs.History.{Account}
+use Rattle.room_model.specs.Editor.{Editor, empty_editor, with_reply_in, editor_in, IsInStep}
 
 -- the session that a joined reply opens
 abbrev pub opened_by : Reply → Option ℕ

@@ -1,0 +1,11 @@
+pub mod Deliveries
+pub mod Machine
+pub mod History
+pub mod Editor
+pub mod Convergence
+pub mod Intention
+pub mod Desks
+pub mod World
+pub mod Received
+pub mod Carried
+pub mod Converges
