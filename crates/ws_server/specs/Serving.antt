@@ -14,6 +14,8 @@ use Rattle.line_engine.specs.LineBytes.{TellsNoRefusal}
 use Rattle.line_engine.specs.declared.fault.ServeFault.{ServeFault}
 use Rattle.line_engine.specs.declared.fault.ServeFault.TheVariants.{Read, Write, Memory}
 use Rattle.ws_server.specs.declared.hall.Hall.{Hall}
+use Rattle.ws_server.specs.declared.socket.HandshakeFault.{HandshakeFault}
+use Rattle.ws_server.specs.declared.socket.HandshakeFault.TheVariants.{Memory as NoMemory}
 use Rattle.ws_server.specs.Frames.{Side, AnswersFrame}
 use Rattle.ws_server.specs.Gates.{TellsAfter}
 use Rattle.ws_server.specs.Sockets.{Sends, IsOfHandshake}
@@ -42,6 +44,11 @@ RefusesSize sends why mid last = last ≡ mid
 abbrev pub fault_of_send : Error → ServeFault
 fault_of_send OutOfMemory = Memory
 fault_of_send why = Write
+
+-- how serving ends where there is no connection: with `Read` for all but want of memory
+abbrev pub fault_of_handshake : HandshakeFault → ServeFault
+fault_of_handshake NoMemory = Memory
+fault_of_handshake why = Read
 
 -- a connection that has opened no room and made no call
 abbrev pub IsNew : Conn → Type 0
