@@ -398,13 +398,13 @@ export class Document {
   }
 
   /**
-   * The room has lost all that came behind so many entries of the memory. What was done here since is new again, what others did is
-   * undone: they do it again. Gives the changes of the shown text.
+   * The room has lost all that came behind so many entries of the memory, as `Memory.since` tells. What was done here since is new again,
+   * what others did is undone: they do it again. Gives the changes of the shown text.
    */
-  goBack(length) {
+  goBack(length, isOwnAlone = false) {
     const ways = [];
     this.takeBack();
-    for (const entry of this.memory.since(length)) {
+    for (const entry of this.memory.since(length, isOwnAlone)) {
       ways.push(...entry.ways.reverse());
       this.version = Math.min(this.version, entry.from);
     }

@@ -144,12 +144,18 @@ export class Memory {
     return length;
   }
 
-  /** Forgets all but so many entries, the last one first. Where these are less than none the text at the base goes, too. */
-  *since(length) {
+  /**
+   * Forgets all but so many entries, the last one first. Where these are less than none the text at the base goes, too, or what was put in
+   * here of it alone.
+   */
+  *since(length, isOwnAlone) {
     for (; this.#entries.length > Math.max(0, length); this.#known = null) yield this.#entries.pop();
     if (length >= 0) return;
-    yield { from: 0, ways: [...runsOf(this.#own.all, 0, this.#own.length)].reverse() };
-    [this.base, this.#before, this.#own, this.#known] = [0, [], new Gap(new Int32Array(0)), null];
+    const own = this.#own.all;
+    const ways = [...runsOf(own, 0, own.length)].filter(({ isOwn }) => isOwn || !isOwnAlone).reverse();
+    const left = isOwnAlone ? own.filter((isOwn) => isOwn === 0) : new Int32Array(0);
+    yield { from: 0, ways };
+    [this.base, this.#before, this.#own, this.#known] = [0, [], new Gap(left), null];
   }
 
   /** How many entries lead to the last of the room's texts, up to the one of now, that is the wanted one; null where none is. */
@@ -167,7 +173,7 @@ export class Memory {
 
   /**
    * The entries that put in something here that the room's text of so many units still has, the last first: how many lead to each, and
-   * where.
+   * where. What the text at the base has of that is the last one, which less than none lead to.
    */
   *ownEntries(units) {
     const now = new Gap(Int32Array.from({ length: units }, (_, place) => place));
@@ -179,5 +185,8 @@ export class Memory {
       }
       if (places.length > 0) yield { length, places };
     }
+    const own = this.#own.all;
+    const places = [...now.all].filter((place, n) => own[n] === 1 && place >= 0);
+    if (places.length > 0) yield { length: -1, places };
   }
 }

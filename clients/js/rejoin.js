@@ -20,6 +20,9 @@ const PIECE = 8;
 /** Two don't put in the same so many units at one time. */
 const LONG = 16;
 
+/** Nobody deletes all that another put in at so many places, and not what stands beside it there. */
+const PLACES = 4;
+
 /** The distance of texts that differ in more units is told only about. */
 const FAR = 2_000;
 
@@ -74,7 +77,7 @@ async function wayWithin(document, room, log, edits, others) {
   if (first?.text === document.roomText) return () => renew(document, first, before);
   const isBefore = isOlder && own() <= 0;
   if (isBefore) return goBack({ kept: memory.joined, isBefore });
-  const isAgain = lost?.kept === 0 && first !== null && memory.sites.has(first.last[0].site);
+  const isAgain = lost?.isSure === false && first !== null && memory.sites.has(first.last[0].site);
   const isOfOthers = memory.base === 0 && memory.joined > 0; // what was joined last: one's own was lost before, and came in again behind it
   if (isAgain && !isOfOthers && isOfOther(document, first, before)) return goBack(lost);
   if (first?.isNew && isLike(before.text, first.text)) return () => renew(document, first, before);
@@ -106,7 +109,7 @@ function isOfOther({ roomText }, first, before) {
 
 /** How many units more a text has than it lacks of those that were put in here since the room was joined. */
 function ownIn({ memory, roomText }, text) {
-  const others = without(roomText, memory.ownEntries(roomText.length));
+  const others = without(roomText, [...memory.ownEntries(roomText.length)].filter(({ length }) => length >= 0));
   return distance(others, text) - distance(roomText, text);
 }
 
@@ -174,7 +177,8 @@ function hasCome({ roomText, textToCome, underWay }, text, away) {
 /**
  * The text that a new document was made of, and how many entries lead there: the last one that is the same. Else it was made by changes
  * that weren't seen, of a later one; but as far as all is missing that was put in here last, that was lost. Others put theirs in again.
- * Where it has what is under way, nothing was lost.
+ * What is older than all entries may be missing since others deleted it, unless it stood at many places. Where the new document has what is
+ * under way, nothing was lost.
  */
 function textBefore(document, wanted) {
   const { memory, roomText } = document;
@@ -183,6 +187,7 @@ function textBefore(document, wanted) {
   const away = distance(roomText, wanted);
   if (hasCome(document, wanted, away)) return { length: memory.length, text: roomText, hasCome: true };
   const own = [...memory.ownEntries(roomText.length)];
+  if (own.at(-1)?.length < 0 && placesOf(own, roomText, wanted) < PLACES) own.pop();
   const upTo = (entry) => without(roomText, own.slice(0, entry));
   const isMissing = (entry) => {
     const text = upTo(entry);
@@ -198,6 +203,16 @@ function textBefore(document, wanted) {
     else high = middle;
   }
   return { length: own[low - 1]?.length ?? memory.length, text: upTo(low) };
+}
+
+/** At how many places where something was put in here a text has what stands right before or behind it in the room's, a piece by itself. */
+function placesOf(entries, roomText, wanted) {
+  const [before, there] = [roomText, wanted].map((it) => piecesOf(it, PIECE));
+  const isThere = (piece) => before.get(piece) === 1 && there.has(piece);
+  const own = entries.flatMap(({ places }) => places).sort((one, other) => one - other);
+  const others = without(roomText, entries);
+  const places = [...new Set(own.map((place, n) => place - n))]; // in the text of others
+  return places.filter((at) => isThere(others.slice(Math.max(0, at - PIECE), at)) || isThere(others.slice(at, at + PIECE))).length;
 }
 
 /**
@@ -240,11 +255,11 @@ function inPieces(text, signs) {
   return pieces;
 }
 
-/** How often each piece of `SAME` units stands in a text. */
-function piecesOf(text) {
+/** How often each piece of so many units stands in a text. */
+function piecesOf(text, units = SAME) {
   const pieces = new Map();
-  for (let end = SAME; end <= text.length; end += 1) {
-    const piece = text.slice(end - SAME, end);
+  for (let end = units; end <= text.length; end += 1) {
+    const piece = text.slice(end - units, end);
     pieces.set(piece, 1 + (pieces.get(piece) ?? 0));
   }
   return pieces;
@@ -258,7 +273,7 @@ function isLike(before, text) {
 /** Takes a new document's text for the one that was known at some time, or for what became of it. */
 function renew(document, { text, version, last }, before) {
   let changes = [];
-  if (before.length < document.memory.length) changes = document.goBack(before.length);
+  if (before.length < document.memory.length) changes = document.goBack(before.length, true);
   else if (before.hasCome) document.came(document.version, Infinity);
   else document.takeBack();
   changes.push(...document.follow(new Document(text, version, last)));

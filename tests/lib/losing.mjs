@@ -46,8 +46,13 @@ async function goOn(room, ways, text) {
 
 /** What each typed is put in again by its own client, once, whatever the log lost of it. */
 async function losesItsEnd(without) {
-  const ways = await two("hello ", "world");
-  await goOn(await keptRun(ways[0].room, without), ways, "hello world");
+  const [one, other] = await two("hello ", "world");
+  const room = await keptRun(one.room, without);
+  one.cut(room);
+  await one.comesTo("up to date", "hello world".slice(0, Math.max(6, 11 - without))); // of two at once the later might stand first
+  await goOver(room, [other], "hello world");
+  await endsAs(one, "hello world");
+  await end(other);
 }
 
 /** Nothing was kept of a room's first run, and its site comes again. */
@@ -413,6 +418,65 @@ async function isRenewedWithAFewLetters() {
   await goOn(await renewedRun(way.room, WHALE.length), [way], `${WHALE}ab`);
 }
 
+/**
+ * While one is away whose text stands at so many places of a renewed room that is emptied, another puts its own in again, and the room is
+ * renewed once more: the one's comes again. Where it stands at few places another may have deleted it: then it stays away.
+ */
+async function isEmptiedBetweenRenewals(places, comesAgain) {
+  const [one, other] = await two("", WHALE);
+  let text = WHALE;
+  for (let n = 0; n < places; n += 1) {
+    const at = 14 * n + 7;
+    const put = SIGNS.slice(6 * n, 6 * n + 6);
+    text = text.slice(0, at) + put + text.slice(at);
+    one.editor.change(at, 0, put);
+  }
+  for (const way of [one, other]) await way.comesTo("up to date", text);
+  await goOver(await renewedRun(one.room), [one, other], text);
+  one.cutOff();
+  await one.comesTo("offline");
+  const empty = new Room(0);
+  other.cut(empty);
+  await other.comesTo("up to date", WHALE);
+  await goOn(await renewedRun(empty), [one, other], comesAgain ? text : WHALE);
+}
+
+/**
+ * A room is emptied, one puts its own in again, somebody types in it, and the room is renewed while two are away who had put in most of it.
+ * Its log begins as the one that they know, and has less than a quarter of their text: nobody is asked, and theirs comes again.
+ */
+async function isEmptiedAndRenewedWithLittle() {
+  const room = new Room(0);
+  const ways = [new Way(room), new Way(room), new Way(room)];
+  let text = "";
+  for (const way of ways) await way.comesTo("up to date", text);
+  for (const [n, put] of [WHALE, RABBIT, SIGNS].entries()) {
+    ways[n].editor.change(text.length, 0, put);
+    text += put;
+    for (const way of ways) await way.comesTo("up to date", text);
+  }
+  const [one, ...others] = ways;
+  for (const way of others) {
+    way.cutOff();
+    await way.comesTo("offline");
+  }
+  const empty = new Room(0);
+  one.cut(empty);
+  await one.comesTo("up to date", WHALE);
+  await typedBy(empty, 8, "> ");
+  const renewed = await renewedRun(empty);
+  await goOver(renewed, [one], `${WHALE.slice(0, 8)}> ${WHALE.slice(8)}`);
+  for (const [n, put] of [RABBIT, SIGNS].entries()) {
+    others[n].cut(renewed);
+    await until(() => one.editor.shown.includes(put), () => put);
+    assert.ok(!others[n].states.includes("another text"), "nobody is asked");
+  }
+  const shown = await textOf(renewed);
+  assert.equal(shown.length, text.length + 2);
+  for (const way of ways) await way.comesTo("up to date", shown);
+  await end(...ways);
+}
+
 /** A room without text is renewed, and somebody types there before two come back who show nothing: they aren't asked, and lose nothing. */
 async function isRenewedEmptyAndTypedIn() {
   const ways = await two("hello ", "world");
@@ -699,6 +763,9 @@ await Promise.all([
   isRenewed("hello ", "world", anewRun),
   isRenewed("a", "b", anewRun),
   isRenewedEmpty(),
+  isEmptiedBetweenRenewals(5, true),
+  isEmptiedBetweenRenewals(3, false),
+  isEmptiedAndRenewedWithLittle(),
   isRenewedEmptyAndTypedIn(),
   isRenewedWithAFewLetters(),
   isRenewedWhileMoreComes(),

@@ -102,10 +102,10 @@ export class Document {
         memory: any;
     }, isLost?: boolean): any[];
     /**
-     * The room has lost all that came behind so many entries of the memory. What was done here since is new again, what others did is
-     * undone: they do it again. Gives the changes of the shown text.
+     * The room has lost all that came behind so many entries of the memory, as `Memory.since` tells. What was done here since is new again,
+     * what others did is undone: they do it again. Gives the changes of the shown text.
      */
-    goBack(length: any): any[];
+    goBack(length: any, isOwnAlone?: boolean): any[];
     /** The room has the text with another log, of which so many operations make it. */
     renew(version: any, last: any): void;
     #private;

@@ -40,8 +40,11 @@ export class Memory {
     get length(): number;
     /** How many entries lead to a version; fewer where the entries don't tell it alone, and less than none before the base. */
     lengthAt(version: any): number;
-    /** Forgets all but so many entries, the last one first. Where these are less than none the text at the base goes, too. */
-    since(length: any): Generator<Entry | {
+    /**
+     * Forgets all but so many entries, the last one first. Where these are less than none the text at the base goes, too, or what was put in
+     * here of it alone.
+     */
+    since(length: any, isOwnAlone: any): Generator<Entry | {
         from: number;
         ways: {
             at: any;
@@ -54,7 +57,7 @@ export class Memory {
     lengthWhere(wanted: any, text: any): number | null;
     /**
      * The entries that put in something here that the room's text of so many units still has, the last first: how many lead to each, and
-     * where.
+     * where. What the text at the base has of that is the last one, which less than none lead to.
      */
     ownEntries(units: any): Generator<{
         length: number;
