@@ -143,8 +143,8 @@ export class Seat {
 
   /**
    * What the number is on a new line. The same run of the server answers the last accepted submission, asked for once more with an empty
-   * text, as it did. Where one was under way it may have been accepted since, and is then the last: its operations tell. `document` is the
-   * one that follows the session.
+   * text, as it did; another run may so answer another's, so its operations tell where its edits weren't played. Where one was under way it
+   * may have been accepted since, and is then the last: they tell, too. `document` is the one that follows the session.
    * @param {Document} document
    * @returns {Promise<"same" | "unused" | "another">}
    */
@@ -153,6 +153,7 @@ export class Seat {
     const { n, from, to } = this.#last;
     let reply = n > 0 ? await this.#again(n) : { r: "no", n: 7 };
     let isSame = reply.r === "ok" && reply.from === from && reply.to === to;
+    if (isSame && document.accepted !== null) isSame = (await this.log.find(document, 0))?.count === document.underWay.signs.length;
     if (reply.n === 7) {
       reply = await this.#again(n + 1);
       isSame = reply.r === "ok" && this.#underWay !== null && (await this.log.is(document, reply.from, reply.to));

@@ -61,6 +61,19 @@ async function losesItsFirstRun() {
   await goOn(new Room(1), ways, "hello world");
 }
 
+/** Nothing was kept of a first run, before the edits of its first submission came, and in the next one another submits as much first. */
+async function losesItsFirstRunToAnothersFirst() {
+  const way = new Way(new Room(0));
+  await way.comesTo("up to date", "");
+  const isLost = way.loseOnce("answer", "ops");
+  way.editor.change(0, 0, "hello ");
+  await isLost;
+  const next = new Room(0);
+  await next.ask({ t: "join", u: 16 });
+  await next.ask({ t: "ins", s: 1, n: 1, v: 0, k: 0, x: "world!" });
+  await goOn(next, [way], "hello world!");
+}
+
 /** A room is renewed, more is typed, and then nothing of it was kept, twice: each puts in again what it put in at any time. */
 async function losesAllBehindARenewal(renew) {
   const ways = await two("hello ", "world");
@@ -741,6 +754,7 @@ await Promise.all([
   losesItsEndBehindABridge(),
   losesItsEndWhileAThirdTypes(),
   losesItsFirstRun(),
+  losesItsFirstRunToAnothersFirst(),
   losesAllBehindARenewal(renewedRun),
   losesAllBehindARenewal(anewRun),
   losesAllBehindARenewalAndComesLate(),

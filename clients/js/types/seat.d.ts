@@ -34,8 +34,8 @@ export class Seat {
     isLeft(): Promise<boolean>;
     /**
      * What the number is on a new line. The same run of the server answers the last accepted submission, asked for once more with an empty
-     * text, as it did. Where one was under way it may have been accepted since, and is then the last: its operations tell. `document` is the
-     * one that follows the session.
+     * text, as it did; another run may so answer another's, so its operations tell where its edits weren't played. Where one was under way it
+     * may have been accepted since, and is then the last: they tell, too. `document` is the one that follows the session.
      * @param {Document} document
      * @returns {Promise<"same" | "unused" | "another">}
      */
