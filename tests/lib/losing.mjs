@@ -33,32 +33,42 @@ async function two(text, more) {
 async function goOver(room, ways, text) {
   for (const way of ways) way.cut(room);
   for (const way of ways) await way.joins(room);
+  await showUnasked(ways, text);
+}
+
+/** The same, one after another: of two who put in again at one time the later might stand first. */
+async function goOverInTurn(room, ways, text) {
+  for (const way of ways) {
+    const { session } = way.editor;
+    way.cut(room);
+    await way.joins(room);
+    await until(() => session.state === "up to date" && !session.isAhead);
+  }
+  await showUnasked(ways, text);
+}
+
+async function showUnasked(ways, text) {
   for (const way of ways) await way.comesTo("up to date", text);
   assert.deepEqual(ways.map(({ states }) => states.includes("another text")), ways.map(() => false), "nobody is asked");
 }
 
 /** They go over to another run, whose room has that text, and end. */
-async function goOn(room, ways, text) {
-  await goOver(room, ways, text);
+async function goOn(room, ways, text, goesOver = goOver) {
+  await goesOver(room, ways, text);
   assert.equal(await textOf(room), text);
   await end(...ways);
 }
 
 /** What each typed is put in again by its own client, once, whatever the log lost of it. */
 async function losesItsEnd(without) {
-  const [one, other] = await two("hello ", "world");
-  const room = await keptRun(one.room, without);
-  one.cut(room);
-  await one.comesTo("up to date", "hello world".slice(0, Math.max(6, 11 - without))); // of two at once the later might stand first
-  await goOver(room, [other], "hello world");
-  await endsAs(one, "hello world");
-  await end(other);
+  const ways = await two("hello ", "world");
+  await goOn(await keptRun(ways[0].room, without), ways, "hello world", goOverInTurn);
 }
 
 /** Nothing was kept of a room's first run, and its site comes again. */
 async function losesItsFirstRun() {
   const ways = await two("hello ", "world");
-  await goOn(new Room(1), ways, "hello world");
+  await goOn(new Room(1), ways, "hello world", goOverInTurn);
 }
 
 /** Nothing was kept of a first run, before the edits of its first submission came, and in the next one another submits as much first. */
@@ -80,8 +90,8 @@ async function losesAllBehindARenewal(renew) {
   await goOver(await renew(ways[0].room), ways, "hello world");
   ways[0].editor.change(11, 0, " again");
   for (const way of ways) await way.comesTo("up to date", "hello world again");
-  await goOver(new Room(0), ways, "hello world again");
-  await goOn(new Room(0), ways, "hello world again");
+  await goOverInTurn(new Room(0), ways, "hello world again");
+  await goOn(new Room(0), ways, "hello world again", goOverInTurn);
 }
 
 /** The same, where another came first, and what it put in is kept: its operations are of the site that the known ones were of. */
