@@ -264,14 +264,15 @@ class Session:
 
     def _kept(self, log):
         """Up to which version another log is the one that is known here, if any; up to which of those that are remembered it has what was
-        done, and its own version with that text, where it has one. Nothing where it is of a later version."""
+        done, and its own version with that text, where it has one. Nothing where it is of a later version, and -1
+        where it has nothing of what is remembered."""
         common = self.past.in_common(log)
         if common is not None:  # all that is remembered may be lost
             return (common, common, common) if common >= self.past.version else (common, self.past.version, None)
         kept = self.past.version_of(log.written)
         if kept is not None:
             return None, kept, len(log.written)
-        return None, self.past.version if not log or is_of_run(self._ask, log[0].stamp[1], log) else None, None
+        return None, -1 if not log or is_of_run(self._ask, log[0].stamp[1], log) else None, None
 
     def _go_on(self, joined, log, common, kept, begin):
         self.before, self.waiting, self.missing = list(self.text), self.waiting + self.missing, []

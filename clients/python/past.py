@@ -98,11 +98,13 @@ class Element:
 
 
 class Past:
-    """`version` and `text` are those of some time ago, `steps` lead on from there; `log` has the operations from number `start` on, up to
-    the version of now: from number `first` on another run's are compared with them."""
+    """`version` and `text` are those of some time ago, `own` tells of each character whether oneself put it in, `steps` lead on from there;
+    `log` has the operations from number `start` on, up to the version of now: from number `first` on another run's are compared with
+    them."""
 
-    def __init__(self, version, text, log):
+    def __init__(self, version, text, log, own=None):
         self.version, self.text, self.steps = version, list(text), []
+        self.own = own or [False] * len(self.text)
         self.start, self.log = version - len(log), list(log)
         self.first = max(self.start, version - MOST)
 
@@ -118,6 +120,7 @@ class Past:
         if len(self.steps) > 2 * REMEMBERED:
             old, self.steps = self.steps[:REMEMBERED], self.steps[REMEMBERED:]
             play(self.text, [it.edit for it in old])
+            play(self.own, [[*it.edit[:2], it.is_own] for it in old])
             self.version = old[-1].version
             self.first = max(self.first, self.version - MOST)
 
@@ -129,8 +132,8 @@ class Past:
         """All in their order, those that are gone too, and those of the text of now."""
         start = last = Element("")
         shown = []
-        for char in self.text:
-            last.next = Element(char)
+        for char, is_own in zip(self.text, self.own):
+            last.next = Element(char, is_own=is_own)
             last = last.next
             shown.append(last)
         for version, edit, is_own, stamp in self.steps:
@@ -226,7 +229,11 @@ class Past:
         lost = lacking(order, PENDING - 1 if until is None else until)
         edits = edits_to([it for it in order if it.is_at(PENDING - 1)], text)
         if common is None or begin is None:
-            self.__init__(len(log), text, log)
+            own = [False] * len(text)
+            for it in order:
+                if it.is_own and it.place is not None:
+                    own[it.place] = True
+            self.__init__(len(log), text, log, own)
         else:
             self.steps, self.start, self.log = [it for it in self.steps if it.version <= common], 0, list(log)
             for at, edit in enumerate(log.edits(common), common):
