@@ -50,7 +50,8 @@ const knownOf = (singles) => singles.map(({ sign, site, of }) => ({ sign, site, 
 
 /** Whether an operation is one of which something is known, as far as that tells. */
 const isLike = (known, single) =>
-  known.sign === single.sign && (known.site === null || known.site === single.site) && (known.of ?? single.of) === single.of;
+  known === undefined ||
+  (known.sign === single.sign && (known.site === null || known.site === single.site) && (known.of ?? single.of) === single.of);
 
 export class Log {
   #ask;
@@ -162,7 +163,7 @@ export class Log {
       if (found.length === 0) found = await this.#singles(kept);
       next = found.shift() ?? null;
       const was = known[kept - start];
-      if (next === null || (was !== undefined && !isLike(was, next))) break;
+      if (next === null || !isLike(was, next)) break;
       if (was !== undefined) same.add(was.site);
       if (!firsts.has(next.site)) firsts.set(next.site, kept);
     }
