@@ -7,12 +7,14 @@ requests at one time, and gives their replies. `Pipe` is such a function over `r
 `rgatext serve`, by the library `websockets`. Run as a program, the file types what it reads into a new room and prints the
 room's text.
 """
+import contextlib
+import gc
 import json
 import subprocess
 import sys
 import time
 
-from log import MOST, Log, Reading, is_of_run, operations
+from log import MOST, Reading, is_of_run, operations
 from past import PENDING, Deletion, Insertion, Past, play
 
 FULL = 131_072  # operations of a room
@@ -129,6 +131,18 @@ def carried(place, edits):
         elif edit[0] == "d" and edit[1] < place:
             place -= 1
     return place
+
+
+@contextlib.contextmanager
+def uncollected():
+    """Meanwhile Python looks for no cycles: there are none in what two long texts are compared by, and the look takes as long as that."""
+    is_on = gc.isenabled()
+    gc.disable()
+    try:
+        yield
+    finally:
+        if is_on:
+            gc.enable()
 
 
 class Session:
@@ -254,12 +268,12 @@ class Session:
                     log = operations(self._ask_all, max(0, joined["v"] - MOST), joined["v"])
                     self.past = Past(joined["v"], joined["x"], log)
                     return self._begin(joined)
-                if more := operations(self._ask_all, len(log), joined["v"]):
-                    log = Log(log + more)
+                log.take(operations(self._ask_all, len(log), joined["v"]))
                 kept = self._kept(log)
             except Lost:
                 continue
-            return self._go_on(joined, log, *kept)
+            with uncollected():
+                return self._go_on(joined, log, *kept)
         raise Lost
 
     def _kept(self, log):
@@ -295,7 +309,7 @@ class Session:
         """Plays what a log that goes on from here has, and what of it is under way as one's own."""
         if self.under_way:
             places = range(self.version, len(log)) if self._is_unanswered() else [self.came]
-            before = log.shown(self.version)
+            before = [log[it - 1].stamp for it in log.shown(self.version)]
             came = ((it, it + self.past.came_at(log, it, self.under_way, before)) for it in places)
             self.came, self.reached = next((it for it in came if it[0] < it[1]), (0, 0))
         self.past.know(log)

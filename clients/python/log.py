@@ -2,7 +2,7 @@
 import bisect
 import collections
 import functools
-import operator
+import math
 
 MOST = 64  # characters of a submission, edits of a pull, operations of a reply
 AHEAD = 32  # requests that are sent at one time
@@ -52,7 +52,40 @@ def is_of_run(ask, site, log):
 
 
 class Log(list):
-    """A room's operations, from the first on. What they tell is worked out once, so none is put in or taken out any more."""
+    """A room's operations, from the first on. `take` alone puts them in. An element is told by the version that its operation led to, and 0
+    is the beginning: `behind` tells which follows it in the order of the text, and `gone` the version in which it was deleted first."""
+
+    def __init__(self):
+        super().__init__()
+        self.elements, self.behind, self.gone = {None: 0}, [0], [math.inf]
+
+    def take(self, operations):
+        """Takes some more. What is put in stands right behind its place, but for what came there with a greater stamp."""
+        first = len(self) + 1
+        self.extend(operations)
+        self.behind += [0] * len(operations)
+        self.gone += [math.inf] * len(operations)
+        elements, behind, gone = self.elements, self.behind, self.gone
+        for version, (stamp, char, place) in enumerate(operations, first):
+            left = elements.get(place)
+            if left is None:
+                continue  # (a guess may lack it)
+            if char is None:
+                gone[left] = min(gone[left], version)
+            elif elements.setdefault(stamp, version) == version:  # (a guess may have it twice)
+                while (after := behind[left]) and self[after - 1][0] > stamp:
+                    left = after
+                behind[version], behind[left] = after, version
+        for it in ("order", "places", "written"):  # they are worked out anew
+            vars(self).pop(it, None)
+
+    @functools.cached_property
+    def order(self):
+        """The elements in the order of the text, those that are gone too."""
+        order, it = [], 0
+        while it := self.behind[it]:
+            order.append(it)
+        return order
 
     @functools.cached_property
     def written(self):
@@ -65,37 +98,25 @@ class Log(list):
             before = it.stamp
         return text
 
-    @functools.cached_property
-    def order(self):
-        """The stamps that are put in, in the order of the text: each came right behind its place, since the greatest came last."""
-        behind = {None: None}
-        for it in sorted(self, key=operator.itemgetter(0)):
-            if it.char is not None and it.stamp not in behind:  # (a guess may have one twice)
-                behind[it.stamp], behind[it.place] = behind.get(it.place), it.stamp
-        order, stamp = [], None
-        while stamp := behind[stamp]:
-            order.append(stamp)
-        return order
-
     def shown(self, version):
-        """The stamps of a version's text."""
-        there = {it.stamp for it in self[:version] if it.char is not None} - {it.place for it in self[:version] if it.char is None}
-        return [it for it in self.order if it in there]
+        """The elements of a version's text."""
+        gone = self.gone
+        return [it for it in self.order if it <= version < gone[it]]
 
     @functools.cached_property
     def places(self):
-        """Where each stamp of its text stands."""
-        return {stamp: at for at, stamp in enumerate(self.shown(len(self)))}
+        """Where each element of its text stands."""
+        return {it: at for at, it in enumerate(self.shown(len(self)))}
 
     def edits(self, version):
         """What the operations behind a version do to its text."""
-        rank = {stamp: at for at, stamp in enumerate(self.order)}
+        rank = {it: at for at, it in enumerate(self.order)}
         text = [rank[it] for it in self.shown(version)]
-        for it in self[version:]:
-            own = rank[it.place if it.char is None else it.stamp]
+        for element, it in enumerate(self[version:], version + 1):
+            own = rank[element if it.char is not None else self.elements[it.place]]
             at = bisect.bisect_left(text, own)
             if it.char is not None:
-                text.insert(at, own)
+                text[at:at] = [own]
                 yield ["i", at, it.char]
             elif text[at : at + 1] == [own]:
                 del text[at]
@@ -110,7 +131,7 @@ class Reading:
 
     def __init__(self, ask, first, known):
         self.ask, self.first, self.known = ask, first, known
-        self.log = []  # (a character that isn't known yet is empty)
+        self.log = Log()  # (a character that isn't known yet is empty)
         self.told = {}  # what was read for a guess, by spans
         self.pieces = {}  # of the text that the log begins with, by their places
         self.is_guessing = True
@@ -118,21 +139,20 @@ class Reading:
     def to(self, version, text):
         """The log up to a version, which has that text."""
         if operations(self.ask, max(0, len(self.log) - MOST), len(self.log)) != self.log[-MOST:]:
-            self.log, self.told = [], {}  # another run has another one
+            self.log, self.told = Log(), {}  # another run has another one
         if self.is_guessing:
             if not self.log:
                 self._begin(version)
             self._read_to(version)
-            log = Log(self.log)
-            if self._fill(log, text):
-                return log
-            self.log, self.is_guessing = [], False
+            if self._fill(text):
+                return self.log
+            self.log, self.is_guessing = Log(), False
         self._read_to(version)
-        return Log(self.log)
+        return self.log
 
     def _read_to(self, end):
         for part in parts(self.ask, len(self.log), end):
-            self.log += part
+            self.log.take(part)
 
     def _told(self, spans):
         """What a log has at these spans; what came of it before is not asked for again."""
@@ -146,10 +166,10 @@ class Reading:
         self.pieces = {}
         same = self._same(version)
         if (self.first or not same) and version > AHEAD * MOST:
-            self.log = self._skeleton(version)
+            self.log.take(self._skeleton(version))
         if same > len(self.log):
             self._read_to(self.first)
-            self.log += self.known[len(self.log) - self.first : same - self.first]
+            self.log.take(self.known[len(self.log) - self.first : same - self.first])
 
     def _same(self, version):
         """Up to which number the log has what is known, as far as pieces of it tell: those of each part of it, and some nearer and nearer
@@ -180,26 +200,29 @@ class Reading:
                     break
         stamps = [(at + 1, site) for at in range(end)]
         is_renewed = all(it["s"] != site for it in behind[:1])
-        return [Operation(it, "", before) for it, before in zip(stamps, [None, *stamps])] if is_renewed else []
+        return [*zip(stamps, [""] * end, [None, *stamps])] if is_renewed else []
 
-    def _fill(self, log, text):
+    def _fill(self, text):
         """Puts into the guess the characters that the text tells, and those that are gone, which are read. Whether it is right: it has the
         text, and the pieces."""
-        if len(log.places) != len(text):
+        log, shown = self.log, self.log.shown(len(self.log))
+        if len(shown) != len(text):
             return False
-        chars, gone = dict(zip(log.places, text)), []
-        for at, it in enumerate(log):
-            if it.char == "" and it.stamp in chars:
-                self.log[at] = log[at] = Operation(it.stamp, chars[it.stamp], it.place)
-            elif it.char == "" and not (gone and at < gone[-1] + MOST):
-                gone.append(at)
-        for some in range(0, len(gone), AHEAD):
-            spans = [(at, min(len(log), at + MOST)) for at in gone[some : some + AHEAD]]
+        for version, char in zip(shown, text):
+            if log[version - 1][1] == "":
+                stamp, _, place = log[version - 1]
+                log[version - 1] = Operation(stamp, char, place)
+        lacking, starts = [at for at, it in enumerate(log) if it[1] == ""], []
+        for at in lacking:
+            if not starts or at >= starts[-1] + MOST:
+                starts.append(at)
+        for some in range(0, len(starts), AHEAD):
+            spans = [(at, min(len(log), at + MOST)) for at in starts[some : some + AHEAD]]
             for (first, _), objects in zip(spans, told(self.ask, spans)):  # (what came stays in the log)
                 for at, it in enumerate(unfolded(objects), first):
                     if it.char is not None and it[::2] == log[at][::2]:  # (else its character stays empty)
-                        self.log[at] = log[at] = it
-        if any(it.char is not None and (it.char == "" or chars.get(it.stamp, it.char) != it.char) for it in log):
+                        log[at] = it
+        if any(log[at][1] == "" for at in lacking) or [log[it - 1].char for it in shown] != [*text]:
             return False
         return all([it.char for it in log[at : at + len(piece)]] == [*piece] for at, piece in self.pieces.items())
 

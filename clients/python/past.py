@@ -3,6 +3,7 @@ operations. By these it finds in another run of the server what that lacks of on
 import bisect
 import collections
 import difflib
+import itertools
 
 from log import MOST
 
@@ -14,13 +15,28 @@ COMPARED = 100_000  # pairs of characters, where two texts differ, that are look
 Step = collections.namedtuple("Step", "version edit is_own stamp")  # the version that an edit led to; its operation's stamp, where that is known
 
 
+def rows(edits):
+    """Edits in rows that a text takes at one time: insertions, each behind the one before, or deletions at one place."""
+    row, following = [], None
+    for edit in edits:
+        if row and edit[:2] != following:
+            yield row
+            row = []
+        row.append(edit)
+        following = ["i", edit[1] + 1] if edit[0] == "i" else edit[:2]
+    if row:
+        yield row
+
+
 def play(text, edits):
     """Plays edits on a text, a list of characters."""
-    for edit in edits:
-        if edit[0] == "i":
-            text.insert(edit[1], edit[2])
-        elif edit[0] == "d":
-            del text[edit[1] : edit[1] + 1]
+    for row in rows(edits):
+        if row[0][0] == "i":
+            at = row[0][1]
+            text[at:at] = [it[2] for it in row]
+        elif row[0][0] == "d":
+            at = row[0][1]
+            del text[at : at + len(row)]
 
 
 class Insertion:
@@ -92,9 +108,16 @@ class Element:
         self.next = None
         self.place = None  # in the other run's text, where it is there
 
-    def is_at(self, version):
-        """Whether it is in the text of a version."""
-        return self.put <= version and (self.gone is None or self.gone > version)
+
+def put_behind(left, elements):
+    """Puts elements in, in their order, right behind another."""
+    for it in reversed(elements):
+        it.next, left.next = left.next, it
+
+
+def those_at(elements, version):
+    """Those of the elements that are in the text of a version."""
+    return [it for it in elements if it.put <= version and (it.gone is None or it.gone > version)]
 
 
 class Past:
@@ -130,25 +153,25 @@ class Past:
 
     def elements(self):
         """All in their order, those that are gone too, and those of the text of now."""
-        start = last = Element("")
-        shown = []
-        for char, is_own in zip(self.text, self.own):
-            last.next = Element(char, is_own=is_own)
-            last = last.next
-            shown.append(last)
-        for version, edit, is_own, stamp in self.steps:
-            if edit[0] == "i":
-                left = shown[edit[1] - 1] if edit[1] else start
-                one = Element(edit[2], version, is_own, stamp)
-                one.next, left.next = left.next, one
-                shown.insert(edit[1], one)
-            elif edit[0] == "d":
-                one = shown.pop(edit[1])
-                one.gone, one.is_gone_here = version, is_own
-        order = [start]
-        while order[-1].next:
-            order.append(order[-1].next)
-        return order[1:], shown
+        start, shown = Element(""), [Element(char, is_own=is_own) for char, is_own in zip(self.text, self.own)]
+        put_behind(start, shown)
+        steps = iter(self.steps)
+        for row in rows(it.edit for it in self.steps):
+            of_row = [*itertools.islice(steps, len(row))]
+            if row[0][0] == "i":
+                at = row[0][1]
+                put = [Element(it.edit[2], it.version, it.is_own, it.stamp) for it in of_row]
+                put_behind(shown[at - 1] if at else start, put)
+                shown[at:at] = put
+            elif row[0][0] == "d":
+                at = row[0][1]
+                for one, it in zip(shown[at : at + len(row)], of_row):
+                    one.gone, one.is_gone_here = it.version, it.is_own
+                del shown[at : at + len(row)]
+        order, it = [], start
+        while it := it.next:
+            order.append(it)
+        return order, shown
 
     def in_common(self, log):
         """Up to which version a log is the one that is known here; nothing where it isn't, or begins as that of a renewed room does."""
@@ -178,8 +201,8 @@ class Past:
         end = log[at + count : at + count + 1]
         if count == 0 or count < len(wanted) and any(it.stamp[1] == there[0].stamp[1] for it in end):
             return 0
+        known = () if before else {it.stamp for it in self.steps}
         before = before or [it.stamp for it in self.elements()[1]]
-        known = {it.stamp for it in self.steps}
         fits = lambda place, stamp: place == stamp if stamp else place is not None and place not in known
         if request["t"] == "del":
             return count if all(fits(it.place, stamp) for it, stamp in zip(there[:count], before[request["k"] :])) else 0
@@ -192,10 +215,14 @@ class Past:
     def version_of(self, text):
         """The last version, of those that are remembered, with a text; none where there is none."""
         now, found = list(self.text), self.version if self.text == text else None
-        for it in self.steps:
-            play(now, [it.edit])
-            if len(now) == len(text) and now == text:
-                found = it.version
+        size, played = len(now), 0
+        for at, it in enumerate(self.steps, 1):
+            size += (it.edit[0] == "i") - (it.edit[0] == "d")
+            if size == len(text):
+                play(now, [it.edit for it in self.steps[played:at]])
+                played = at
+                if now == text:
+                    found = it.version
         return found
 
     def move(self, log, text, common, kept, begin):
@@ -203,9 +230,9 @@ class Past:
         `kept` it has, where that is known, and the same text at its own version `begin`, where it has that. Gives the edits that lead there
         from the text of now, without what is pending, and what is lacking there of one's own, with it."""
         order, _ = self.elements()
+        now = those_at(order, PENDING - 1)
         until = kept
         if kept is None:
-            now = [it for it in order if it.is_at(PENDING - 1)]
             set_places(now, log.written)  # what came behind it the log tells
             sure = last_in_a_piece(now, self.version)
             own = [it.place is not None for it in now if it.is_own and it.put > sure]
@@ -215,19 +242,17 @@ class Past:
                     it.place = None
             else:
                 set_pending(order, log.written)
-        there = [] if until is None else [it for it in order if it.is_at(until)]
+        there = [] if until is None else those_at(order, until)
         if kept is None:
             set_places(there, log.written)
             carry_places(order, log)
         elif begin is None:
             set_places(there, text)
         else:
-            for it, stamp in zip([it for it in order if it.is_at(kept)], log.shown(begin)):
-                it.stamp = stamp
-            for it in there:
-                it.place = log.places.get(it.stamp)
+            for it, place in zip(there, map(log.places.get, log.shown(begin))):
+                it.place = place
         lost = lacking(order, PENDING - 1 if until is None else until)
-        edits = edits_to([it for it in order if it.is_at(PENDING - 1)], text)
+        edits = edits_to(now, text)
         if common is None or begin is None:
             own = [False] * len(text)
             for it in order:
@@ -242,16 +267,19 @@ class Past:
 
 
 def set_places(elements, text):
-    for at, place in in_common("".join(it.char for it in elements), "".join(text)):
-        elements[at].place = place
+    for at, to, count in in_common("".join([it.char for it in elements]), "".join(text)):
+        for place, it in enumerate(elements[at : at + count], to):
+            it.place = place
 
 
 def carry_places(elements, log):
     """Takes places in the text that a renewed room's log begins with over to its text of now. What was deleted between is gone."""
+    places = log.places  # (of an element, which is told by the version that put it in)
     for it in elements:
         if it.place is not None:
-            it.place = log.places.get(log[it.place].stamp)
-            it.gone = PENDING if it.place is None and it.gone is None else it.gone
+            it.place = places.get(it.place + 1)
+            if it.place is None and it.gone is None:
+                it.gone = PENDING
 
 
 def set_pending(order, text):
@@ -259,14 +287,16 @@ def set_pending(order, text):
     pending, start = [], 0
     for it in (*order, None):
         if it and it.place is None:
-            pending += [it] * (it.put == PENDING)
+            if it.put == PENDING:
+                pending.append(it)
             continue
         end = it.place if it else len(text)
         if pending:
             set_places(pending, text[start:end])
-        for one in pending:
-            one.place = None if one.place is None else start + one.place
-        pending, start = [], end + 1
+            for one in pending:
+                one.place = None if one.place is None else start + one.place
+            pending = []
+        start = end + 1
 
 
 def last_in_a_piece(elements, version):
@@ -275,11 +305,12 @@ def last_in_a_piece(elements, version):
     piece = []
     for it in (*elements, None):
         is_there = it is not None and it.is_own and it.place is not None
-        if not (is_there and piece and it.place == piece[-1].place + 1):
+        if piece and not (is_there and it.place == piece[-1].place + 1):
             if len(piece) >= PIECE:
                 version = max(version, *(one.put for one in piece))
             piece = []
-        piece += [it] * is_there
+        if is_there:
+            piece.append(it)
     return version
 
 
@@ -289,7 +320,8 @@ def lacking(order, version):
     for it in order:
         if it.place is not None:
             place = it.place + 1
-            back += [it.place] * it.is_gone_here
+            if it.is_gone_here:
+                back.append(it.place)
         elif it.is_own and it.gone is None and it.put > version:
             if not lost or lost[-1].place != place:
                 lost.append(Insertion(place, ""))
@@ -310,42 +342,37 @@ def alike_until(one, other):
 
 
 def in_common(one, other, width=32):
-    """The pairs of places of what two texts have in common: at their beginnings and ends, and between round each part of some characters
-    that is once in both; parts of fewer and fewer characters are looked for."""
+    """What two texts have in common, in pieces: where each begins in both, and of how many characters it is. Looked for at their beginnings
+    and ends, and between round each part of some characters that is once in both; parts of fewer and fewer characters are looked for."""
     start = alike_until(one, other)
-    end = alike_until(one[start:][::-1], other[start:][::-1])
-    pairs = [(at, at) for at in range(start)] + [(len(one) - at, len(other) - at) for at in range(end, 0, -1)]
-    texts = one[start : len(one) - end], other[start : len(other) - end]
-    if not all(texts):
-        return pairs
-    if len(texts[0]) * len(texts[1]) <= COMPARED:
-        blocks = difflib.SequenceMatcher(None, *texts, autojunk=False).get_matching_blocks()
-        inner = [(at + n, to + n) for at, to, size in blocks for n in range(size)]
-    elif width == 0:
-        inner = []
-    else:
-        inner, before = [], (0, 0)
-        marks = [*alike(*texts, width), tuple(map(len, texts))]
-        for last, (at, to), following in zip([None, *marks], marks, [*marks[1:], None]):
-            if last == (at - 1, to - 1) and following == (at + 1, to + 1):
-                continue  # within a row
-            parts = texts[0][before[0] : at], texts[1][before[1] : to]
-            found = enumerate(range(len(parts[0]))) if parts[0] == parts[1] else in_common(*parts, width // 2)
-            inner += [(before[0] + a, before[1] + b) for a, b in found]
-            before = at, to
-    return pairs[:start] + [(start + at, start + to) for at, to in inner] + pairs[start:]
+    alike_end = alike_until(one[start:][::-1], other[start:][::-1])
+    texts = one[start : len(one) - alike_end], other[start : len(other) - alike_end]
+    inner = []
+    if all(texts) and len(texts[0]) * len(texts[1]) <= COMPARED:
+        inner = difflib.SequenceMatcher(None, *texts, autojunk=False).get_matching_blocks()
+    elif all(texts) and width:
+        before, marks = (0, 0), [*alike(*texts, width), tuple(map(len, texts))]
+        ends = [n for n, (mark, following) in enumerate(zip(marks, marks[1:]), 1) if following != (mark[0] + 1, mark[1] + 1)]
+        for first, end in zip([0, *ends], [*ends, len(marks)]):  # of a row of them
+            at, to = marks[first]
+            found = in_common(texts[0][before[0] : at], texts[1][before[1] : to], width // 2)
+            inner += [(before[0] + a, before[1] + b, count) for a, b, count in found]
+            inner.append((at, to, end - first - 1))
+            before = marks[end - 1]
+    inner = [(start + at, start + to, count) for at, to, count in inner]
+    return [(0, 0, start), *inner, (len(one) - alike_end, len(other) - alike_end, alike_end)]
 
 
 def alike(one, other, width):
     """The pairs of places of the parts of so many characters that are once in each of two texts, in the order of both: as many as can be."""
-    places = []
-    for text in (one, other):
-        once = {}
-        for at in range(len(text) - width + 1):
-            part = text[at : at + width]
-            once[part] = None if part in once else at
-        places.append(once)
-    pairs = sorted((at, places[1][part]) for part, at in places[0].items() if at is not None and places[1].get(part) is not None)
+    parts = [one[at : at + width] for at in range(len(one) - width + 1)]
+    places = dict(zip(parts, itertools.count()))
+    if len(places) < len(parts):
+        counts = collections.Counter(parts)
+        places = {part: at for part, at in places.items() if counts[part] == 1}
+    found = [places.get(other[to : to + width]) for to in range(len(other) - width + 1)]
+    counts = collections.Counter(found)
+    pairs = sorted((at, to) for to, at in enumerate(found) if at is not None and counts[at] == 1)
     if all(one[1] < other[1] for one, other in zip(pairs, pairs[1:])):
         return pairs
     ends, heads, before = [], [], {}  # the least place in `other` by which so many pairs may end, and those pairs
@@ -367,7 +394,8 @@ def edits_to(elements, text):
         if it.place is None:
             edits.append(["d", at])
         else:
-            for n in range(at, it.place):
-                edits.append(["i", n, text[n]])
+            while at < it.place:
+                edits.append(["i", at, text[at]])
+                at += 1
             at = it.place + 1
     return edits + [["i", n, text[n]] for n in range(at, len(text))]
