@@ -220,8 +220,7 @@ export class Document {
   next(before = Infinity) {
     const first = this.#sent === null ? this.#first(before) : -1;
     if (first < 0) return null;
-    const k = this.#pieces.roomPlace(first);
-    this.#sent = this.#pieces.list[first].isRooms ? this.#deletion(first, k) : this.#insertion(first, k);
+    this.#sent = this.#pieces.list[first].isRooms ? this.#deletion(first, before) : this.#insertion(first);
     return this.#sent.submission;
   }
 
@@ -244,26 +243,41 @@ export class Document {
     return first;
   }
 
-  #insertion(index, k) {
+  #insertion(index) {
     const piece = this.#pieces.list[index];
+    const k = this.#pieces.roomPlace(index);
     const x = beginning(piece.text, MOST);
     this.#pieces.cut(index, x.length);
     piece.owner = "sent";
     return { submission: { t: "ins", k, x }, from: null, to: null };
   }
 
-  /** The deletion of what is gone from a piece on, without a gap in the room's text. */
-  #deletion(first, k) {
+  /**
+   * The deletion of what is gone round a piece, without a gap in the room's text: one may have gone back over it. What was deleted behind
+   * an order, or once something was put in that is new, isn't taken along.
+   */
+  #deletion(index, before) {
+    const { list } = this.#pieces;
+    const { order, text } = list[index];
+    const until = list.reduce((least, it) => (it.owner === "new" ? Math.min(least, it.order) : least), before);
+    const goes = (piece) => piece.gone === "new" && (piece.order <= order || piece.order < until);
+    let first = index;
+    for (let at = index - 1, units = text.length; at >= 0; at -= 1) {
+      if (!list[at].isRooms) continue;
+      units += list[at].text.length;
+      if (!goes(list[at]) || units > MOST) break;
+      first = at;
+    }
+    const k = this.#pieces.roomPlace(first);
     let c = 0;
-    for (let index = first; index < this.#pieces.list.length; index += 1) {
-      const piece = this.#pieces.list[index];
-      if (!piece.isRooms) continue;
-      if (piece.gone !== "new") break;
-      let most = Math.min(MOST - c, piece.text.length);
-      if (isInside(piece.text, most)) most -= 1;
+    for (let at = first; at < list.length; at += 1) {
+      if (!list[at].isRooms) continue;
+      if (!goes(list[at])) break;
+      let most = Math.min(MOST - c, list[at].text.length);
+      if (isInside(list[at].text, most)) most -= 1;
       if (most === 0) break;
-      this.#pieces.cut(index, most);
-      piece.gone = "sent";
+      this.#pieces.cut(at, most);
+      list[at].gone = "sent";
       c += most;
     }
     return { submission: { t: "del", k, c }, from: null, to: null };

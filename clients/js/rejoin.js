@@ -125,9 +125,9 @@ function without(text, entries) {
   return left;
 }
 
-/** Takes what is under way as what the log has of it, and plays the edits. */
+/** Takes what is under way as what the log has of it, if it has any, and plays the edits: others may have deleted all of that before. */
 function settle(document, found, edits) {
-  if (found === null) {
+  if (found === null || found.count === 0) {
     document.takeBack();
     return document.play(edits);
   }

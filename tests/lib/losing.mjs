@@ -588,25 +588,35 @@ async function isAnotherDocument() {
   await end(way);
 }
 
-/** Behind a kept restart there are 1,100 changes by others. */
+/** Behind a kept restart there are 1,100 changes by others: what is typed, the caret and what is undone stand where they stood. */
 async function isFarBehind() {
   const lines = Array.from({ length: 60 }, (_, n) => `this is line ${n} of a text\n`);
   const way = await begin(lines.join(""));
   way.cutOff();
   await way.comesTo("offline");
   const start = (n) => lines.slice(0, n).join("").length;
-  way.editor.change(start(50), 0, "MINE ");
-  way.editor.change(start(30), lines[30].length, "");
-  const caret = { place: start(55) - lines[30].length + 5 };
-  way.editor.session.addEventListener("changes", ({ detail }) => (caret.place = carried(caret.place, detail)));
+  const undo = new Undo();
+  const change = (at, removed, text) => {
+    undo.note({ at, removed, text }, way.editor.shown.slice(at, at + removed));
+    way.editor.change(at, removed, text);
+  };
+  change(start(30), lines[30].length, "");
+  change(start(50) - lines[30].length, 0, "MINE ");
+  let caret = start(55) - lines[30].length + 5;
+  way.editor.session.addEventListener("changes", ({ detail }) => {
+    undo.follow(detail);
+    caret = carried(caret, detail);
+  });
   way.room = await keptRun(way.room);
   const { s, v } = await way.room.ask({ t: "join", u: 16 });
   for (let n = 1; n <= 55; n += 1) await way.room.ask({ t: "ins", s, n, v, k: start(n) - 1, x: "0123456789abcdefghij" });
   way.isUp = true;
   const put = (n) => (n < 55 ? "0123456789abcdefghij" : "");
   const wanted = lines.map((line, n) => (n === 30 ? put(n) : `${n === 50 ? "MINE " : ""}${line.slice(0, -1)}${put(n)}\n`));
-  await endsAs(way, wanted.join(""));
-  assert.equal(caret.place, wanted.slice(0, 55).join("").length);
+  await way.comesTo("up to date", wanted.join(""));
+  assert.equal(caret, wanted.slice(0, 55).join("").length);
+  undo.turn(false, way.editor.session, (changes) => changes.forEach(({ at, removed, text }) => way.editor.change(at, removed, text)));
+  await endsAs(way, wanted.join("").replace("MINE ", ""));
 }
 
 /** A text came, its answer was lost, and others deleted more than half of it. */
@@ -652,6 +662,28 @@ async function isPlayedInParts(without) {
   way.loses = () => "";
   way.cut(await keptRun(way.room, without));
   await endsAs(way, `text ${told}`);
+}
+
+/** Of an accepted deletion nothing is left to play, since another deleted the same before; the line breaks behind the other's edit. */
+async function isDeletedBefore() {
+  const way = await begin("abc");
+  way.loses = async ({ t }) => {
+    const { document } = way.editor.session;
+    if (t === "del") await deletedBy(way.room, 1, 1);
+    if (t !== "pull" || !document.isWaiting) return "";
+    await until(() => document.accepted !== null);
+    way.loses = ({ t: kind }) => (kind === "pull" ? "request" : "");
+    way.isUp = false;
+    return { r: "edits", from: document.version, es: [["d", 1, 1]] };
+  };
+  way.editor.change(1, 1, "");
+  await until(() => !way.isUp);
+  await way.comesTo("offline");
+  way.loses = () => "";
+  way.cut(await keptRun(way.room, 0));
+  await way.comesTo("up to date", "ac");
+  way.editor.change(2, 0, ", typed on");
+  await endsAs(way, "ac, typed on");
 }
 
 /** In the same run a submission is lost, and the answer to the `join` that follows a `leave`, while another deletes: nothing is guessed. */
@@ -821,6 +853,7 @@ await Promise.all([
   deletesWhatIsTypedAgain(),
   isPlayedInParts(0),
   isPlayedInParts(3),
+  isDeletedBefore(),
   knowsThatItLeft(),
   typesAWordToo(),
   typesAWordBehindALikeLetter(),

@@ -193,11 +193,51 @@ async function mergeAtRandom(seed, steps) {
   return x.length;
 }
 
+/** What is gone back over letter by letter goes in deletions of 64 units at most, the last letters first, and pairs whole. */
+function goesBackOver(text, counts) {
+  const document = new Document(text, 0);
+  for (let left = text; left !== ""; left = document.text) {
+    const letter = [...left].at(-1);
+    document.replace([{ at: left.length - letter.length, removed: letter.length, text: "" }]);
+  }
+  const sent = [];
+  for (let next = document.next(); next !== null; next = document.next()) {
+    const { k, c } = next;
+    const signs = [...document.roomText.slice(k, k + c)];
+    assert.equal(k + c, document.roomText.length);
+    document.accept(document.version, document.version + signs.length);
+    document.play(signs.map((sign) => ["d", k, sign.length]));
+    sent.push(c);
+  }
+  assert.deepEqual([document.roomText, sent], ["", counts]);
+}
+
+/** So much is remembered at most of what may be lost: 32,768 edits, and those of the last five minutes. */
+function forgets() {
+  const { now } = Date;
+  const document = new Document();
+  const play = (count) => {
+    for (let n = 0; n < count; n += 1) document.play([["i", document.version, "x"]]);
+    return document.memory.length;
+  };
+  assert.ok(play(33_024) < 32_768 + 64);
+  Date.now = () => now() + 301_000;
+  const length = play(64);
+  Date.now = now;
+  assert.ok(length <= 64);
+  assert.equal(document.memory.base, document.version - length);
+  assert.ok(document.memory.lengthAt(document.memory.base - 1) < 0);
+}
+
 const cases = vectors("merging");
 for (const it of cases) await new Case(it).play();
 const rejoined = await rejoin(vectors("rejoining"));
 const merged = [];
 for (let seed = 1; seed <= 3; seed += 1) merged.push(await mergeAtRandom(seed, 1_000));
+goesBackOver("x".repeat(100), [64, 36]);
+goesBackOver("😀".repeat(40), [64, 16]);
+goesBackOver(`a${"😀".repeat(32)}b`, [63, 3]);
+forgets();
 undoOnesOwn();
 undoQuickly();
 undoTogether();

@@ -189,16 +189,18 @@ async function haveSessionsOfTheirOwn() {
   room.close();
 }
 
-/** Who only watches makes at most one call a second, and who types at most ten. */
-async function makesFewCalls() {
+/** Who only watches makes at most one call a second, and who types, or goes back letter by letter, at most ten. */
+async function makesFewCalls(text, key) {
   const room = new Room();
   const lines = [new Line(room, Infinity), new Line(room, Infinity)];
   const [typist, watcher] = lines.map((line) => editorOf(async () => line));
   await until(() => [typist, watcher].every(({ session }) => session.state === "up to date"));
+  if (text !== "") typist.change(0, 0, text);
+  await until(() => watcher.shown === text && !typist.session.isAhead);
   for (const line of lines) line.calls = 0;
   const began = Date.now();
   while (Date.now() - began < 3_000) {
-    typist.change(typist.shown.length, 0, "x");
+    key(typist);
     await pause(40);
   }
   const seconds = (Date.now() - began) / 1_000;
@@ -218,5 +220,7 @@ await movesWhatWasTyped({ t: "ins", k: 2, x: ">" }, "ao>X");
 await movesWhatWasTyped({ t: "del", k: 1, c: 1 }, "aX");
 await haveSessionsOfTheirOwn();
 await isRefused();
-await makesFewCalls();
+const typesOn = (typist) => typist.change(typist.shown.length, 0, "x");
+const goesBack = (typist) => typist.change(typist.shown.length - 1, 1, "");
+await Promise.all([makesFewCalls("", typesOn), makesFewCalls("x".repeat(100), goesBack)]);
 console.log(`tests/try_merging: ${lines} lines broken, other runs, a move, refusals, few calls`);
