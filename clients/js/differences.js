@@ -1,6 +1,7 @@
 /**
  * What differs between two texts: the fewest changes of single characters that lead from one to the other (Myers, 1986). Where these are
- * too many the texts are compared by lines, what differs then by words, and only within those by characters again.
+ * too many the texts are compared by lines, what differs then by words, and then by pieces, since not all scripts have blanks; and only
+ * within those by characters again.
  * @typedef {import("./changes.js").Change} Change
  *
  * Where a stretch of a list, and what stands in its place in another one, begin and end.
@@ -12,15 +13,30 @@ const STEPS = 1_000;
 const FEWER = 128;
 
 const SIGNS = null; // single characters
-const LINES = /[^\n]*\n|[^\n]+$/g;
-const WORDS = /\s+|\S+/g;
+const lines = (text) => text.match(/[^\n]*\n|[^\n]+$/g) ?? [];
+const words = (text) => text.match(/\s+|\S+/g) ?? [];
+const COARSER = [lines, words, pieces];
+
+/** A text cut behind each character whose number is a multiple of seven: so where something is put in, what is behind it is cut as before. */
+function pieces(text) {
+  const found = [];
+  let start = 0;
+  for (let at = 0; at < text.length; ) {
+    const number = text.codePointAt(at);
+    at += number > 0xffff ? 2 : 1;
+    if (number % 7 !== 0 && at < text.length) continue;
+    found.push(text.slice(start, at));
+    start = at;
+  }
+  return found;
+}
 
 /**
  * Changes that lead from a text to another, of which none touches the next, the last one in the text first.
  * @returns {Change[]}
  */
 export function differences(from, to) {
-  const found = compared(from, to, [LINES, WORDS]);
+  const found = compared(from, to, COARSER);
   return found.map(([at, end, start, stop], n) => {
     const [, before = -1] = found[n + 1] ?? [];
     const change = { at, removed: end - at, text: to.slice(start, stop) };
@@ -48,22 +64,27 @@ function aligned(change, from, before) {
 
 /** How many units are put in or removed between two texts. */
 export function distance(from, to) {
-  return compared(from, to, [LINES, WORDS]).reduce((sum, [at, end, start, stop]) => sum + end - at + stop - start, 0);
+  return compared(from, to, COARSER).reduce((sum, [at, end, start, stop]) => sum + end - at + stop - start, 0);
 }
 
-/** What differs, in units, the last first. `coarser` are what the texts are compared by where they differ in too many characters. */
-function compared(from, to, [split, ...finer]) {
-  const exact = comparedBy(SIGNS, from, to, split === undefined);
+/**
+ * What differs, in units, the last first: by characters, or where that is too much, or known to be, by what is coarser, and within that by
+ * what is finer.
+ */
+function compared(from, to, [split, ...finer], isMuch = false) {
+  const exact = isMuch ? null : comparedBy(SIGNS, from, to, split === undefined);
   if (exact !== null) return exact;
-  return comparedBy(split, from, to, true).flatMap(([at, end, start, stop]) =>
-    compared(from.slice(at, end), to.slice(start, stop), finer).map(([a, b, c, d]) => [at + a, at + b, start + c, start + d]),
-  );
+  return comparedBy(split, from, to, true).flatMap(([at, end, start, stop]) => {
+    const isAll = end - at === from.length && stop - start === to.length;
+    const found = compared(from.slice(at, end), to.slice(start, stop), finer, isAll && finer.length > 0);
+    return found.map(([a, b, c, d]) => [at + a, at + b, start + c, start + d]);
+  });
 }
 
 /** What differs of the parts of two texts, in units; none where that is too much, unless it is to be told `anyway`. */
 function comparedBy(part, from, to, anyway) {
   const numbers = new Map();
-  const [old, put] = [from, to].map((text) => (part === SIGNS ? signs(text) : parts(text.match(part) ?? [], numbers)));
+  const [old, put] = [from, to].map((text) => (part === SIGNS ? signs(text) : parts(part(text), numbers)));
   const found = new Comparison(old.list, put.list, anyway).stretches();
   return found?.map(([at, end, start, stop]) => [old.starts[at], old.starts[end], put.starts[start], put.starts[stop]]) ?? null;
 }

@@ -211,9 +211,11 @@ function asksLessWhileNothingComes() {
   pace.hasNews();
   Date.now = now;
   assert.deepEqual([before, ...idle, pace.next()], [1_000, 2_000, 4_000, 5_000, 5_000, 1_000]);
+  pace.isHidden = true;
+  assert.equal(pace.next(), 10_000);
 }
 
-/** One key at twenty carets is with another within a second. */
+/** One key at twenty carets is in the room within a second, and with another who asks for news each second, within two. */
 async function typesAtTwentyCarets() {
   const text = "some words in a line\n".repeat(20);
   const way = await begin(text);
@@ -225,7 +227,8 @@ async function typesAtTwentyCarets() {
   await way.comesTo("up to date");
   const took = Date.now() - began;
   await other.comesTo("up to date", way.editor.shown);
-  assert.ok(took < 1_000, `${took} ms`);
+  const seen = Date.now() - began;
+  assert.ok(took < 1_000 && seen < 2_000, `${took} ms, ${seen} with the other`);
   await end(way, other);
 }
 
