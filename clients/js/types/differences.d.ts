@@ -11,6 +11,7 @@ export function distance(from: any, to: any): any;
 export type Change = import("./changes.js").Change;
 /**
  * What differs between two texts: the fewest changes of single characters that lead from one to the other (Myers, 1986). Where these are
- * too many the texts are compared by lines, what differs then by words, and only within those by characters again.
+ * too many the texts are compared by lines, what differs then by words, and then by pieces, since not all scripts have blanks; and only
+ * within those by characters again.
  */
 export type Stretch = [start: number, end: number, putStart: number, putEnd: number];
