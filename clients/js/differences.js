@@ -17,7 +17,7 @@ const lines = (text) => text.match(/[^\n]*\n|[^\n]+$/g) ?? [];
 const words = (text) => text.match(/\s+|\S+/g) ?? [];
 const COARSER = [lines, words, pieces];
 
-/** A text cut behind each character whose number is a multiple of seven: so where something is put in, what is behind it is cut as before. */
+/** A text cut behind each character whose number is a multiple of seven: so what stands behind a change is cut as before. */
 function pieces(text) {
   const found = [];
   let start = 0;
