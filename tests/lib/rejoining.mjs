@@ -71,6 +71,7 @@ class Player {
       isLost = true;
       way.isUp = false;
       if (what === "late") this.late = request;
+      if (what === "leave") this.isLeaving = true;
       return what === "answer" ? "answer" : "request";
     };
     await until(() => isLost, () => this.name);
@@ -80,10 +81,13 @@ class Player {
     const { way, late } = this;
     way.loses = async (request) => {
       if (this.late && request.t === "leave") this.late = await this.room.ask(late).then(() => null);
-      return "";
+      if (!this.isLeaving || request.t !== "leave") return "";
+      this.isLeaving = false;
+      return "answer";
     };
     way.cut(this.room);
     await way.comesTo("up to date", text);
+    assert.ok(!this.isLeaving, this.name);
     assert.deepEqual([way.editor.shown, await textOf(this.room)], [text, text], this.name);
   }
 }

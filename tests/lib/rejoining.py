@@ -21,7 +21,7 @@ class Player:
         self.room = self.run_at(0)
         self.writes(whole(case["text"]))
         self.lost = None  # what is lost with the line, then whether it is
-        self.is_up, self.late, self.is_accepted = True, None, False
+        self.is_up, self.late, self.is_accepted, self.is_left = True, None, False, True
         self.session = Session(self, tries=1)
 
     def run_at(self, site):
@@ -34,9 +34,13 @@ class Player:
             raise Lost
         if self.late and request["t"] == "leave":
             self.late = self.room(self.late) and None
+        if not self.is_left and request["t"] == "leave":
+            self.is_left = self.room(request) is not None
+            self.lines += 1
+            raise Lost
         is_submission = request["t"] in ("ins", "del")
-        if self.lost == "edits" and self.is_accepted and request["t"] == "pull" or self.lost in ("request", "answer", "late") and is_submission:
-            self.is_up, self.late = False, request if self.lost == "late" else None
+        if self.lost == "edits" and self.is_accepted and request["t"] == "pull" or self.lost not in ("edits", None) and is_submission:
+            self.is_up, self.late, self.is_left = False, request if self.lost == "late" else None, self.lost != "leave"
             if self.lost == "answer":
                 self.room(request)
             self.lines += 1
@@ -102,6 +106,7 @@ class Player:
         told = "".join(self.session.text), self.room({"t": "read"})["x"]
         self.room.close()
         text = whole(step["text"])
-        if told != (text, text):
+        is_so = told == (text, text) and self.is_left
+        if not is_so:
             print(f"{self.case['name']}: {told}, and not {text}")
-        return told == (text, text)
+        return is_so
