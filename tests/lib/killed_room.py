@@ -1,5 +1,6 @@
 """A kept room whose server is killed and started again, for bin/soak_clients: with what it kept, a backup, nothing, or renewed."""
 import concurrent.futures
+import contextlib
 import json
 import pathlib
 import shutil
@@ -14,6 +15,7 @@ OPERATIONS = 131_072  # of a room
 LAST_SITE = 28
 MOST = 64  # characters of a submission
 READ = '{"t":"read"}'
+TRIES = 20
 
 
 class Room:
@@ -108,8 +110,12 @@ class Room:
         shutil.rmtree(self.backup, ignore_errors=True)
 
     def text(self):
-        """What the room reads, with no fault between."""
-        return json.loads(opened(self.lines.target).ask(READ))["x"]
+        """What the room reads, with no fault between; asked again where it just begins anew."""
+        for _ in range(TRIES):
+            with contextlib.suppress(OSError, TypeError):  # no answer comes
+                return json.loads(opened(self.lines.target).ask(READ))["x"]
+            time.sleep(0.5)
+        raise AssertionError("the room isn't there")
 
 
 def opened(port):
