@@ -253,26 +253,24 @@ export class Document {
   }
 
   /**
-   * The deletion of what is gone round a piece, without a gap in the room's text: one may have gone back over it. What was deleted behind
-   * an order, or once something was put in that is new, isn't taken along.
+   * The deletion of what is gone round a piece, without a gap in the room's text: one may have gone back over it. What was deleted to the
+   * left of it behind an order, or once something was put in that is new, isn't taken along.
    */
   #deletion(index, before) {
     const { list } = this.#pieces;
-    const { order, text } = list[index];
     const until = list.reduce((least, it) => (it.owner === "new" ? Math.min(least, it.order) : least), before);
-    const goes = (piece) => piece.gone === "new" && (piece.order <= order || piece.order < until);
     let first = index;
-    for (let at = index - 1, units = text.length; at >= 0; at -= 1) {
+    for (let at = index - 1, units = list[index].text.length; at >= 0; at -= 1) {
       if (!list[at].isRooms) continue;
       units += list[at].text.length;
-      if (!goes(list[at]) || units > MOST) break;
+      if (list[at].gone !== "new" || list[at].order >= until || units > MOST) break;
       first = at;
     }
     const k = this.#pieces.roomPlace(first);
     let c = 0;
     for (let at = first; at < list.length; at += 1) {
       if (!list[at].isRooms) continue;
-      if (!goes(list[at])) break;
+      if (list[at].gone !== "new") break;
       let most = Math.min(MOST - c, list[at].text.length);
       if (isInside(list[at].text, most)) most -= 1;
       if (most === 0) break;

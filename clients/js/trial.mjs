@@ -446,7 +446,7 @@ async function countsCalls() {
     [100, (session, n) => session.insert(n, "x"), 50],
     [100, (session) => session.remove(5, 1), 50],
     [100, (session, n) => session.replace(n, 1, "x"), 100],
-    [100, (session, n) => session.remove(400 - n, 1), 200],
+    [100, (session, n) => session.remove(400 - n, 1), 50],
     [1, (session) => session.replaceAll(places), 80],
   ]) {
     const count = await calls(keys, does);
