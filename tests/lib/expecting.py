@@ -36,7 +36,10 @@ class Peer(WebSocket):
         expect("handshake", super().shake(pieces), b"HTTP/1.1 101 Switching Protocols")
 
     def open(self, room="notes"):
-        expect("open", self.ask('{"t":"open","room":"%s"}' % room), '{"r":"opened"}')
+        """Opens a room. Raises EOFError where the line ends before it is answered, as it may where a run ends."""
+        if (answer := self.ask('{"t":"open","room":"%s"}' % room)) is None:
+            raise EOFError("the line ends before a room is opened")
+        expect("open", answer, '{"r":"opened"}')
 
     def plays(self, title, given, wanted, flight=64):
         """Sends each line in a message, a flight of them before their answers are awaited, and looks for the first answer that isn't wanted."""
