@@ -3,7 +3,7 @@ ghost use Rattle.std.specs.Prelude.{◌≡◌, ℕ, ◌+◌, ◌^◌, ◌<◌, �
 ghost use Rattle.opid.specs.declared.refusal.Refusal.{Refusal};
 ghost use Rattle.opid.specs.declared.refusal.Refusal.TheVariants.{TooLong};
 ghost use Rattle.room_model.specs.declared.event.Event.{Event};
-ghost use Rattle.operation_json.specs.Given.{Gives, same};
+ghost use Rattle.operation_json.specs.Results.{Gives, same};
 ghost use Rattle.commands.specs.declared.script.Form.{Form};
 ghost use Rattle.commands.specs.Script.{IsForm, spaced, event_of, Asks};
 ghost use Rattle.commands.specs.Internal.Words.{IsWord, IsPlainNumber};

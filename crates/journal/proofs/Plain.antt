@@ -19,7 +19,7 @@ use Rattle.room_model.specs.declared.reply.Reply.TheVariants.{Ops}
 use Rattle.operation_json.specs.Packing.{Item, packed_items}
 use Rattle.operation_json.specs.Text.{more, in_brackets, IsOperationInRange, IsStampInRange, IsKindInRange, pairs_of, pair_text, clock_text}
 use Rattle.operation_json.specs.Text.{stamp_text, parent_text, op_text_of, item_text_of, item_text, packed_text}
-use Rattle.operation_json.proofs.PackedBack.{IsPacked, are_packed}
+use Rattle.operation_json.proofs.PackedValues.{IsPacked, are_packed}
 use Rattle.operation_json.proofs.Pairs.{pairs_small}
 use Rattle.wire_json.specs.Text.{text}
 use Rattle.wire_json.specs.Line.{IsLine}

@@ -3,7 +3,7 @@ use Rattle.std.proofs.Common.{◌≡◌, ℕ, List, [], ◌∷◌, ◌++◌, map
 use Rattle.serde_json.specs.Data.{Data, array}
 use Rattle.serde_json.specs.Written.{compact_text, items_text}
 use Rattle.operation_json.specs.Text.{more, in_brackets}
-use Rattle.operation_json.specs.Internal.Written.{each_data}
+use Rattle.operation_json.specs.Internal.Values.{each_data}
 
 pub regroup_3 : (a b c : List ℕ) → a ++ (b ++ c) ≡ a ++ b ++ c
 regroup_3 a b c = simp append_assoc

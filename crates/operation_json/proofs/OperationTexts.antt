@@ -9,7 +9,7 @@ use Rattle.opid.specs.declared.kind.OpKind.TheVariants.{Ins, Del}
 use Rattle.opid.specs.Operations.{Operation}
 use Rattle.json_bytes.specs.Quote.{quote}
 use Rattle.operation_json.specs.Text.{pairs_of, pair_text, clock_text, stamp_text, parent_text, op_text_of, op_text}
-use Rattle.operation_json.specs.Internal.Written.{pair_data, pairs_data, stamp_data, parent_data, op_data_of, op_data}
+use Rattle.operation_json.specs.Internal.Values.{pair_data, pairs_data, stamp_data, parent_data, op_data_of, op_data}
 use Rattle.operation_json.proofs.ListTexts.{regroup_5, regroup_7, list_compact}
 
 pair_compact : (p : ℕ × ℕ) → compact_text (pair_data p) ≡ pair_text p

@@ -22,13 +22,13 @@ use Rattle.operation_json.specs.PackedOperations.{packed_ops_of}
 use Rattle.operation_json.specs.Text.{IsOperationInRange, IsKindInRange, pairs_of, clock_text, parent_text, run_text_of, item_text_of}
 use Rattle.json_bytes.specs.Quote.{quote}
 use Rattle.operation_json.specs.Text.{item_text, packed_text}
-use Rattle.operation_json.specs.Internal.Written.{each_data, run_data_of, item_data_of, item_data}
+use Rattle.operation_json.specs.Internal.Values.{each_data, run_data_of, item_data_of, item_data}
 use Rattle.operation_json.proofs.ListTexts.{list_compact}
 use Rattle.operation_json.proofs.OperationTexts.{op_compact, regroup_9, clock_compact, parent_compact}
 use Rattle.operation_json.proofs.Pairs.{pairs_small}
-use Rattle.operation_json.proofs.Read.{op_numbers, op_depth, op_read, text_read, two_numbers, pairs_numbers, pairs_shallow, two_read}
-use Rattle.operation_json.proofs.Read.{pairs_read}
-use Rattle.operation_json.proofs.PackedBack.{IsPacked, are_packed, packed_back}
+use Rattle.operation_json.proofs.JsonTexts.{op_numbers, op_depth, op_read, text_read, two_numbers, pairs_numbers, pairs_shallow, two_read}
+use Rattle.operation_json.proofs.JsonTexts.{pairs_read}
+use Rattle.operation_json.proofs.PackedValues.{IsPacked, are_packed, packed_back}
 
 -- ---- texts
 

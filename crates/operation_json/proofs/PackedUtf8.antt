@@ -15,7 +15,7 @@ use Rattle.opid.specs.declared.kind.OpKind.TheVariants.{Ins, Del}
 use Rattle.opid.specs.Operations.{Operation}
 use Rattle.opid.specs.Kinds.{IsClock}
 use Rattle.operation_json.specs.Packing.{Item}
-use Rattle.operation_json.proofs.PackedBack.{IsPacked, more_scalars, run_scalars, are_packed}
+use Rattle.operation_json.proofs.PackedValues.{IsPacked, more_scalars, run_scalars, are_packed}
 use Rattle.operation_json.proofs.Pairs.{pairs_small}
 use Rattle.operation_json.specs.Packing.{packed_items}
 

@@ -6,7 +6,7 @@ use Rattle.std.specs.Str.{all_scalars}
 use Rattle.std.proofs.lemmas.Bool.{and_parts}
 use Rattle.opid.specs.Operations.{Operation}
 use Rattle.operation_json.specs.Packing.{Item, typed_next, last_typed, is_typed_next, joins, inserted_character}
-use Rattle.operation_json.proofs.Packed.{is_typed_next-typed_next}
+use Rattle.operation_json.proofs.PackedItems.{is_typed_next-typed_next}
 
 last_typed-push : (x : Operation) (cs : List ℕ) (c : ℕ) → last_typed x (cs ++ c ∷ []) ≡ typed_next (last_typed x cs) c
 last_typed-push x [] c = refl

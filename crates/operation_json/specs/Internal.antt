@@ -1,5 +1,5 @@
 -- What is the code's own: how its values are kept, what its parts have in common, and proofs that its types cite. No public clause cites
 -- these files; the view of a type may, which says what its fields stand for.
-pub mod Coming
+pub mod MemberTokens
 pub mod Offers
-pub mod Written
+pub mod Values

@@ -11,10 +11,10 @@ use Rattle.opid.specs.Operations.{Operation}
 use Rattle.operation_json.specs.Members.{◌>>=◌}
 use Rattle.operation_json.specs.Packing.{typed_behind}
 use Rattle.json_bytes.specs.Plain.{Comes}
-use Rattle.operation_json.specs.Coming.{ReadsItem}
+use Rattle.operation_json.specs.ItemTokens.{ReadsItem}
 use Rattle.json_bytes.specs.Internal.Coming.{items_of, put_entries}
 use Rattle.json_bytes.proofs.Come.{array_comes, object_comes, one_more_item, five_deep, whole}
-use Rattle.operation_json.proofs.Spelt.{told_back}
+use Rattle.operation_json.proofs.ItemTokens.{told_back}
 use Rattle.operation_json.proofs.Steps.{json_read}
 use Rattle.snapshot.specs.Snapshot.{ops_told, told_by, told_in}
 use Rattle.snapshot.specs.Internal.Values.{value_told}

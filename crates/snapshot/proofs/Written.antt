@@ -20,9 +20,9 @@ use Rattle.operation_json.specs.Members.{◌>>=◌}
 use Rattle.opid.specs.Lawful.{IsLawful}
 use Rattle.operation_json.specs.Packing.{packed_items}
 use Rattle.operation_json.specs.Text.{item_text, packed_text}
-use Rattle.operation_json.specs.Internal.Written.{each_data, item_data}
+use Rattle.operation_json.specs.Internal.Values.{each_data, item_data}
 use Rattle.operation_json.proofs.ListTexts.{regroup_3, list_compact}
-use Rattle.operation_json.proofs.PackedBack.{are_packed, packed_back}
+use Rattle.operation_json.proofs.PackedValues.{are_packed, packed_back}
 use Rattle.operation_json.proofs.PackedTexts.{item_compact, items_numbers, items_shallow, items_read}
 use Rattle.operation_json.proofs.Steps.{json_read}
 use Rattle.snapshot.specs.Snapshot.{AreInRange, StandsFor, told_by, log_text}

@@ -19,10 +19,10 @@ use Rattle.serde_json.specs.Find.{get_member, as_array}
 use Rattle.serde_json.specs.Read.{of_json, of_members}
 use Rattle.serde_json.proofs.Views.{get_member-put, get_member-put_other}
 use Rattle.opid.specs.declared.refusal.Refusal.TheVariants.{BadField}
-use Rattle.wire_json.specs.declared.flat.Primitive.{Primitive}
-use Rattle.wire_json.specs.declared.flat.Primitive.TheVariants.{Number, Text}
-use Rattle.wire_json.specs.declared.flat.Member.{Member}
-use Rattle.wire_json.specs.declared.flat.Next.TheVariants as nexts
+use Rattle.wire_json.specs.declared.request.flat.Primitive.{Primitive}
+use Rattle.wire_json.specs.declared.request.flat.Primitive.TheVariants.{Number, Text}
+use Rattle.wire_json.specs.declared.request.flat.Member.{Member}
+use Rattle.wire_json.specs.declared.request.flat.Next.TheVariants as nexts
 use Rattle.operation_json.specs.Members.{or_refuse, is_known, are_among, only_keys}
 use Rattle.operation_json.specs.Operations.{items_told, list_at}
 use Rattle.operation_json.proofs.Lists.{list_any-map}

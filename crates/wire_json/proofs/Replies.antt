@@ -16,12 +16,12 @@ use Rattle.operation_json.specs.Packing.{packed_items}
 use Rattle.operation_json.specs.PackedOperations.{packed_ops_of, first_65_of, handed_over}
 use Rattle.wire_json.specs.Text.{IsInRange, text}
 use Rattle.wire_json.specs.Part.{part_in, part_told}
-use Rattle.wire_json.specs.Internal.Written.{part_data}
-use Rattle.operation_json.proofs.Read.{small, text_read}
+use Rattle.wire_json.specs.Internal.Values.{part_data}
+use Rattle.operation_json.proofs.JsonTexts.{small, text_read}
 use Rattle.operation_json.proofs.Steps.{json_read}
-use Rattle.operation_json.proofs.PackedBack.{are_packed, packed_back}
+use Rattle.operation_json.proofs.PackedValues.{are_packed, packed_back}
 use Rattle.operation_json.proofs.PackedTexts.{items_shallow, items_read}
-use Rattle.wire_json.proofs.Pieced.{ops_utf8}
+use Rattle.wire_json.proofs.ReplyUtf8.{ops_utf8}
 use Rattle.wire_json.proofs.Texts.{compact, numbers}
 
 part_read : (place : ℕ) (ops : List Operation) → IsInRange (Ops place ops) → read (text (Ops place ops)) ≡ Some (part_data place ops)

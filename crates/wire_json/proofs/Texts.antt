@@ -25,16 +25,16 @@ use Rattle.room_model.specs.declared.reply.Reply.TheVariants.{Joined, Ok, Edits,
 use Rattle.room_model.specs.declared.outcome.Outcome as outcome
 use Rattle.room_model.specs.declared.outcome.Outcome.TheVariants as outcomes
 use Rattle.opid.proofs.Told.{number_of-injective}
-use Rattle.operation_json.proofs.Read.{small}
+use Rattle.operation_json.proofs.JsonTexts.{small}
 use Rattle.operation_json.proofs.PackedTexts.{item_compact, items_numbers, items_shallow, one_outline}
-use Rattle.operation_json.proofs.PackedBack.{are_packed}
+use Rattle.operation_json.proofs.PackedValues.{are_packed}
 use Rattle.wire_json.specs.Text.{IsInRange, IsEditInRange, IsOutcomeInRange, outcome_text, text, edit_text}
 use Rattle.json_bytes.specs.Quote.{quote}
 use Rattle.operation_json.specs.Text.{in_brackets, item_text, packed_text}
 use Rattle.operation_json.specs.Packing.{packed_items}
 use Rattle.operation_json.proofs.ListTexts.{regroup_3, regroup_5, regroup_7, list_compact}
-use Rattle.wire_json.specs.Internal.Written.{data_of, outcome_data, edit_data}
-use Rattle.operation_json.specs.Internal.Written.{item_data, each_data}
+use Rattle.wire_json.specs.Internal.Values.{data_of, outcome_data, edit_data}
+use Rattle.operation_json.specs.Internal.Values.{item_data, each_data}
 
 edit_compact : (e : edit.Edit) → compact_text (edit_data e) ≡ edit_text e
 unfolding escape_byte

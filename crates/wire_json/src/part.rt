@@ -1,10 +1,12 @@
 //! Reading a part of a log, as an `ops` reply tells it.
+mod bytes;
+
 ghost use Rattle.std.specs.Prelude.{◌≡◌};
 ghost use Rattle.serde_json.specs.View.{view};
 ghost use Rattle.wire_json.specs.Part.{part_told, part_in, part_members, part_at};
-ghost use Rattle.operation_json.specs.Given.{Gives, same};
+ghost use Rattle.operation_json.specs.Results.{Gives, same};
 
-use crate::spelled_part::read_spelled_part;
+use crate::part::bytes::read_plain_part;
 use causal_clock::Op;
 use operation_json::{check_keys, read_items, read_list, read_number, read_text, read_value};
 use opid::{MAX_COUNT, Refusal};
@@ -23,7 +25,7 @@ use std::alloc::Global;
 pub fn read_part(alloc: Global, bytes: &[u8]) -> Result<(u32, Operations), Refusal>
     ensures { Gives same result (part_told bytes.now) }
 {
-    if let Some((from, ops)) = read_spelled_part(alloc, bytes)? {
+    if let Some((from, ops)) = read_plain_part(alloc, bytes)? {
         return part(from, ops);
     }
     let value = read_value(alloc, bytes)?;

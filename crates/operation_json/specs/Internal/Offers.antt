@@ -8,8 +8,8 @@ use Rattle.opid.specs.declared.stamp.Stamp.{Stamp}
 use Rattle.opid.specs.declared.kind.OpKind.{OpKind}
 use Rattle.opid.specs.declared.kind.OpKind.TheVariants as kinds
 use Rattle.operation_json.specs.Operations.{pair_of}
-use Rattle.operation_json.specs.declared.offer.OfferedKind.{OfferedKind}
-use Rattle.operation_json.specs.declared.offer.OfferedKind.TheVariants.{Ins, Del}
+use Rattle.operation_json.specs.declared.read.offer.OfferedKind.{OfferedKind}
+use Rattle.operation_json.specs.declared.read.offer.OfferedKind.TheVariants.{Ins, Del}
 
 -- a sum and a site as a stamp
 abbrev pub stamp_with : ℕ × ℕ → Stamp

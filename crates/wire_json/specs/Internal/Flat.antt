@@ -4,14 +4,14 @@ use Rattle.json.specs.Token.{Token, end_object, key, string, number}
 use Rattle.serde_json.specs.Data as tree
 use Rattle.serde_json.specs.Data.{Data, Members, no_members, put, object, unsigned}
 use Rattle.serde_json.specs.Read.{number_of}
-use Rattle.wire_json.specs.declared.flat.Primitive.{Primitive}
-use Rattle.wire_json.specs.declared.flat.Primitive.TheVariants.{Number, Text}
-use Rattle.wire_json.specs.declared.flat.Member.{Member}
+use Rattle.wire_json.specs.declared.request.flat.Primitive.{Primitive}
+use Rattle.wire_json.specs.declared.request.flat.Primitive.TheVariants.{Number, Text}
+use Rattle.wire_json.specs.declared.request.flat.Member.{Member}
 use Rattle.serde_json.specs.View.{view}
-use Rattle.wire_json.specs.declared.fields.Fields.{Fields}
-use Rattle.wire_json.specs.declared.fields.Fields.TheVariants.{Flat, Tree}
-use Rattle.wire_json.specs.declared.flat.Next as next
-use Rattle.wire_json.specs.declared.flat.Next.TheVariants as nexts
+use Rattle.wire_json.specs.declared.request.fields.Fields.{Fields}
+use Rattle.wire_json.specs.declared.request.fields.Fields.TheVariants.{Flat, Tree}
+use Rattle.wire_json.specs.declared.request.flat.Next as next
+use Rattle.wire_json.specs.declared.request.flat.Next.TheVariants as nexts
 
 -- the JSON value of a member's value
 abbrev pub primitive_data : Primitive → Data

@@ -1,5 +1,5 @@
 -- Two operations with one text are what it is read as.
-use Rattle.operation_json.proofs.Read.{different}
+use Rattle.operation_json.proofs.JsonTexts.{different}
 use Rattle.operation_json.proofs.laws.different_operations.Goals as goal
 
 pub returns : goal.returns

@@ -4,7 +4,7 @@ use Rattle.std.proofs.lemmas.Iterator.{YieldsList-from_chars}
 use Rattle.std.proofs.lemmas.Iterator.Consumers.{YieldsList-turn, YieldsList-end}
 use Rattle.std.proofs.lemmas.List.{length_push}
 use Rattle.operation_json.specs.Packing.{Item, typed_behind}
-use Rattle.operation_json.proofs.Unfolding.{follows_more, follows_all}
+use Rattle.operation_json.proofs.RunLoops.{follows_more, follows_all}
 use Rattle.snapshot.proofs.gathered.unfold.Goals as goal
 
 pub next_op-last-requires : goal.next_op-last-requires

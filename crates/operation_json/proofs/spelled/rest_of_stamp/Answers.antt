@@ -1,8 +1,0 @@
-use Rattle.std.proofs.Common.{◌∙◌, sym}
-use Rattle.operation_json.proofs.Spelling.{stamp_read}
-use Rattle.operation_json.proofs.spelled.rest_of_stamp.Goals as goal
-
-pub returns-in-Ok : goal.returns-in-Ok
-returns-in-Ok c =
-    stamp_read c.args.reader.now c.rest_of_pair.new.reader (c.in_ok-sum.sum, c.in_ok-sum.number) c.in-Ok.site c.in_ok-sum.ensures
-    (sym c.in-Ok.is ∙ c.check_site.ensures)

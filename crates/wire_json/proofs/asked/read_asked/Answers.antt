@@ -1,6 +1,0 @@
-use Rattle.wire_json.proofs.Calling.{asked}
-use Rattle.wire_json.proofs.asked.read_asked.Goals as goal
-
-pub returns-clause-told : goal.returns-clause-told
-returns-clause-told c =
-    asked c.args.text.now c.new-reader.result c.read_object.result c.utf8.text c.new-reader.ensures c.read_object.ensures.told

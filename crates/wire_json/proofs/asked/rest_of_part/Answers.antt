@@ -1,7 +1,0 @@
-use Rattle.wire_json.proofs.Calling.{part_rest}
-use Rattle.wire_json.proofs.asked.rest_of_part.Goals as goal
-
-pub returns : goal.returns
-returns c =
-    part_rest c.args.reader.now c.next_field.new.reader c.next_field-2.new.reader c.in_ok-after.after c.in_ok-max.max c.in_ok-after.ensures
-    c.in_ok-max.ensures (c.is_closed.ensures c.if-not-is_closed.false)
