@@ -3,20 +3,20 @@ use Rattle.std.proofs.Common.{◌≡◌, ℕ, ◌+◌, ◌<◌, ◌≤◌, List,
 use Rattle.std.specs.Prelude.{◌^◌}
 use Rattle.std.proofs.lemmas.Option.{get_or_from_slice_get, slice_get_within}
 use Rattle.std.specs.Option.{IfSome}
-use Rattle.counted_tree.specs.declared.branch.Branch.{Branch}
+use Rattle.counted_tree.specs.declared.insert.branch.Branch.{Branch}
 use Rattle.counted_tree.specs.declared.entry.Entry.{Entry}
-use Rattle.counted_tree.specs.declared.node.Node.{Node}
+use Rattle.counted_tree.specs.declared.kept.node.Node.{Node}
 use Rattle.counted_tree.specs.Internal.Size.{IsSizeOf}
 use Rattle.counted_tree.specs.Internal.Keys.{least_key}
 use Rattle.counted_tree.specs.Internal.Arena.{AreSound}
-use Rattle.counted_tree.specs.declared.row.Row.{Row}
+use Rattle.counted_tree.specs.declared.kept.row.Row.{Row}
 use Rattle.counted_tree.specs.Internal.Tree.{Tree, entries, height, IsBalanced}
 use Rattle.counted_tree.specs.Internal.Tree.Tree.{Leaf, Fork}
 use Rattle.counted_tree.specs.Internal.Store.{Store}
 use Rattle.counted_tree.specs.Internal.Change.{tree_in}
 use Rattle.counted_tree.specs.Internal.Branch.{IsBranchOf, IsBranch}
 use Rattle.counted_tree.specs.Internal.Table.{row_of, PointsTo, HasRow}
-use Rattle.counted_tree.proofs.Growth.{linked_balanced}
+use Rattle.counted_tree.proofs.EarlierTrees.{linked_balanced}
 use Rattle.counted_tree.proofs.Counts.{height_small, least_within, least-fork}
 use Rattle.counted_tree.proofs.Tables.{IsTopBelow}
 

@@ -1,15 +1,15 @@
 -- A copy of a node with another side, which is about as high as the one that stays.
 use Rattle.std.proofs.Common.{◌≡◌, ℕ, ◌+◌, ◌<◌, [], ◌∷◌, ◌++◌, length, Option, Some, ap, ◌∙◌, arith}
 use Rattle.std.proofs.lemmas.List.{length_push}
-use Rattle.counted_tree.specs.declared.node.Node.{Node}
+use Rattle.counted_tree.specs.declared.kept.node.Node.{Node}
 use Rattle.counted_tree.specs.declared.size.Size.{Size}
 use Rattle.counted_tree.specs.Internal.Size.{IsSizeOf}
 use Rattle.counted_tree.specs.Internal.Store.{Store}
 use Rattle.counted_tree.specs.Internal.Tree.{entries, height}
 use Rattle.counted_tree.specs.Internal.Arena.{IsLinkBelow, IsSoundNode, AreSound, trees, tree_of}
 use Rattle.counted_tree.specs.Internal.Change.{tree_in, Adds, DifferByAtMost}
-use Rattle.counted_tree.proofs.Adding.{adds_push, sound_node, tree_pushed}
-use Rattle.counted_tree.proofs.Growth.{length-trees, link_later, linked_balanced}
+use Rattle.counted_tree.proofs.NodeAdditions.{adds_push, sound_node, tree_pushed}
+use Rattle.counted_tree.proofs.EarlierTrees.{length-trees, link_later, linked_balanced}
 
 -- the node was appended as the one with this number
 pub record IsAppended (a b : Store) (n : Node) (k : ℕ) : Type 0 where

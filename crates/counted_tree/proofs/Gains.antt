@@ -3,15 +3,15 @@ use Rattle.std.proofs.Common.{◌≡◌, ◌+◌, Bool, true, false, List, [], �
 use Rattle.std.proofs.Common.{refl, sym, ap, ◌∙◌, arith, append_assoc, length-append}
 use Rattle.std.proofs.lemmas.Grind.{flat_map-append}
 use Rattle.counted_tree.specs.declared.entry.Entry.{Entry}
-use Rattle.counted_tree.specs.declared.side.Side.{Side}
-use Rattle.counted_tree.specs.declared.side.Side.TheVariants.{Left, Right}
+use Rattle.counted_tree.specs.declared.kept.side.Side.{Side}
+use Rattle.counted_tree.specs.declared.kept.side.Side.TheVariants.{Left, Right}
 use Rattle.counted_tree.specs.Entry.{items_of, items}
 use Rattle.counted_tree.specs.Internal.Keys.{least_key}
 use Rattle.counted_tree.specs.Internal.Size.{size_of, ShowsMore}
 use Rattle.counted_tree.specs.Internal.Tree.{Tree, entries}
 use Rattle.counted_tree.specs.Internal.Tree.Tree.{Leaf, Fork}
-use Rattle.counted_tree.specs.Internal.Along.{inserted_at}
-use Rattle.counted_tree.specs.Internal.Grown.{Gains}
+use Rattle.counted_tree.specs.Internal.PathEntries.{inserted_at}
+use Rattle.counted_tree.specs.Internal.Growth.{Gains}
 use Rattle.counted_tree.proofs.Counts.{length-items, least-fork, least_within}
 use Rattle.counted_tree.proofs.Places.{length-fork}
 

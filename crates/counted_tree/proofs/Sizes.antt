@@ -10,7 +10,7 @@ use Rattle.counted_tree.specs.Entry.{visible, items_of, items, units}
 use Rattle.counted_tree.specs.Internal.Size.{size_of, through, beyond, IsSizeOf, ShowsMore}
 use Rattle.counted_tree.specs.Internal.Tree.{Tree, entries}
 use Rattle.counted_tree.specs.Internal.Tree.Tree.{Fork}
-use Rattle.counted_tree.specs.Changed.{Lists, put_after, put}
+use Rattle.counted_tree.specs.Changes.{Lists, put_after, put}
 use Rattle.counted_tree.proofs.Counts.{two_at_most, length-items, length-items-le, length-visible-le}
 use Rattle.counted_tree.proofs.Places.{length-fork}
 

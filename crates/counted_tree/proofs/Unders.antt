@@ -4,18 +4,18 @@ use Rattle.std.proofs.Common.{refl, sym, ap, ◌∙◌, subst, arith, length-app
 use Rattle.std.specs.List.{slice_get}
 use Rattle.std.specs.Option.{IsSome}
 use Rattle.counted_tree.specs.declared.entry.Entry.{Entry}
-use Rattle.counted_tree.specs.declared.row.Row.{Row}
-use Rattle.counted_tree.specs.declared.side.Side.{Side}
-use Rattle.counted_tree.specs.declared.side.Side.TheVariants.{Left, Right}
+use Rattle.counted_tree.specs.declared.kept.row.Row.{Row}
+use Rattle.counted_tree.specs.declared.kept.side.Side.{Side}
+use Rattle.counted_tree.specs.declared.kept.side.Side.TheVariants.{Left, Right}
 use Rattle.counted_tree.specs.Internal.Tree.{Tree, entries, height}
 use Rattle.counted_tree.specs.Internal.Tree.Tree.{Leaf, Fork}
-use Rattle.counted_tree.specs.Internal.Along.{entry_at, turned, under}
+use Rattle.counted_tree.specs.Internal.PathEntries.{entry_at, turned, under}
 use Rattle.counted_tree.specs.Internal.Arena.{IsLinkBelow, AreSound}
 use Rattle.counted_tree.specs.Internal.Store.{Store}
 use Rattle.counted_tree.specs.Internal.Change.{tree_in}
-use Rattle.counted_tree.specs.declared.insert.Inserted.{Inserted}
-use Rattle.counted_tree.specs.declared.node.Node.{Node}
-use Rattle.counted_tree.specs.Internal.Inserted.{IsFit, IsInserted, IsLift, AreAlong}
+use Rattle.counted_tree.specs.declared.insert.path.Inserted.{Inserted}
+use Rattle.counted_tree.specs.declared.kept.node.Node.{Node}
+use Rattle.counted_tree.specs.Internal.Insertion.{IsFit, IsInserted, IsLift, AreAlong}
 use Rattle.counted_tree.proofs.Levels.{down_left, down_right}
 
 -- one step more

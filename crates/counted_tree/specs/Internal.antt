@@ -8,10 +8,10 @@ pub mod Tree
 pub mod Arena
 pub mod Change
 pub mod Branch
-pub mod Grown
-pub mod Settled
-pub mod Inserted
-pub mod Along
+pub mod Growth
+pub mod GrownTree
+pub mod Insertion
+pub mod PathEntries
 pub mod Table
 pub mod Counter
 pub mod PackedRow

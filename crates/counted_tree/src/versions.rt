@@ -1,25 +1,28 @@
 //! The version tree: one root for each version over nodes that all versions share (a persistent tree by copies of the
 //! path, Driscoll, Sarnak, Sleator, Tarjan 1989; balanced as by Adelson-Velsky and Landis 1962).
-ghost use Rattle.std.specs.Prelude.{◌≡◌, ℕ, ◌+◌, ◌*◌, ◌<◌, ◌≤◌, ◌^◌, [], ◌∷◌, ◌++◌, length, slice_get, true, max};
-ghost use Rattle.std.specs.Prelude.{IsSome, IfSome, OnOk, OnErr};
+ghost use Rattle.std.specs.Prelude.{◌≡◌, ℕ, ◌+◌, ◌*◌, ◌<◌, ◌≤◌, ◌^◌, [], ◌∷◌, ◌++◌, length, slice_get, true, max, IsSome, IfSome, OnOk};
+ghost use Rattle.std.specs.Prelude.{OnErr};
 ghost use Rattle.counted_tree.specs.Digits.{digits};
 ghost use Rattle.counted_tree.specs.Entry.{visible, units};
 ghost use Rattle.counted_tree.specs.Versions.{version_list, newest, newest_list};
 ghost use Rattle.counted_tree.specs.Internal.Roots.{newest_root, no_root, root_at};
-ghost use Rattle.counted_tree.specs.Changed.{Lists, Shows, put, hidden, before as entries_before};
+ghost use Rattle.counted_tree.specs.Changes.{Lists, Shows, put, hidden, before as entries_before};
 ghost use Rattle.counted_tree.specs.Greater.{last_greater};
 ghost use Rattle.counted_tree.specs.Steps.{IsCounted};
 
-use crate::change::{hide, insert, last_greater_in, rank_in};
 use crate::entry::{Entry, MAX_ELEMENTS};
-use crate::nodes::Nodes;
-use crate::packed_root::PackedRoot;
-use crate::packed_row::PackedRow;
-use crate::root::Root;
-use crate::search::find_in;
+use crate::hide::hide;
+use crate::insert::insert;
+use crate::kept::nodes::Nodes;
+use crate::kept::packed_root::PackedRoot;
+use crate::kept::packed_row::PackedRow;
+use crate::kept::root::Root;
+use crate::read::greater::last_greater_in;
+use crate::read::rank::rank_in;
+use crate::read::search::find_in;
+use crate::read::walk::push_shown_in;
 use crate::size::Size;
 use crate::steps::Steps;
-use crate::walk::push_shown_in;
 use std::alloc::{AllocError, Global};
 use std::marker::Model;
 

@@ -18,7 +18,7 @@ use Rattle.opid.proofs.Logs.{IsSound-lawful}
 use Rattle.versions.proofs.Changes.{names-listed, elements-listed}
 use Rattle.versions.proofs.Integrated.{sites-listed}
 use Rattle.counted_tree.specs.declared.entry.Entry.{Entry}
-use Rattle.counted_tree.specs.Changed.{Lists, put, put_after}
+use Rattle.counted_tree.specs.Changes.{Lists, put, put_after}
 use Rattle.counted_tree.specs.Greater.{passed, last_greater}
 use Rattle.versions.specs.Internal.Joined.{key_of, plain}
 use Rattle.versions.proofs.Joins.{has_elem, elem_listed}

@@ -9,7 +9,7 @@ use Rattle.opid.specs.declared.stamp.Stamp.{Stamp}
 use Rattle.opid.specs.Stamps.{is_before}
 use Rattle.rga_list.specs.Entries as rga
 use Rattle.counted_tree.specs.declared.entry.Entry.{Entry}
-use Rattle.counted_tree.specs.Changed.{Lists}
+use Rattle.counted_tree.specs.Changes.{Lists}
 use Rattle.counted_tree.specs.Greater.{passed, last_greater}
 use Rattle.versions.specs.Internal.Joined.{key_of, plain}
 use Rattle.versions.proofs.Keys.{key_before}

@@ -5,7 +5,7 @@ use Rattle.counted_tree.specs.Internal.Keys.{IsSmall}
 use Rattle.counted_tree.specs.Internal.Size.{IsSizeOf}
 use Rattle.counted_tree.specs.Internal.Tree.{Tree, entries, IsBalanced}
 use Rattle.counted_tree.specs.Internal.Tree.Tree.{Leaf, Fork}
-use Rattle.counted_tree.specs.declared.node.Node.{Node}
+use Rattle.counted_tree.specs.declared.kept.node.Node.{Node}
 
 -- the tree that a link names, among the trees of the nodes so far
 abbrev pub linked : List Tree → Option ℕ → Tree

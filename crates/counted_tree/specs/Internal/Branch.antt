@@ -1,6 +1,6 @@
 -- What is kept beside a tree's link.
 use Rattle.std.specs.Prelude.{◌≡◌, ℕ, length, Option, None, IsSome}
-use Rattle.counted_tree.specs.declared.branch.Branch.{Branch}
+use Rattle.counted_tree.specs.declared.insert.branch.Branch.{Branch}
 use Rattle.counted_tree.specs.Internal.Keys.{least_key}
 use Rattle.counted_tree.specs.Internal.Tree.{Tree, entries, height}
 use Rattle.counted_tree.specs.Internal.Tree.Tree.{Leaf, Fork}

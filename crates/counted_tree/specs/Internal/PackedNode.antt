@@ -1,8 +1,8 @@
 -- What a node as it is kept stands for.
 use Rattle.std.specs.Prelude.{ℕ, ◌+◌, ◌*◌, ◌/◌, ◌%◌, ◌^◌, ◌==◌}
 use Rattle.counted_tree.specs.Internal.Link.{link_of}
-use Rattle.counted_tree.specs.declared.node.Node.{Node}
-use Rattle.counted_tree.specs.declared.packed_node.PackedNode.{PackedNode}
+use Rattle.counted_tree.specs.declared.kept.node.Node.{Node}
+use Rattle.counted_tree.specs.declared.kept.packed_node.PackedNode.{PackedNode}
 
 -- the element of the node that is kept so
 abbrev pub elem_of : PackedNode → ℕ

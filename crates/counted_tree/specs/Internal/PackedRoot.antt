@@ -1,6 +1,6 @@
 -- What a kept root stands for.
 use Rattle.std.specs.Prelude.{ℕ, ◌/◌, ◌%◌, ◌^◌}
-use Rattle.counted_tree.specs.declared.root.Root.{Root}
+use Rattle.counted_tree.specs.declared.kept.root.Root.{Root}
 use Rattle.counted_tree.specs.declared.size.Size.{Size}
 use Rattle.counted_tree.specs.Internal.Link.{link_of}
 

@@ -1,10 +1,10 @@
 -- What a kept row of the newest tree's table stands for.
 use Rattle.std.specs.Prelude.{ℕ, ◌-◌, ◌/◌, ◌%◌, ◌^◌, ◌==◌, if◌then◌else◌, Option, Some, None}
-use Rattle.counted_tree.specs.declared.above.Above.{Above}
-use Rattle.counted_tree.specs.declared.row.Row.{Row}
-use Rattle.counted_tree.specs.declared.side.Side.{Side}
-use Rattle.counted_tree.specs.declared.side.Side.TheVariants.{Left, Right}
-use Rattle.counted_tree.specs.declared.packed_row.PackedRow.TheInside.{Inside}
+use Rattle.counted_tree.specs.declared.kept.above.Above.{Above}
+use Rattle.counted_tree.specs.declared.kept.row.Row.{Row}
+use Rattle.counted_tree.specs.declared.kept.side.Side.{Side}
+use Rattle.counted_tree.specs.declared.kept.side.Side.TheVariants.{Left, Right}
+use Rattle.counted_tree.specs.declared.kept.packed_row.PackedRow.TheInside.{Inside}
 
 -- the side that a number stands for: an even one is the left side
 abbrev pub side_of : ℕ → Side

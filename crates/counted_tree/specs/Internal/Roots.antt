@@ -2,8 +2,8 @@
 use Rattle.std.specs.Prelude.{ℕ, ◌+◌, ◌-◌, ◌*◌, ◌<◌, ◌≤◌, ◌==◌, if◌then◌else◌, List, [], ◌∷◌, map, length, None, slice_index_or}
 use Rattle.counted_tree.specs.declared.entry.TheConstants.{MAX_ELEMENTS}
 use Rattle.counted_tree.specs.declared.entry.Entry.{Entry}
-use Rattle.counted_tree.specs.declared.node.Node.{Node}
-use Rattle.counted_tree.specs.declared.root.Root.{Root}
+use Rattle.counted_tree.specs.declared.kept.node.Node.{Node}
+use Rattle.counted_tree.specs.declared.kept.root.Root.{Root}
 use Rattle.counted_tree.specs.Internal.Size.{IsSizeOf}
 use Rattle.counted_tree.specs.Internal.Store.{Store}
 use Rattle.counted_tree.specs.Internal.Arena.{IsLinkBelow, AreSound, list_of}

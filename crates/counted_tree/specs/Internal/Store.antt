@@ -1,7 +1,7 @@
 -- The nodes as they are kept, beside the key and the width of each element.
 use Rattle.std.specs.Prelude.{ℕ, ◌-◌, ◌<◌, List, [], ◌∷◌, ◌++◌, map, slice_index}
-use Rattle.counted_tree.specs.declared.node.Node.{Node}
-use Rattle.counted_tree.specs.declared.packed_node.PackedNode.{PackedNode}
+use Rattle.counted_tree.specs.declared.kept.node.Node.{Node}
+use Rattle.counted_tree.specs.declared.kept.packed_node.PackedNode.{PackedNode}
 use Rattle.counted_tree.specs.Internal.PackedNode.{elem_of, node_of}
 
 -- the nodes and how many more are reserved, the number that each element's key and width are kept as, and how many more of these

@@ -1,13 +1,13 @@
 -- The table of the newest tree: for each element what it hangs from, and the least key and the height of the subtree that it tops.
 use Rattle.std.specs.Prelude.{◌≡◌, ◌≢◌, ℕ, ◌<◌, List, [], ◌∷◌, ◌++◌, length, Option, Some, None, option_map, slice_get, slice_set}
 use Rattle.counted_tree.specs.declared.entry.Entry.{Entry}
-use Rattle.counted_tree.specs.declared.above.Above.{Above}
-use Rattle.counted_tree.specs.declared.side.Side.{Side}
-use Rattle.counted_tree.specs.declared.side.Side.TheVariants.{Left, Right}
-use Rattle.counted_tree.specs.declared.row.Row.{Row}
+use Rattle.counted_tree.specs.declared.kept.above.Above.{Above}
+use Rattle.counted_tree.specs.declared.kept.side.Side.{Side}
+use Rattle.counted_tree.specs.declared.kept.side.Side.TheVariants.{Left, Right}
+use Rattle.counted_tree.specs.declared.kept.row.Row.{Row}
 use Rattle.counted_tree.specs.Internal.Keys.{least_key}
 use Rattle.counted_tree.specs.Internal.Tree.{Tree, entries, height}
-use Rattle.counted_tree.specs.Changed.{Lists}
+use Rattle.counted_tree.specs.Changes.{Lists}
 use Rattle.counted_tree.specs.Internal.Tree.Tree.{Leaf, Fork}
 
 -- no entry has the element

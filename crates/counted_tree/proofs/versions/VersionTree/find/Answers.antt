@@ -8,7 +8,7 @@ use Rattle.counted_tree.specs.Internal.Arena.{list_of}
 use Rattle.counted_tree.specs.Versions.{Versions, version_list}
 use Rattle.counted_tree.specs.Internal.Roots.{rooted, lists_of, root_at}
 use Rattle.counted_tree.proofs.Counts.{find-visible}
-use Rattle.counted_tree.proofs.Listed.{list_at}
+use Rattle.counted_tree.proofs.VersionLists.{list_at}
 use Rattle.counted_tree.proofs.versions.VersionTree.find.Goals as goal
 
 pub returns-in_err-elem-clause-found : goal.returns-in_err-elem-clause-found

@@ -1,12 +1,12 @@
 use Rattle.std.proofs.Common.{◌≡◌, length, ap, sym, ◌∙◌, subst, arith}
 use Rattle.std.specs.Option.{IfSome}
 use Rattle.counted_tree.specs.Digits.{digits}
-use Rattle.counted_tree.specs.Changed.{Lists}
+use Rattle.counted_tree.specs.Changes.{Lists}
 use Rattle.counted_tree.specs.Greater.{last_greater}
 use Rattle.counted_tree.specs.Internal.Arena.{list_of}
 use Rattle.counted_tree.specs.Versions.{Versions, newest_list}
 use Rattle.counted_tree.specs.Internal.Roots.{rooted, newest_root}
-use Rattle.counted_tree.proofs.Listed.{last_list}
+use Rattle.counted_tree.proofs.VersionLists.{last_list}
 use Rattle.counted_tree.proofs.versions.VersionTree.last_greater.Goals as goal
 
 pub returns-clause-last : goal.returns-clause-last

@@ -2,17 +2,17 @@ use Rattle.std.proofs.Common.{◌≡◌, ℕ, List, ◌+◌, ◌*◌, ◌<◌, �
 use Rattle.std.proofs.Math.Nat.{mul-le-mul_left}
 use Rattle.std.proofs.lemmas.List.{length-map}
 use Rattle.counted_tree.specs.declared.entry.Entry.{Entry}
-use Rattle.counted_tree.specs.declared.root.Root.{Root}
+use Rattle.counted_tree.specs.declared.kept.root.Root.{Root}
 use Rattle.counted_tree.specs.Digits.{digits}
 use Rattle.counted_tree.specs.Entry.{visible}
 use Rattle.counted_tree.specs.Internal.Arena.{IsLinkBelow, list_of, linked, trees}
 use Rattle.counted_tree.specs.Internal.Tree.{height}
 use Rattle.counted_tree.specs.Versions.{Versions, version_list}
 use Rattle.counted_tree.specs.Internal.Roots.{rooted, lists_of, root_at}
-use Rattle.counted_tree.proofs.Growth.{linked_balanced}
+use Rattle.counted_tree.proofs.EarlierTrees.{linked_balanced}
 use Rattle.counted_tree.proofs.Heights.{height_bound}
-use Rattle.counted_tree.proofs.Listed.{list_at, root_below}
-use Rattle.counted_tree.proofs.Kept.{root_shows}
+use Rattle.counted_tree.proofs.VersionLists.{list_at, root_below}
+use Rattle.counted_tree.proofs.NextVersions.{root_shows}
 use Rattle.counted_tree.proofs.versions.VersionTree.push_shown.Goals as goal
 
 pub push_shown_in-requires-clause-shown : goal.push_shown_in-requires-clause-shown

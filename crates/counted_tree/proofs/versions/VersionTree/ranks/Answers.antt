@@ -1,10 +1,10 @@
 use Rattle.std.proofs.Common.{◌≡◌, length, ap, sym, ◌∙◌}
 use Rattle.counted_tree.specs.Entry.{visible, units}
-use Rattle.counted_tree.specs.Changed.{before}
+use Rattle.counted_tree.specs.Changes.{before}
 use Rattle.counted_tree.specs.Internal.Arena.{list_of}
 use Rattle.counted_tree.specs.Versions.{Versions, newest_list}
 use Rattle.counted_tree.specs.Internal.Roots.{rooted, newest_root}
-use Rattle.counted_tree.proofs.Listed.{last_list}
+use Rattle.counted_tree.proofs.VersionLists.{last_list}
 use Rattle.counted_tree.proofs.versions.VersionTree.ranks.Goals as goal
 
 pub returns-clause-shown : goal.returns-clause-shown

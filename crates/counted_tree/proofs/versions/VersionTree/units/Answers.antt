@@ -1,11 +1,11 @@
 use Rattle.std.proofs.Common.{◌≡◌, ◌<◌, ◌≤◌, length, subst, ap, sym, ◌∙◌, arith}
 use Rattle.std.proofs.lemmas.List.{length-map}
-use Rattle.counted_tree.specs.declared.root.Root.{Root}
+use Rattle.counted_tree.specs.declared.kept.root.Root.{Root}
 use Rattle.counted_tree.specs.Entry.{units}
 use Rattle.counted_tree.specs.Versions.{Versions, version_list}
 use Rattle.counted_tree.specs.Internal.Roots.{rooted, lists_of, root_at}
-use Rattle.counted_tree.proofs.Listed.{list_at}
-use Rattle.counted_tree.proofs.Kept.{root_shows}
+use Rattle.counted_tree.proofs.VersionLists.{list_at}
+use Rattle.counted_tree.proofs.NextVersions.{root_shows}
 use Rattle.counted_tree.proofs.versions.VersionTree.units.Goals as goal
 
 pub returns : goal.returns
