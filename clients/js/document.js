@@ -269,13 +269,14 @@ export class Document {
     const k = this.#pieces.roomPlace(first);
     let c = 0;
     for (let at = first; at < list.length; at += 1) {
-      if (!list[at].isRooms) continue;
-      if (list[at].gone !== "new") break;
-      let most = Math.min(MOST - c, list[at].text.length);
-      if (isInside(list[at].text, most)) most -= 1;
+      const piece = list[at];
+      if (!piece.isRooms) continue;
+      if (piece.gone !== "new") break;
+      let most = Math.min(MOST - c, piece.text.length);
+      if (isInside(piece.text, most)) most -= 1;
       if (most === 0) break;
       this.#pieces.cut(at, most);
-      list[at].gone = "sent";
+      piece.gone = "sent";
       c += most;
     }
     return { submission: { t: "del", k, c }, from: null, to: null };
