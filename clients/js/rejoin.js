@@ -181,12 +181,12 @@ function hasCome({ roomText, textToCome, underWay }, text, away) {
  * under way, nothing was lost.
  */
 function textBefore(document, wanted) {
-  const { memory, roomText } = document;
-  const length = memory.lengthWhere(wanted, roomText);
+  const { memory } = document;
+  const length = memory.lengthWhere(wanted, document.roomText);
   if (length !== null) return { length, text: wanted };
+  const { roomText, own } = withoutDeleted(document);
   const away = distance(roomText, wanted);
   if (hasCome(document, wanted, away)) return { length: memory.length, text: roomText, hasCome: true };
-  const own = [...memory.ownEntries(roomText.length)];
   if (own.at(-1)?.length < 0 && placesOf(own, roomText, wanted) < PLACES) own.pop();
   const upTo = (entry) => without(roomText, own.slice(0, entry));
   const isMissing = (entry) => {
@@ -203,6 +203,18 @@ function textBefore(document, wanted) {
     else high = middle;
   }
   return { length: own[low - 1]?.length ?? memory.length, text: upTo(low) };
+}
+
+/**
+ * The room's text, and the entries that put in something here that it still has, the last first: both without what is being deleted here,
+ * which another text may lack by that.
+ */
+function withoutDeleted({ memory, roomText, underWay }) {
+  const [start, count] = underWay?.isPut === false ? [underWay.k, underWay.signs.join("").length] : [0, 0];
+  const isLeft = (place) => place < start || place >= start + count;
+  const left = (places) => places.filter(isLeft).map((place) => (place < start ? place : place - count));
+  const own = [...memory.ownEntries(roomText.length)].map(({ length, places }) => ({ length, places: left(places) }));
+  return { roomText: roomText.slice(0, start) + roomText.slice(start + count), own: own.filter(({ places }) => places.length > 0) };
 }
 
 /** At how many places where something was put in here a text has what stands right before or behind it in the room's, a piece by itself. */

@@ -753,6 +753,23 @@ async function typesBetweenOthers() {
   await goOn(await anewRun(way.room), [way], "AhiB");
 }
 
+/** A deletion of what one typed last came, others typed much, and the room was renewed: what it left of that is there once. */
+async function deletesOfItsOwnBeforeMuchIsTyped() {
+  const way = await begin("");
+  way.editor.change(0, 0, "typed last");
+  await way.comesTo("up to date", "typed last");
+  const isLost = way.loseOnce("answer", "del");
+  way.editor.change(5, 5, "");
+  await isLost;
+  let typed = "";
+  for (let n = 0; n < 35; n += 1) {
+    const text = SIGNS.slice(n, n + 64);
+    await typedBy(way.room, 0, text);
+    typed = text + typed;
+  }
+  await goOn(await anewRun(way.room), [way], `${typed}typed`);
+}
+
 /** What was lost and is typed anew, some time after another deleted it, is wanted: it stays. */
 async function keepsWhatIsTypedAnew() {
   const [one, other] = await two("Sum: ", "7 apples");
@@ -862,6 +879,7 @@ await Promise.all([
   typesBesideAWordThatCame("three four", (room) => deletedBy(room, 14, 4), "one two what t four"),
   typesBesideAWordThatCame("three four", (room) => typedBy(room, 16, "-"), "one two what thr-ee four"),
   typesBetweenOthers(),
+  deletesOfItsOwnBeforeMuchIsTyped(),
   readsTheSame(),
 ]);
 await keepsWhatIsTypedAnew();
