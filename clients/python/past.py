@@ -235,7 +235,7 @@ class Past:
         if kept is None:
             set_places(now, log.written)  # what came behind it the log tells
             sure = last_in_a_piece(now, self.version)
-            own = [it.place is not None for it in now if it.is_own and it.put > sure]
+            own = [it.place is not None for it in now if it.is_own and it.put > sure and it.gone is None]
             if 2 * sum(own) < len(own):
                 until = sure  # the room was written of a text before what was put in last, or before those that are remembered
                 for it in order:
