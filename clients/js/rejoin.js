@@ -202,7 +202,8 @@ function textBefore(document, wanted) {
     if (isMissing(middle)) low = middle;
     else high = middle;
   }
-  return { length: own[low - 1]?.length ?? memory.length, text: upTo(low) };
+  const isDeleted = low === 0 && away < distance(document.roomText, wanted); // what is being deleted here is gone there
+  return { length: own[low - 1]?.length ?? memory.length, text: upTo(low), hasCome: isDeleted };
 }
 
 /**

@@ -233,7 +233,7 @@ class Past:
         now = those_at(order, PENDING - 1)
         until = kept
         if kept is None:
-            set_places(now, log.written)  # what came behind it the log tells
+            set_left_places(now, log.written)  # what came behind it the log tells
             sure = last_in_a_piece(now, self.version)
             own = [it.place is not None for it in now if it.is_own and it.put > sure and it.gone is None]
             if 2 * sum(own) < len(own):
@@ -266,10 +266,23 @@ class Past:
         return edits, lost
 
 
+def found(elements, text):
+    """Those of the elements that are in a text, each with its place there."""
+    pieces = in_common("".join([it.char for it in elements]), "".join(text))
+    return [pair for at, to, count in pieces for pair in zip(elements[at : at + count], range(to, to + count))]
+
+
 def set_places(elements, text):
-    for at, to, count in in_common("".join([it.char for it in elements]), "".join(text)):
-        for place, it in enumerate(elements[at : at + count], to):
-            it.place = place
+    for it, place in found(elements, text):
+        it.place = place
+
+
+def set_left_places(elements, text):
+    """The same for those that aren't being deleted; and for the others, where more is in the text with them: else they are gone."""
+    left = [it for it in elements if it.gone is None]
+    ways = [found(them, text) for them in [left] + [elements] * (len(left) < len(elements))]
+    for it, place in max(ways, key=len):
+        it.place = place
 
 
 def carry_places(elements, log):

@@ -770,6 +770,16 @@ async function deletesOfItsOwnBeforeMuchIsTyped() {
   await goOn(await anewRun(way.room), [way], `${typed}typed`);
 }
 
+/** A deletion came of one of two words that are alike, another typed, and the room was renewed: the other word stays. */
+async function deletesOneOfTwo(at) {
+  const way = await begin("one two two three", false);
+  const isLost = way.loseOnce("answer", "del");
+  way.editor.change(at, 4, "");
+  await isLost;
+  await typedBy(way.room, 0, "zero ");
+  await goOn(await anewRun(way.room), [way], "zero one two three");
+}
+
 /** What was lost and is typed anew, some time after another deleted it, is wanted: it stays. */
 async function keepsWhatIsTypedAnew() {
   const [one, other] = await two("Sum: ", "7 apples");
@@ -880,6 +890,8 @@ await Promise.all([
   typesBesideAWordThatCame("three four", (room) => typedBy(room, 16, "-"), "one two what thr-ee four"),
   typesBetweenOthers(),
   deletesOfItsOwnBeforeMuchIsTyped(),
+  deletesOneOfTwo(3),
+  deletesOneOfTwo(7),
   readsTheSame(),
 ]);
 await keepsWhatIsTypedAnew();
