@@ -178,22 +178,22 @@ function hasCome({ roomText, textToCome, underWay }, text, away) {
  * The text that a new document was made of, and how many entries lead there: the last one that is the same. Else it was made by changes
  * that weren't seen, of a later one; but as far as all is missing that was put in here last, that was lost. Others put theirs in again.
  * What is older than all entries may be missing since others deleted it, unless it stood at many places. Where the new document has what is
- * under way, nothing was lost.
+ * under way, or lacks what is being deleted and nothing else, nothing was lost.
  */
 function textBefore(document, wanted) {
-  const { memory } = document;
-  const length = memory.lengthWhere(wanted, document.roomText);
+  const { memory, roomText } = document;
+  const length = memory.lengthWhere(wanted, roomText);
   if (length !== null) return { length, text: wanted };
-  const { roomText, own } = withoutDeleted(document);
-  const away = distance(roomText, wanted);
+  const { text: left, own, isNearer } = leftOf(document, wanted);
+  const away = distance(left, wanted);
   if (hasCome(document, wanted, away)) return { length: memory.length, text: roomText, hasCome: true };
-  if (own.at(-1)?.length < 0 && placesOf(own, roomText, wanted) < PLACES) own.pop();
-  const upTo = (entry) => without(roomText, own.slice(0, entry));
+  if (own.at(-1)?.length < 0 && placesOf(own, left, wanted) < PLACES) own.pop();
+  const upTo = (entry) => without(left, own.slice(0, entry));
   const isMissing = (entry) => {
     const text = upTo(entry);
-    return distance(text, wanted) + roomText.length - text.length <= away;
+    return distance(text, wanted) + left.length - text.length <= away;
   };
-  const [least, most] = lackingOf(own, roomText, wanted);
+  const [least, most] = lackingOf(own, left, wanted);
   let low = away > FAR ? least : 0; // all is missing of the last `low` entries, and not of the last `high`
   let high = low + 1;
   for (; high <= most && isMissing(high); high *= 2) low = high;
@@ -202,20 +202,23 @@ function textBefore(document, wanted) {
     if (isMissing(middle)) low = middle;
     else high = middle;
   }
-  const isDeleted = low === 0 && away < distance(document.roomText, wanted); // what is being deleted here is gone there
-  return { length: own[low - 1]?.length ?? memory.length, text: upTo(low), hasCome: isDeleted };
+  if (low === 0) return { length: memory.length, text: roomText, hasCome: isNearer };
+  return { length: own[low - 1].length, text: upTo(low) };
 }
 
 /**
- * The room's text, and the entries that put in something here that it still has, the last first: both without what is being deleted here,
- * which another text may lack by that.
+ * The room's text, and the entries that put in something here that it still has, the last first, but for what is being deleted here. That
+ * is left out of the text, too, where the wanted one is nearer by all of it: it is gone there. `isNearer`: it is nearer at all.
  */
-function withoutDeleted({ memory, roomText, underWay }) {
+function leftOf({ memory, roomText, underWay }, wanted) {
   const [start, count] = underWay?.isPut === false ? [underWay.k, underWay.signs.join("").length] : [0, 0];
+  const text = roomText.slice(0, start) + roomText.slice(start + count);
+  const nearer = count > 0 ? distance(roomText, wanted) - distance(text, wanted) : 0;
+  const isGone = count > 0 && nearer >= count;
   const isLeft = (place) => place < start || place >= start + count;
-  const left = (places) => places.filter(isLeft).map((place) => (place < start ? place : place - count));
+  const left = (places) => places.filter(isLeft).map((place) => (isGone && place >= start ? place - count : place));
   const own = [...memory.ownEntries(roomText.length)].map(({ length, places }) => ({ length, places: left(places) }));
-  return { roomText: roomText.slice(0, start) + roomText.slice(start + count), own: own.filter(({ places }) => places.length > 0) };
+  return { text: isGone ? text : roomText, own: own.filter(({ places }) => places.length > 0), isNearer: nearer > 0 };
 }
 
 /** At how many places where something was put in here a text has what stands right before or behind it in the room's, a piece by itself. */

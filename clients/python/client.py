@@ -300,7 +300,8 @@ class Session:
                 self.past.step(PENDING, self.waiting[0].edit(), True)
                 self._play(self.waiting[0].edit(), True)
             self.waiting.pop(0)
-        edits, self.missing = self.past.move(log, list(joined["x"]), common, kept, begin)
+        deletes = self.under_way is not None and self.under_way["t"] == "del"
+        edits, self.missing = self.past.move(log, list(joined["x"]), common, kept, begin, deletes)
         self._begin(joined)
         self.played = played + edits
         return False

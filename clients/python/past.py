@@ -225,15 +225,16 @@ class Past:
                     found = it.version
         return found
 
-    def move(self, log, text, common, kept, begin):
+    def move(self, log, text, common, kept, begin, deletes):
         """Goes over to another run's log and text, which is the one that is known here up to version `common`. What was done up to version
-        `kept` it has, where that is known, and the same text at its own version `begin`, where it has that. Gives the edits that lead there
-        from the text of now, without what is pending, and what is lacking there of one's own, with it."""
+        `kept` it has, where that is known, and the same text at its own version `begin`, where it has that. `deletes`: a deletion is under
+        way. Gives the edits that lead there from the text of now, without what is pending, and what is lacking there of one's own, with it."""
         order, _ = self.elements()
         now = those_at(order, PENDING - 1)
         until = kept
         if kept is None:
-            set_left_places(now, log.written)  # what came behind it the log tells
+            place = set_left_places if deletes else set_places
+            place(now, log.written)  # what came behind it the log tells
             sure = last_in_a_piece(now, self.version)
             own = [it.place is not None for it in now if it.is_own and it.put > sure and it.gone is None]
             if 2 * sum(own) < len(own):
@@ -266,22 +267,21 @@ class Past:
         return edits, lost
 
 
-def found(elements, text):
+def those_in(elements, text):
     """Those of the elements that are in a text, each with its place there."""
     pieces = in_common("".join([it.char for it in elements]), "".join(text))
     return [pair for at, to, count in pieces for pair in zip(elements[at : at + count], range(to, to + count))]
 
 
 def set_places(elements, text):
-    for it, place in found(elements, text):
+    for it, place in those_in(elements, text):
         it.place = place
 
 
 def set_left_places(elements, text):
     """The same for those that aren't being deleted; and for the others, where more is in the text with them: else they are gone."""
-    left = [it for it in elements if it.gone is None]
-    ways = [found(them, text) for them in [left] + [elements] * (len(left) < len(elements))]
-    for it, place in max(ways, key=len):
+    left = those_in([it for it in elements if it.gone is None], text)
+    for it, place in max(left, those_in(elements, text), key=len):
         it.place = place
 
 

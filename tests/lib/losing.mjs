@@ -770,6 +770,19 @@ async function deletesOfItsOwnBeforeMuchIsTyped() {
   await goOn(await anewRun(way.room), [way], `${typed}typed`);
 }
 
+/** A kill takes what one typed before a like word, which is being deleted, and the room is renewed: what was typed is put in again. */
+async function losesATextBeforeADeletion() {
+  const way = await begin("one help me three", false);
+  way.editor.change(4, 0, "hello ");
+  await way.comesTo("up to date", "one hello help me three");
+  const isLost = way.loseOnce("request", "del");
+  way.editor.change(10, 8, "");
+  await isLost;
+  const kept = await keptRun(way.room, 6);
+  await typedBy(kept, 0, "zero ");
+  await goOn(await anewRun(kept), [way], "zero one hello three");
+}
+
 /** A deletion came of one of two words that are alike, another typed, and the room was renewed: the other word stays. */
 async function deletesOneOfTwo(at) {
   const way = await begin("one two two three", false);
@@ -890,6 +903,7 @@ await Promise.all([
   typesBesideAWordThatCame("three four", (room) => typedBy(room, 16, "-"), "one two what thr-ee four"),
   typesBetweenOthers(),
   deletesOfItsOwnBeforeMuchIsTyped(),
+  losesATextBeforeADeletion(),
   deletesOneOfTwo(3),
   deletesOneOfTwo(7),
   readsTheSame(),
