@@ -184,8 +184,7 @@ function textBefore(document, wanted) {
   const { memory, roomText } = document;
   const length = memory.lengthWhere(wanted, roomText);
   if (length !== null) return { length, text: wanted };
-  const { text: left, own, isNearer } = leftOf(document, wanted);
-  const away = distance(left, wanted);
+  const { text: left, own, away, isNearer } = leftOf(document, wanted);
   if (hasCome(document, wanted, away)) return { length: memory.length, text: roomText, hasCome: true };
   if (own.at(-1)?.length < 0 && placesOf(own, left, wanted) < PLACES) own.pop();
   const upTo = (entry) => without(left, own.slice(0, entry));
@@ -208,17 +207,20 @@ function textBefore(document, wanted) {
 
 /**
  * The room's text, and the entries that put in something here that it still has, the last first, but for what is being deleted here. That
- * is left out of the text, too, where the wanted one is nearer by all of it: it is gone there. `isNearer`: it is nearer at all.
+ * is left out of the text, too, where the wanted one is nearer by all of it: it is gone there. `away` is the distance of the
+ * text; `isNearer`: the wanted one is nearer without it at all.
  */
 function leftOf({ memory, roomText, underWay }, wanted) {
   const [start, count] = underWay?.isPut === false ? [underWay.k, underWay.signs.join("").length] : [0, 0];
   const text = roomText.slice(0, start) + roomText.slice(start + count);
-  const nearer = count > 0 ? distance(roomText, wanted) - distance(text, wanted) : 0;
+  const far = distance(roomText, wanted);
+  const nearer = count > 0 ? far - distance(text, wanted) : 0;
   const isGone = count > 0 && nearer >= count;
   const isLeft = (place) => place < start || place >= start + count;
   const left = (places) => places.filter(isLeft).map((place) => (isGone && place >= start ? place - count : place));
   const own = [...memory.ownEntries(roomText.length)].map(({ length, places }) => ({ length, places: left(places) }));
-  return { text: isGone ? text : roomText, own: own.filter(({ places }) => places.length > 0), isNearer: nearer > 0 };
+  const away = isGone ? far - nearer : far;
+  return { text: isGone ? text : roomText, own: own.filter(({ places }) => places.length > 0), away, isNearer: nearer > 0 };
 }
 
 /** At how many places where something was put in here a text has what stands right before or behind it in the room's, a piece by itself. */
