@@ -19,7 +19,7 @@ pub fn put<const N: usize>(bytes: &mut [u8; N], at: usize, byte: u8) -> usize
 /// Puts bytes before a place, and gives their own. Copies each of them once.
 #[inline(always)]
 pub fn put_all<const N: usize>(bytes: &mut [u8; N], at: usize, piece: &[u8]) -> usize
-    requires room { length piece.now ≤ at }
+    requires free { length piece.now ≤ at }
     requires within { at ≤ N }
     ensures told { drop result bytes.new ≡ piece.now ++ drop at bytes.old }
     ensures place { result + length piece.now ≡ at }
@@ -34,7 +34,7 @@ pub fn put_all<const N: usize>(bytes: &mut [u8; N], at: usize, piece: &[u8]) -> 
 /// proportion to them.
 #[inline(always)]
 pub fn put_number<const N: usize>(bytes: &mut [u8; N], at: usize, n: u64) -> usize
-    requires room { 20 ≤ at }
+    requires free { 20 ≤ at }
     requires within { at ≤ N }
     ensures told { drop result bytes.new ≡ decimal n ++ drop at bytes.old }
     ensures place { at ≤ result + 20 }
@@ -46,7 +46,7 @@ pub fn put_number<const N: usize>(bytes: &mut [u8; N], at: usize, n: u64) -> usi
 /// The same of a number of 32 bits, which has 10 digits at most.
 #[inline(always)]
 pub fn put_small<const N: usize>(bytes: &mut [u8; N], at: usize, n: u32) -> usize
-    requires room { 10 ≤ at }
+    requires free { 10 ≤ at }
     requires within { at ≤ N }
     ensures told { drop result bytes.new ≡ decimal n ++ drop at bytes.old }
     ensures place { at ≤ result + 10 }

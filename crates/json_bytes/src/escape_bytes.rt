@@ -78,7 +78,7 @@ fn short_escape(ch: char) -> u8
 /// time.
 #[inline(always)]
 pub fn put_quoted<const N: usize>(bytes: &mut [u8; N], at: usize, ch: char) -> usize
-    requires room { 8 ≤ at }
+    requires free { 8 ≤ at }
     requires within { at ≤ N }
     requires ascii { ch < 128 }
     ensures told { drop result bytes.new ≡ quote (ch ∷ []) ++ drop at bytes.old }
@@ -98,7 +98,7 @@ pub fn put_quoted<const N: usize>(bytes: &mut [u8; N], at: usize, ch: char) -> u
 // A byte that stands for itself, in quotes.
 #[inline(always)]
 fn put_plain<const N: usize>(bytes: &mut [u8; N], at: usize, byte: u8) -> usize
-    requires room { 8 ≤ at }
+    requires free { 8 ≤ at }
     requires within { at ≤ N }
     requires small { byte < 128 }
     requires space { 32 ≤ byte }
@@ -114,7 +114,7 @@ fn put_plain<const N: usize>(bytes: &mut [u8; N], at: usize, byte: u8) -> usize
 
 // A character that has a short escape, in quotes.
 fn put_escaped<const N: usize>(bytes: &mut [u8; N], at: usize, ch: char, letter: u8) -> usize
-    requires room { 8 ≤ at }
+    requires free { 8 ≤ at }
     requires within { at ≤ N }
     requires small { ch < 128 }
     requires escape { escape_letter ch ≡ letter }
@@ -130,7 +130,7 @@ fn put_escaped<const N: usize>(bytes: &mut [u8; N], at: usize, ch: char, letter:
 
 // A control character that has no short escape, in quotes.
 fn put_by_number<const N: usize>(bytes: &mut [u8; N], at: usize, ch: char) -> usize
-    requires room { 8 ≤ at }
+    requires free { 8 ≤ at }
     requires within { at ≤ N }
     requires small { ch < 32 }
     requires long { escape_letter ch ≡ 0 }

@@ -11,14 +11,14 @@ use Rattle.room_model.specs.declared.outcome.Outcome.TheVariants as outcomes
 use Rattle.room_model.specs.declared.desk_fault.DeskFault.{DeskFault}
 
 -- whether an operation is to be handed over again: its log or its held list was full
-abbrev pub is_refused_for_room : Outcome → Bool
-is_refused_for_room (outcomes.No Full) = true
-is_refused_for_room (outcomes.No HoldFull) = true
-is_refused_for_room _ = false
+abbrev pub is_refused_as_full : Outcome → Bool
+is_refused_as_full (outcomes.No Full) = true
+is_refused_as_full (outcomes.No HoldFull) = true
+is_refused_as_full _ = false
 
--- how many outcomes there are before the first that the room had no place for
+-- how many outcomes there are before the first that was refused as full
 abbrev pub carried : List Outcome → ℕ
-carried told = length (take_while (λ o. not (is_refused_for_room o)) told)
+carried told = length (take_while (λ o. not (is_refused_as_full o)) told)
 
 -- the operations that a reply tells
 abbrev pub told_ops : Reply → List Operation

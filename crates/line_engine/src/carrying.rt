@@ -3,19 +3,19 @@ ghost use Rattle.std.specs.Prelude.{◌≡◌, ℕ, ◌<◌, ◌≤◌, Result, 
 ghost use Rattle.room_model.specs.declared.reply.Reply.{Reply};
 ghost use Rattle.room_model.specs.declared.desk_fault.DeskFault.{DeskFault};
 ghost use Rattle.room_model.specs.declared.call.Call.TheVariants as calls;
-ghost use Rattle.line_engine.specs.Carrying.{Calls, Hands, HandsTold, carried, is_refused_for_room};
+ghost use Rattle.line_engine.specs.Carrying.{Calls, Hands, HandsTold, carried, is_refused_as_full};
 
 use opid::{MAX_COUNT, MAX_OPERATIONS, Refusal};
 use room::{Call, Desk, DeskFault, Operations, Outcome, Outcomes, Reply};
 
 // Whether an operation is to be handed over again.
-fn is_refused_for_room(outcome: Outcome) -> bool
-    ensures { result ≡ is_refused_for_room outcome }
+fn is_refused_as_full(outcome: Outcome) -> bool
+    ensures { result ≡ is_refused_as_full outcome }
 {
     matches!(outcome, Outcome::No(Refusal::Full | Refusal::HoldFull))
 }
 
-// How many outcomes there are before the first that the room had no place for.
+// How many outcomes there are before the first that was refused as full.
 fn carried_by(outcomes: &Outcomes) -> usize
     ensures count { result ≡ carried outcomes.now }
     ensures within { result ≤ length outcomes.now }
@@ -23,7 +23,7 @@ fn carried_by(outcomes: &Outcomes) -> usize
     outcomes
         .as_slice()
         .iter()
-        .take_while(|o| !is_refused_for_room(**o))
+        .take_while(|o| !is_refused_as_full(**o))
         .count()
 }
 

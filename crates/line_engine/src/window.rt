@@ -16,7 +16,7 @@ use std::marker::Model;
 const BLOCK_BYTES: usize = 65_536;
 
 // The buffer takes a longest line and a block behind it.
-const ROOM: usize = 131_136;
+const BUFFER_BYTES: usize = 131_136;
 
 /// The bytes that were read and not yet served. Contracts see them as a list.
 #[derive(Drop)]
@@ -52,7 +52,7 @@ impl Window {
     pub fn new(alloc: Global) -> Result<Self, AllocError>
         ensures { IfOk result (λ window. window ≡ []) }
     {
-        let buf = vec![in alloc; 0u8; ROOM]?;
+        let buf = vec![in alloc; 0u8; BUFFER_BYTES]?;
         Ok(Window {
             buf,
             start: 0,
@@ -120,7 +120,7 @@ fn moved_start(buf: &mut Vec<u8>, start: usize, len: usize) -> usize
     ensures size { length buf.new.items ≡ 131136 }
     ensures free { result + len + 65536 ≤ 131136 }
 {
-    if start + len <= ROOM - BLOCK_BYTES {
+    if start + len <= BUFFER_BYTES - BLOCK_BYTES {
         return start;
     }
     buf.copy_within(start..start + len, 0);

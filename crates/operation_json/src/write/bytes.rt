@@ -48,7 +48,7 @@ pub(crate) fn push_deletion(out: &mut Vec<u8>, op: &Op, target: Stamp) -> Result
 
 // Puts the pairs of a clock before a place.
 fn put_clock(bytes: &mut [u8; MOST], at: usize, clock: &Clock) -> usize
-    requires room { 770 ≤ at }
+    requires free { 770 ≤ at }
     requires within { at ≤ MOST }
     ensures told { drop result bytes.new ≡ clock_text clock.now ++ drop at bytes.old }
     ensures place { at ≤ result + 770 }
@@ -80,7 +80,7 @@ fn entry_of(clock: &Clock, number: u8) -> u32
 // Puts a site's pair and a comma before a place, unless its count is 0.
 #[inline(always)]
 fn put_entry(bytes: &mut [u8; MOST], at: usize, number: u8, count: u32) -> usize
-    requires room { 24 ≤ at }
+    requires free { 24 ≤ at }
     requires within { at ≤ MOST }
     ensures some { 0 < count → drop result bytes.new ≡ 44 ∷ (pair_text (number, count) ++ drop at bytes.old) }
     ensures none { count ≡ 0 → drop result bytes.new ≡ drop at bytes.old }
@@ -97,7 +97,7 @@ fn put_entry(bytes: &mut [u8; MOST], at: usize, number: u8, count: u32) -> usize
 // Puts a list of two numbers before a place.
 #[inline(always)]
 fn put_two(bytes: &mut [u8; MOST], at: usize, first: u32, second: u32) -> usize
-    requires room { 23 ≤ at }
+    requires free { 23 ≤ at }
     requires within { at ≤ MOST }
     ensures told { drop result bytes.new ≡ pair_text (first, second) ++ drop at bytes.old }
     ensures place { at ≤ result + 23 }
@@ -113,7 +113,7 @@ fn put_two(bytes: &mut [u8; MOST], at: usize, first: u32, second: u32) -> usize
 // Puts a parent before a place.
 #[inline(always)]
 fn put_parent(bytes: &mut [u8; MOST], at: usize, parent: Option<Stamp>) -> usize
-    requires room { 23 ≤ at }
+    requires free { 23 ≤ at }
     requires within { at ≤ MOST }
     ensures told { drop result bytes.new ≡ parent_text parent ++ drop at bytes.old }
     ensures place { at ≤ result + 23 }
@@ -128,7 +128,7 @@ fn put_parent(bytes: &mut [u8; MOST], at: usize, parent: Option<Stamp>) -> usize
 // Puts a stamp before a place.
 #[inline(always)]
 fn put_stamp(bytes: &mut [u8; MOST], at: usize, stamp: Stamp) -> usize
-    requires room { 23 ≤ at }
+    requires free { 23 ≤ at }
     requires within { at ≤ MOST }
     ensures told { drop result bytes.new ≡ stamp_text stamp ++ drop at bytes.old }
     ensures place { at ≤ result + 23 }
@@ -146,7 +146,7 @@ fn put_typed(
     clock: &Clock,
     parent: Option<Stamp>,
 ) -> usize
-    requires room { 850 ≤ at }
+    requires free { 850 ≤ at }
     requires within { at ≤ MOST }
     ensures told { drop result bytes.new ≡ codes "{\"c\":" ++ clock_text clock.now ++ codes ",\"k\":\"" ++ letter ∷ (codes "\",\"p\":"
         ++ parent_text parent ++ codes ",\"s\":" ++ decimal site ++ codes ",\"x\":" ++ drop at bytes.old) }
@@ -171,7 +171,7 @@ fn put_deletion(
     clock: &Clock,
     target: Stamp,
 ) -> usize
-    requires room { 850 ≤ at }
+    requires free { 850 ≤ at }
     requires within { at ≤ MOST }
     ensures told { drop result bytes.new ≡ codes "{\"c\":" ++ clock_text clock.now ++ codes ",\"k\":\"d\",\"s\":" ++ decimal site
         ++ codes ",\"t\":" ++ stamp_text target ++ codes "}" ++ drop at bytes.old }
