@@ -1,7 +1,9 @@
 //! A document that follows the log of a room.
-ghost use Rattle.std.specs.Prelude.{◌≡◌, ◌<◌, length, OnOk};
+ghost use Rattle.std.specs.Prelude.{◌≡◌, ◌⊎◌, ◌<◌, length, IfErr, OnOk};
 ghost use mathlib.Core.List.{IsPrefix};
 ghost use Rattle.ws_server.specs.Halls.{rooms_of, IsHallPassOf};
+ghost use Rattle.opid.specs.declared.refusal.Refusal.TheVariants as Why;
+ghost use Rattle.kept_rooms.specs.Keeping.{IsOverLog};
 ghost use Rattle.kept_rooms.specs.SeenLogs.{seen_log};
 
 use opid::Refusal;
@@ -13,7 +15,8 @@ use ws_server::{Hall, HallPass};
 /// Appends to a document what the log of the room at a place has gained, as a look tells now: a document whose log begins the one that the
 /// pass has seen has all of it then.
 ///
-/// Refused as `Hall::look` and `append_operations` are; some of it may have been appended then. Takes a turn of the room, and the steps of
+/// Refused with `Worn` and `Memory`, as `Hall::look` is, and some of it may have been appended then; one whose log doesn't begin that one,
+/// as `append_operations` is, too. Takes a turn of the room, and the steps of
 /// `append_operations`.
 pub fn follow<R: Wait>(
     rt: &R,
@@ -29,6 +32,8 @@ pub fn follow<R: Wait>(
     ensures followed { OnOk result (IsPrefix doc.old.log (seen_log hall.now at pass.old)
         → doc.new.log ≡ seen_log hall.now at pass.new) }
     ensures unreserved { OnOk result (doc.old.reserved ≡ 0 → doc.new.reserved ≡ 0) }
+    ensures cause { IfErr result (λ e. IsOverLog hall.now at → IsPrefix doc.old.log (seen_log hall.now at pass.old)
+        → (e ≡ Why.Worn) ⊎ (e ≡ Why.Memory)) }
 {
     let version = doc.version();
     let look = match hall.look(rt, pass, at, version) {

@@ -1,5 +1,5 @@
 //! Rooms that open over what was found in their files.
-ghost use Rattle.std.specs.Prelude.{◌≡◌, false, length, map, string_bytes, All, IfOk, IfErr, OnOk};
+ghost use Rattle.std.specs.Prelude.{◌≡◌, ◌⊎◌, false, length, map, string_bytes, All, IfOk, IfErr, OnOk};
 ghost use Rattle.opid.specs.declared.refusal.Refusal.TheVariants as Why;
 ghost use Rattle.snapshot.specs.Snapshot.{LacksSite};
 ghost use Rattle.ws_server.specs.Halls.{IsHallPassOf, IsOpenedOver};
@@ -45,6 +45,8 @@ pub fn open_hall(
     ensures opened { IfOk result (λ r. IsOpenedOver (map string_bytes names.now) (map replica_over openings.items) r.0 r.1) }
     ensures unused { OnOk result (All (λ it. LacksSite it.site it.doc.log) openings.items) }
     ensures unfit { IfErr result (λ e. e.why ≡ Why.BadField → names_fit names.now ≡ false) }
+    ensures cause { IfErr result (λ e. ((e.why ≡ Why.SiteUsed) × (All (λ it. LacksSite it.site it.doc.log) openings.items → ⊥))
+        ⊎ (e.why ≡ Why.BadField) ⊎ (e.why ≡ Why.Memory)) }
 {
     let count = openings.len();
     let mut replicas = Vec::new(alloc);

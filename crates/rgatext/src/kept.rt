@@ -12,6 +12,10 @@ use std::fs::{File, Files, OpenOptions, TryLockError};
 use std::{fs, io};
 use versions::Doc;
 
+// What a file of operations has at most, in bytes: 131,072 lines of one each, of no more than 1,024. A longer one isn't read, since there
+// may be no memory for it.
+const LONGEST_LOG: u64 = 1 << 27;
+
 /// Takes the folder for this server alone, for as long as the file that is answered is open: a second server that keeps its rooms
 /// there is refused, until this one has ended, however it ends.
 pub(crate) fn lock_folder<R: Files<File = File> + Log>(
@@ -113,6 +117,10 @@ pub(crate) fn open_file<R: Files<File = File> + Log>(
         return Err(Stop::Files);
     }
     let node = match file.metadata() {
+        Ok(known) if known.len() > LONGEST_LOG => {
+            warn!(rt; "{path}: it is longer than any log");
+            return Err(Stop::Files);
+        }
         Ok(known) => Node::of(&known),
         Err(why) => {
             warn!(rt; "{path}: {why}");
@@ -186,11 +194,11 @@ fn stop_of<R: Log>(rt: &R, path: &str, why: &OpenFault) -> Stop
             Stop::Files
         }
         OpenFault::Line(line) => {
-            warn!(rt; "{path}: line {line} doesn't go on with the log, or its digest differs (docs/RUNNING.md tells what to do)");
+            warn!(rt; "{path}: line {line} doesn't go on with the log, or its digest differs (docs/WATCHING.md tells what to do)");
             Stop::Refused(Refusal::BadSnapshot)
         }
         OpenFault::Tail(_) => {
-            warn!(rt; "{path}: {why} (docs/RUNNING.md tells what to do)");
+            warn!(rt; "{path}: {why} (docs/WATCHING.md tells what to do)");
             Stop::Refused(Refusal::BadSnapshot)
         }
     }

@@ -3,6 +3,7 @@ ghost use Rattle.std.specs.Prelude.{◌≡◌, IfOk};
 
 use crate::beside::{NewFile, Node, OtherName, begin_anew, put_in_place, stands_there};
 use crate::renewing::TARGET;
+use crate::state::RoomState;
 use crate::warnings::Warnings;
 use journal::free_site;
 use keeper::{Disk, HostFile, KeepFault, KeptFile};
@@ -24,20 +25,21 @@ pub(crate) struct Over {
     pub(crate) doc: Doc,
 }
 
-/// The room's document begun anew in a new file, and that it is; or as it was, where that fails. Either is warned of.
+/// The room's document begun anew in a new file, and that it is; or as it was, where that fails, which its state tells. Either is warned of.
 pub(crate) fn renew_or_stay<R: Files<File = File> + Wait>(
     rt: &R,
     alloc: Global,
     folder: &str,
     warnings: &Warnings,
     place: usize,
-    name: &str,
+    state: &RoomState,
     path: &str,
     over: Over,
 ) -> (Over, bool)
     requires unreserved { over.doc.reserved ≡ 0 }
     ensures unreserved { result.0.doc.reserved ≡ 0 }
 {
+    let name = state.name.as_str();
     match renew_file(
         rt, alloc, folder, name, path, place, over.node, &over.file, &over.doc,
     ) {
@@ -58,6 +60,7 @@ pub(crate) fn renew_or_stay<R: Files<File = File> + Wait>(
         Err(why) => {
             let told = format!(in alloc; "{path}: it can't begin anew, and goes on: {why}");
             warnings.add(rt, TARGET, told);
+            state.stay(rt, format!(in alloc; "{why}").ok());
             (over, false)
         }
     }

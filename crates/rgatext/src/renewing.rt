@@ -83,15 +83,19 @@ pub(crate) fn prepare<R: Wait + Clock>(
         Some(room) => {
             let name = &room.name;
             let why = "no site is left for it, so no run can follow";
-            let text = format!(in alloc; "room {name}: {why} (docs/RENEWING.md tells what to do)");
-            shared.warnings.add(rt, TARGET, text);
+            if room.is_to_be_told(rt) || is_asked {
+                let text = format!(in alloc;
+                    "room {name}: {why} (docs/RENEWING.md tells what to do)"
+                );
+                shared.warnings.add(rt, TARGET, text);
+            }
             room.stay(rt, String::from_str(alloc, why).ok());
             None
         }
     }
 }
 
-// Whether a room's log or history nears its limit, which is said each hour, or each minute.
+// Whether a room's log or history nears its limit, which is said each five minutes, or each minute.
 fn do_rooms_run_out<R: Wait + Clock>(
     rt: &R,
     shared: Shared<'_>,
@@ -125,7 +129,7 @@ fn unprepared<R: Wait>(
 }
 
 // The room at a place as a look tells, with its document, and what becomes of it.
-fn looked_at<R: Wait>(
+fn looked_at<R: Wait + Clock>(
     rt: &R,
     alloc: Global,
     shared: Shared<'_>,
@@ -154,7 +158,7 @@ fn looked_at<R: Wait>(
 }
 
 // What becomes of the room at a place, whose document is told.
-fn fate_of<R: Wait>(
+fn fate_of<R: Wait + Clock>(
     rt: &R,
     alloc: Global,
     shared: Shared<'_>,
@@ -180,11 +184,13 @@ fn fate_of<R: Wait>(
             return Fate::BeginsAnew;
         };
         if let Ok(why) = why {
-            let name = &room.name;
-            let text = format!(in alloc;
-                "room {name} doesn't begin anew: {why} (docs/RENEWING.md tells what to do)"
-            );
-            shared.warnings.add(rt, TARGET, text);
+            if room.is_to_be_told(rt) || is_asked {
+                let name = &room.name;
+                let text = format!(in alloc;
+                    "room {name} doesn't begin anew: {why} (docs/RENEWING.md tells what to do)"
+                );
+                shared.warnings.add(rt, TARGET, text);
+            }
             room.stay(rt, Some(why));
         }
     }

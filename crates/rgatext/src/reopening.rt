@@ -107,7 +107,7 @@ fn reopen_room<R: Files<File = File> + Wait>(
             folder,
             warnings,
             place,
-            state.name.as_str(),
+            &state,
             path.as_str(),
             over,
         )

@@ -15,6 +15,10 @@ use std::sync::{Mutex, Wait};
 use std::time::{Clock, SystemTime, UNIX_EPOCH};
 use std::{fs, io};
 
+// Where a log nears its limit it is looked so often whether it can begin anew, in seconds: what fails, as on a full disk, is tried again
+// before the log is full.
+const AGAIN: u64 = 300;
+
 // What was seen of a room last, and why it was kept no further.
 #[derive(Drop)]
 struct Seen {
@@ -22,10 +26,11 @@ struct Seen {
     calls: u32,
     sessions: u32,
     fault: Option<String>,
-    // When it was said last that its log nears a limit, and that its history does; and why it can't begin anew.
+    // When it was said last that its log nears a limit, and that its history does; and why it can't begin anew, and when that was told.
     renewal: Seldom,
     running_out: Seldom,
     stays: Option<String>,
+    told: Seldom,
 }
 
 /// A room as it is told of.
@@ -48,13 +53,14 @@ impl RoomState {
             begun,
             had_others,
             seen: Mutex::new(Seen {
-                operations: 0,
+                operations: begun.sum(),
                 calls: 0,
                 sessions: 0,
                 fault: None,
-                renewal: Seldom::hourly(),
+                renewal: Seldom::each(AGAIN),
                 running_out: Seldom::new(),
                 stays: None,
+                told: Seldom::hourly(),
             }),
         }
     }
@@ -63,11 +69,16 @@ impl RoomState {
     pub(crate) fn next(self, site: Site, begun: Known, is_new: bool) -> RoomState {
         let had_others = !is_new && self.has_others(&begun);
         let RoomState { name, seen, .. } = self;
-        let Seen { renewal, stays, .. } = seen.into_inner();
-        let (renewal, stays) = if is_new {
-            (Seldom::hourly(), None)
+        let Seen {
+            renewal,
+            stays,
+            told,
+            ..
+        } = seen.into_inner();
+        let (renewal, stays, told) = if is_new {
+            (Seldom::each(AGAIN), None, Seldom::hourly())
         } else {
-            (renewal, stays)
+            (renewal, stays, told)
         };
         RoomState {
             name,
@@ -82,6 +93,7 @@ impl RoomState {
                 renewal,
                 running_out: Seldom::new(),
                 stays,
+                told,
             }),
         }
     }
@@ -100,7 +112,7 @@ impl RoomState {
         self.seen.lock(rt).fault = why;
     }
 
-    /// Whether its log nears a limit, as a look tells, which isn't said again for an hour, or its history does, for a minute.
+    /// Whether its log nears a limit, as a look tells, which isn't said again for five minutes, or its history does, for one.
     pub(crate) fn runs_out<R: Wait + Clock>(&self, rt: &R, look: &Look) -> bool {
         let mut seen = self.seen.lock(rt);
         let does_log = nears_limit(look.version, &self.begun) && seen.renewal.is_due(rt);
@@ -110,6 +122,11 @@ impl RoomState {
     /// It can't begin anew, for this reason.
     pub(crate) fn stay<R: Wait>(&self, rt: &R, why: Option<String>) {
         self.seen.lock(rt).stays = why;
+    }
+
+    /// Whether it is to be warned of that it can't begin anew, which isn't said again for an hour.
+    pub(crate) fn is_to_be_told<R: Wait + Clock>(&self, rt: &R) -> bool {
+        self.seen.lock(rt).told.is_due(rt)
     }
 
     /// Whether a peer has put operations into a log of these: it has more than at the start from other sites than its own, or had before.

@@ -14,7 +14,7 @@ const MINUTE: u64 = 60;
 
 const HOUR: u64 = 3600;
 
-/// When something was told that isn't told again for a minute, or an hour.
+/// When something was told that isn't told again for some time.
 #[derive(Drop)]
 pub(crate) struct Seldom {
     told: Option<Instant>,
@@ -24,17 +24,19 @@ pub(crate) struct Seldom {
 impl Seldom {
     /// It wasn't told yet, and is told each minute.
     pub(crate) fn new() -> Seldom {
-        Seldom {
-            told: None,
-            seconds: MINUTE,
-        }
+        Seldom::each(MINUTE)
     }
 
     /// The same, each hour.
     pub(crate) fn hourly() -> Seldom {
+        Seldom::each(HOUR)
+    }
+
+    /// The same, each so many seconds.
+    pub(crate) fn each(seconds: u64) -> Seldom {
         Seldom {
             told: None,
-            seconds: HOUR,
+            seconds,
         }
     }
 

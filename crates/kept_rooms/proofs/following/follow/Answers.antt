@@ -1,6 +1,6 @@
 -- What the look showed is what the document lacks of the log that is seen since.
 use Rattle.kept_rooms.proofs.SeenGrow.{grown}
-use Rattle.kept_rooms.proofs.Followed.{followed}
+use Rattle.kept_rooms.proofs.Followed.{followed, may_go_on, lacks_memory}
 use Rattle.kept_rooms.proofs.following.follow.Goals as goal
 
 pub returns-in-Err-clause-grows : goal.returns-in-Err-clause-grows
@@ -19,3 +19,12 @@ returns-in-Ok-append_operations-clause-followed g c begins = followed c.args.hal
 pub returns-clause-grows : goal.returns-clause-grows
 returns-clause-grows g c = grown c.args.hall.now c.args.at c.version-version.result c.args.pass.now c.look.new.pass c.look.result
     c.look.ensures.looked
+
+pub returns-in-Err-clause-cause : goal.returns-in-Err-clause-cause
+returns-in-Err-clause-cause g c over begins = c.in-Err.ensures.looked.6.cause
+
+pub returns-in-Err-append_operations-clause-cause : goal.returns-in-Err-append_operations-clause-cause
+returns-in-Err-append_operations-clause-cause g c over begins =
+    lacks_memory c.args.doc.now.log c.as_slice.result.now c.in-Err-append_operations.why c.in-Err-append_operations.ensures.cause
+    (may_go_on c.args.hall.now c.args.at c.version-version.result c.args.pass.now c.look.new.pass c.in-Ok.look c.args.doc.now.log
+    c.as_slice.result.now c.in-Ok.ensures.looked c.look.ensures.pass c.version-version.ensures.value c.as_slice.ensures over begins)

@@ -1,9 +1,11 @@
 -- What is taken becomes the next replica.
-use Rattle.std.proofs.Common.{◌≡◌, ◌+◌, List, ◌∷◌, ◌++◌, ◌∙◌, [], map, take, All, ap, sym, refl, arith}
+use Rattle.std.proofs.Common.{◌≡◌, ◌+◌, ◌⊎◌, inl, inr, ℕ, drop, List, ◌∷◌, ◌++◌, ◌∙◌, [], map, take, All, ap, sym, refl, arith}
 use Rattle.std.proofs.lemmas.List.{take_more}
 use Rattle.std.proofs.lemmas.Option.{slice_get_within, get_or_from_slice_get}
 use Rattle.std.proofs.lemmas.List.Elements.{All-same, All-push, All-head, All-drop, All-map}
 use Rattle.std.specs.Vec.Iter.{into_iter_len}
+use Rattle.opid.specs.declared.refusal.Refusal.{Refusal}
+use Rattle.opid.specs.declared.refusal.Refusal.TheVariants.{SiteUsed, BadField, Memory}
 use Rattle.opid.specs.Delivered.{ReplicaState}
 use Rattle.snapshot.specs.Snapshot.{LacksSite}
 use Rattle.ws_server.proofs.Opened.{left_after}
@@ -46,3 +48,17 @@ over-requires-clause-none_held c =
   where
     each : (all : List Opening) → All (λ (it : Opening). (replica_over it).held ≡ []) all
     each all k it within = refl
+
+-- where one log has an operation of its site, not all lack it
+used : (all : List Opening) (at : ℕ) (it : Opening) (rest : List Opening) (why : Refusal) → drop at all ≡ it ∷ rest
+    → (why ≡ Memory) ⊎ ((why ≡ SiteUsed) × (LacksSite it.site it.doc.log → ⊥))
+    → ((why ≡ SiteUsed) × (All (λ (o : Opening). LacksSite o.site o.doc.log) all → ⊥)) ⊎ ((why ≡ BadField) ⊎ (why ≡ Memory))
+used all at it rest why left (inl memory) = inr (inr memory)
+used all at it rest why left (inr (is, has)) =
+    let P : Opening → Type 0 = λ o. LacksSite o.site o.doc.log in
+    inl (is, λ lack. has (All-head P it rest (All-same P _ _ (sym left) (All-drop P at all lack))))
+
+pub returns-in-Err-clause-cause : goal.returns-in-Err-clause-cause
+returns-in-Err-clause-cause c =
+    used c.args.openings.items c.loop-place.place c.in-Some.opening _ c.in-Err.why
+    (sym c.loop-place.invariant.rest ∙ c.in-Some.ensures.items) c.in-Err.ensures.cause
