@@ -473,9 +473,10 @@ def tries_renewed_run():
         until(lambda: all_show("one two three"), "both have typed")
         both[0].select(3, 3)
         pathlib.Path(folder, "renew").touch()
-        until(lambda: pathlib.Path(folder, "notes.1.ops").exists() or both[1].type("x"), "the room begins anew while somebody types", 30)
+        old, typed = pathlib.Path(folder, "notes.1.ops"), []
+        until(lambda: old.exists() or both[1].type("x") or typed.append("x"), "the room begins anew while somebody types", 30)
         until(lambda: all_show(both[0].text), "all go on in the new document", 30)
-        assert set(both[0].text.replace("one two ", "").replace("three", "")) <= {"x"}, both[0].text
+        assert both[0].text == f"one two {''.join(typed)}three", (both[0].text, len(typed))
         both[0].type("!")
         until(lambda: all_show("one! three") or both[1].type(Keys.CONTROL + "z"), "the caret, and undoing what one typed, are as before", 30)
         for it in (*both, reader):

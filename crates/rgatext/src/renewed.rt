@@ -25,7 +25,8 @@ pub(crate) struct Over {
     pub(crate) doc: Doc,
 }
 
-/// The room's document begun anew in a new file, and that it is; or as it was, where that fails, which its state tells. Either is warned of.
+/// The room's document begun anew in a new file, and that it is; or as it was, where that fails, which its state tells. Either is warned
+/// of.
 pub(crate) fn renew_or_stay<R: Files<File = File> + Wait>(
     rt: &R,
     alloc: Global,
