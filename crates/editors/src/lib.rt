@@ -2,7 +2,5 @@
 #![tactic(auto)]
 
 mod editor;
-mod unit_editor;
 
-pub use editor::Editor;
-pub use unit_editor::UnitEditor;
+pub use editor::{Editor, EditorOf, UnitEditor};

@@ -1,6 +1,6 @@
 //! The worked cases of texts that edits are applied to, in characters and in UTF-16 code units.
 use opid::{Edit, Refusal};
-use splice::{Text, UnitText};
+use splice::{EditedText, Text, UnitText};
 use std::test::Fail;
 
 fn is(text: &Text, characters: &[char]) -> bool {
@@ -52,12 +52,12 @@ fn refuses_what_lies_outside(rt: HostRuntime) -> Result<(), Fail> {
 
 // A pair and `a`, of which the pair and then the last are deleted.
 fn splices_units(text: &mut UnitText) -> Result<bool, Refusal> {
-    text.apply_units(&Edit::Ins(2, 'b'))?;
-    text.apply_units(&Edit::Nop)?;
+    text.apply(&Edit::Ins(2, 'b'))?;
+    text.apply(&Edit::Nop)?;
     let all = text.units() == [0xD83D, 0xDE00, 0x62, 0x61].as_slice();
-    text.apply_units(&Edit::DelUnits(0, 2))?;
-    text.apply_units(&Edit::DelUnits(1, 1))?;
-    text.apply_units(&Edit::Ins(1, '\u{10000}'))?;
+    text.apply(&Edit::DelUnits(0, 2))?;
+    text.apply(&Edit::DelUnits(1, 1))?;
+    text.apply(&Edit::Ins(1, '\u{10000}'))?;
     Ok(all && text.units() == [0x62, 0xD800, 0xDC00].as_slice())
 }
 
@@ -81,7 +81,7 @@ fn counts_the_greatest_characters(rt: HostRuntime) -> Result<(), Fail> {
 }
 
 fn refuses(text: &mut UnitText, edit: Edit) -> bool {
-    text.apply_units(&edit) == Err(Refusal::BadPlace)
+    text.apply(&edit) == Err(Refusal::BadPlace)
 }
 
 // In a pair and `a`.

@@ -5,7 +5,7 @@ ghost use Rattle.opid.specs.declared.edit.Edit.TheVariants as edits;
 ghost use Rattle.opid.specs.Splice.{apply};
 
 use opid::Refusal;
-use splice::{Edit, Text};
+use splice::{Edit, EditedText, Text};
 use std::alloc::Global;
 
 /// The text with a character put in at a place. Refused with `BadPlace` where it has no such place.

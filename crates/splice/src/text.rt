@@ -1,10 +1,7 @@
-//! A text that edits are applied to.
-ghost use Rattle.std.specs.Prelude.{◌≡◌, ◌↔◌, [], Some, None, IfOk, OnOk, OnErr, IfErr, Err, length, ◌==◌};
-ghost use Rattle.std.specs.Str.{chars};
-ghost use Rattle.opid.specs.declared.refusal.Refusal.TheVariants.{BadPlace, Memory};
-ghost use Rattle.opid.specs.Splice.{apply};
-ghost use Rattle.splice.specs.Causes.{MayRefuse};
+//! A text in characters.
+ghost use Rattle.std.specs.Prelude.{◌≡◌, length, ◌==◌};
 
+use crate::edited::EditedText;
 use opid::{Edit, Refusal};
 use std::alloc::Global;
 use std::marker::Model;
@@ -24,24 +21,6 @@ impl Model for Text {
 }
 
 impl Text {
-    /// The empty text. Constant time; takes no memory.
-    pub fn new(alloc: Global) -> Text
-        ensures { result ≡ [] }
-    {
-        Text {
-            characters: Vec::new(alloc),
-        }
-    }
-
-    /// The empty text after one insertion of `start` at 0. Linear in its length. Refused with `Memory` alone.
-    pub fn start(alloc: Global, start: &str) -> Result<Text, Refusal>
-        ensures ok { IfOk result (λ t. t ≡ chars start.now) }
-        ensures err { IfErr result (λ e. e ≡ Memory) }
-    {
-        let characters = start.chars().collect(alloc)?;
-        Ok(Text { characters })
-    }
-
     /// How many characters there are. Constant time.
     pub fn len(&self) -> usize
         ensures { result ≡ length self.now }
@@ -62,16 +41,27 @@ impl Text {
     {
         &self.characters
     }
+}
 
-    /// Splices the text by one edit; linear in the number of characters behind its place. Refused with `BadPlace`
-    /// exactly where an insertion's place is above the length, a deletion's isn't below it, or one names code units, and
-    /// with `Memory` where an insertion finds none. A refused edit changes nothing.
-    pub fn apply(&mut self, edit: &Edit) -> Result<(), Refusal>
-        ensures ok { OnOk result (apply self.old edit.now ≡ Some self.new) }
-        ensures outside { (result ≡ Err BadPlace) ↔ (apply self.old edit.now ≡ None) }
-        ensures err { OnErr result (self.new ≡ self.old) }
-        ensures cause { IfErr result (MayRefuse edit.now) }
-    {
+impl EditedText for Text {
+    ghost use Rattle.std.specs.Prelude.{false};
+
+    ghost units = { false };
+
+    ghost items = { λ t. t };
+
+    fn new(alloc: Global) -> Text {
+        Text {
+            characters: Vec::new(alloc),
+        }
+    }
+
+    fn start(alloc: Global, start: &str) -> Result<Text, Refusal> {
+        let characters = start.chars().collect(alloc)?;
+        Ok(Text { characters })
+    }
+
+    fn apply(&mut self, edit: &Edit) -> Result<(), Refusal> {
         match *edit {
             Edit::Ins(place, character) => {
                 if place > self.characters.len() {

@@ -1,11 +1,10 @@
-//! A text that edits in UTF-16 code units are applied to.
-ghost use Rattle.std.specs.Prelude.{◌≡◌, ◌↔◌, ◌+◌, ◌≤◌, ◌++◌, [], true, take, drop, Some, None, IfOk, OnOk, OnErr, IfErr, Err, length};
-ghost use Rattle.std.specs.Str.{chars};
-ghost use Rattle.opid.specs.declared.refusal.Refusal.TheVariants.{BadPlace, Memory};
-ghost use Rattle.opid.specs.Units.{units_of, text_in};
-ghost use Rattle.opid.specs.Splice.{is_inside, apply_in};
-ghost use Rattle.splice.specs.Causes.{MayRefuse};
+//! A text in UTF-16 code units.
+ghost use Rattle.std.specs.Prelude.{◌≡◌, ◌+◌, ◌≤◌, ◌++◌, true, take, drop, OnOk, OnErr, IfErr, length};
+ghost use Rattle.opid.specs.declared.refusal.Refusal.TheVariants.{Memory};
+ghost use Rattle.opid.specs.Units.{units_of};
+ghost use Rattle.opid.specs.Splice.{is_inside};
 
+use crate::edited::EditedText;
 use opid::{Edit, Refusal};
 use std::alloc::Global;
 use std::marker::Model;
@@ -25,27 +24,6 @@ impl Model for UnitText {
 }
 
 impl UnitText {
-    /// The empty text. Constant time; takes no memory.
-    pub fn new(alloc: Global) -> UnitText
-        ensures { result ≡ [] }
-    {
-        UnitText {
-            units: Vec::new(alloc),
-        }
-    }
-
-    /// The empty text after one insertion of `start` at 0. Linear in its length. Refused with `Memory` alone.
-    pub fn start(alloc: Global, start: &str) -> Result<UnitText, Refusal>
-        ensures ok { IfOk result (λ t. t ≡ text_in true (chars start.now)) }
-        ensures err { IfErr result (λ e. e ≡ Memory) }
-    {
-        let mut units = Vec::new(alloc);
-        for ch in start.chars() {
-            units.extend_from_slice(ch.encode_utf16(&mut [0; 2]))?;
-        }
-        Ok(UnitText { units })
-    }
-
     /// How many code units there are. Constant time.
     pub fn len(&self) -> usize
         ensures { result ≡ length self.now }
@@ -93,17 +71,28 @@ impl UnitText {
         self.units.copy_within(place + usize::from(width).., place);
         self.units.truncate(rest);
     }
+}
 
-    /// Splices the text by one edit in code units; linear in the number of them behind its place. Refused with `BadPlace`
-    /// exactly where an insertion's place is above the length, a deletion's isn't below it, either is inside a pair, a
-    /// deletion names another number of code units than the character at its place has, or one names characters, and with
-    /// `Memory` where an insertion finds none. A refused edit changes nothing.
-    pub fn apply_units(&mut self, edit: &Edit) -> Result<(), Refusal>
-        ensures ok { OnOk result (apply_in true self.old edit.now ≡ Some self.new) }
-        ensures outside { (result ≡ Err BadPlace) ↔ (apply_in true self.old edit.now ≡ None) }
-        ensures err { OnErr result (self.new ≡ self.old) }
-        ensures cause { IfErr result (MayRefuse edit.now) }
-    {
+impl EditedText for UnitText {
+    ghost units = { true };
+
+    ghost items = { λ t. t };
+
+    fn new(alloc: Global) -> UnitText {
+        UnitText {
+            units: Vec::new(alloc),
+        }
+    }
+
+    fn start(alloc: Global, start: &str) -> Result<UnitText, Refusal> {
+        let mut units = Vec::new(alloc);
+        for ch in start.chars() {
+            units.extend_from_slice(ch.encode_utf16(&mut [0; 2]))?;
+        }
+        Ok(UnitText { units })
+    }
+
+    fn apply(&mut self, edit: &Edit) -> Result<(), Refusal> {
         match *edit {
             Edit::Ins(place, ch) => {
                 if place > self.units.len() || self.is_inside(place) {

@@ -2,7 +2,7 @@ use Rattle.std.proofs.Common.{sym, ap, ◌∙◌, map-id, true}
 use Rattle.std.proofs.lemmas.Iterator.{YieldsList-from_chars}
 use Rattle.std.proofs.lemmas.Iterator.Consumers.{YieldsList-end}
 use Rattle.opid.specs.Units.{text_in}
-use Rattle.splice.proofs.units.UnitText.start.Goals as goal
+use Rattle.splice.proofs.units.UnitTextEditedText.start.Goals as goal
 
 pub returns-clause-ok : goal.returns-clause-ok
 returns-clause-ok c =
