@@ -23,8 +23,8 @@ returns-clause-grows g c = grown c.args.hall.now c.args.at c.version-version.res
 pub returns-in-Err-clause-cause : goal.returns-in-Err-clause-cause
 returns-in-Err-clause-cause g c over begins = c.in-Err.ensures.looked.6.cause
 
-pub returns-in-Err-append_operations-clause-cause : goal.returns-in-Err-append_operations-clause-cause
-returns-in-Err-append_operations-clause-cause g c over begins =
+pub returns-clause-cause : goal.returns-clause-cause
+returns-clause-cause g c over begins =
     lacks_memory c.args.doc.now.log c.as_slice.result.now c.in-Err-append_operations.why c.in-Err-append_operations.ensures.cause
     (may_go_on c.args.hall.now c.args.at c.version-version.result c.args.pass.now c.look.new.pass c.in-Ok.look c.args.doc.now.log
     c.as_slice.result.now c.in-Ok.ensures.looked c.look.ensures.pass c.version-version.ensures.value c.as_slice.ensures over begins)
