@@ -3,10 +3,11 @@
 
     python3 examples/mend.py rooms/notes.ops mended.ops
 
-Where a digest differs since one bit has flipped, that bit is flipped back. Of the lines that are parts of a log each operation is taken
-that may follow those before it: all of them in front of the first damaged line, and behind it what doesn't build upon what is missing.
-They go to the new file, which isn't there yet; the old one stays as it is. What was put right or left out, and which lines are in doubt,
-is told on standard error. With `--program` the new file is read by that program."""
+Where a digest differs since one bit has flipped, that bit is flipped back. A CR, or CR LF, ends a line as an LF does, and the last line may
+lack its end. Of the lines that are parts of a log each operation is taken that may follow those before it: all of them in front of the
+first damaged line, and behind it what doesn't build upon what is missing. They go to the new file, which isn't there yet; the old one stays
+as it is. Where there is none nothing is made. What was put right or left out, and which lines are in doubt, is told on standard error. With
+`--program` the new file is read by that program."""
 
 import argparse
 import collections
@@ -23,8 +24,13 @@ SITES = 32
 LIMIT = 131_072  # operations of a log
 SEARCHED = 32_768  # bytes in which a flipped bit is looked for, at most
 DIGEST = re.compile(rb'\{"sha256":"[0-9a-f]{64}"\}')
+LINE_END = re.compile(rb"\r\n?")  # that was an LF: a kept line has no CR
+LF, CR = b"\n\r"
 KEYS = {"i": set("ckpsx"), "r": set("ckpsx"), "d": set("ckst")}
 LENGTHS = {"i": range(1, 2), "r": range(2, MOST + 1), "d": range(1, 2)}
+
+# What a byte may have been before one of its bits flipped. (An LF may stand for a CR.)
+ONE_BIT_AWAY = {byte: {it ^ 1 << bit for it in (byte, CR if byte == LF else byte) for bit in range(8)} for byte in range(256)}
 
 # The counts of a clock by their sites; no character where it deletes; the stamp that it stands behind or deletes, and its own.
 Operation = collections.namedtuple("Operation", "site clock char place stamp")
@@ -39,8 +45,8 @@ def put_right(part, told, digest):
         return part + line
     digest, part = digest.copy(), memoryview(part)
     for at in range(len(part) if len(part) <= SEARCHED else 0):
-        for bit in range(8):
-            tried, byte = digest.copy(), bytes([part[at] ^ 1 << bit])
+        for byte in ONE_BIT_AWAY[part[at]]:
+            tried, byte = digest.copy(), bytes([byte])
             tried.update(byte)
             tried.update(part[at + 1 :])
             if digest_line(tried) == told:
@@ -63,7 +69,8 @@ def restored(data):
         digest.update(piece)
         if not data.startswith(piece, start):
             at = next(at for at in range(start, len(whole)) if whole[at] != data[at])
-            told.append(f"line {1 + whole.count(10, 0, at)}: a bit of byte {at} of the file had flipped, and was put right")
+            line = whole.count(LF, 0, at)
+            told.append(f"line {1 + line}: a bit of its byte {at - whole.rfind(LF, 0, at) - 1} had flipped, and was put right")
     return bytes(whole) + data[len(whole) :], told
 
 
@@ -148,8 +155,14 @@ def follows(it, before):
 
 def mend(data):
     """The kept file of what can be had, and what there is to tell of it."""
+    data, turned = LINE_END.subn(b"\n", data)
     data, told = restored(data)
+    if turned:
+        told.insert(0, f"ends of lines that were CR or CR LF, and were turned back into LF: {turned}")
     *lines, tail = data.split(b"\n")
+    if tail:
+        lines.append(tail)
+        told.append(f"line {len(lines)}: it lacks its end")
     log, at, lost = Log(), 0, 0  # where the next part begins
     for line_number, line in enumerate(lines, 1):
         if DIGEST.fullmatch(line):
@@ -169,8 +182,6 @@ def mend(data):
         at += len(operations)
         if left_out:
             told.append(f"line {line_number}: {left_out} of its operations are none, or may not follow those that were taken")
-    if tail:
-        told.append(f"the last {len(tail)} bytes end no line, and were left out")
     told.append(f"{len(log.operations)} operations were taken, {lost} left out")
     return digested(log.parts()), told
 
@@ -196,11 +207,13 @@ def main():
     words = words.parse_args()
     try:
         data, told = mend(words.damaged.read_bytes())
+        print("\n".join(f"mend.py: {it}" for it in told), file=sys.stderr)
+        if not data:
+            raise Unrenewed("no operation can be had")
         run(words.program, "text", given=snapshot(kept_operations(data)))
         put(data, words.mended)
     except (OSError, Unrenewed) as why:
         sys.exit(f"mend.py: {why}; nothing was made")
-    print("\n".join(f"mend.py: {it}" for it in told), file=sys.stderr)
 
 
 if __name__ == "__main__":
