@@ -10,9 +10,9 @@ here: a bridge may be started anew at any time, since what is there already isn'
 records, so an idle bridge polls once a second. A room that is full (12) takes no more, and what it has is carried on. It needs
 the libraries `websockets` and, for the broker, `redis`.
 
-Nothing is carried between two documents: where both have operations and none in common. Where rooms are renewed, delete the stream before
-the bridges begin (`redis-cli DEL rgatext:notes`): a room renewed by hand begins with site 0, as the old one may have, and can look like one that
-goes on with it. Two documents that are to become one are told by `--merge`.
+Nothing is carried between two documents: where both have operations and none in common. So it is of a renewed room and an old stream:
+delete the stream before the bridges begin (`redis-cli DEL rgatext:notes`). Where a room is renewed by hand whose log has operations of all
+32 sites, the new one is of site 0, and can look like the old one's beginning. Two documents that are to become one are told by `--merge`.
 """
 import collections
 import json

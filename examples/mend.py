@@ -18,9 +18,8 @@ import pathlib
 import re
 import sys
 
-from renew import MOST, PROGRAM, UNREADABLE, Unrenewed, digest_line, digested, kept_operations, run, snapshot
+from renew import MOST, PROGRAM, SITES, UNREADABLE, Unrenewed, digest_line, digested, kept_operations, run, snapshot
 
-SITES = 32
 LIMIT = 131_072  # operations of a log
 SEARCHED = 32_768  # bytes in which a flipped bit is looked for, at most
 DIGEST = re.compile(rb'\{"sha256":"[0-9a-f]{64}"\}')

@@ -3,10 +3,11 @@
 
     python3 examples/renew.py rooms fresh
 
-Each `rooms/NAME.ops` is read as `rgatext serve --keep` leaves it, the program prints its text, a room of site 0 takes that in, and what
-`--keep` would have written of that room goes to `fresh/NAME.ops`. The folder `fresh` is there once all of them stand in it, or not at
-all. Of a file, in place of a folder, the new one is printed. With `--snapshot` it is the snapshot that the file stands for, as `rgatext
-text` and `rgatext lines --resume` read it.
+Each `rooms/NAME.ops` is read as `rgatext serve --keep` leaves it, the program prints its text, a room takes that in, of the least site
+that the old log has no operation of, and what `--keep` would have written of that room goes to `fresh/NAME.ops`. So the two logs have no
+operation in common; but where the old one has operations of all 32 sites the new one is of site 0, which is told. The folder `fresh` is
+there once all of them stand in it, or not at all. Of a file, in place of a folder, the new one is printed. With `--snapshot` it is the
+snapshot that the file stands for, as `rgatext text` and `rgatext lines --resume` read it.
 
 What is lost: old versions, deleted text, and who wrote what when. No server may have the folder meanwhile, and whoever has operations of
 an old document can't bring them to the new one."""
@@ -25,6 +26,7 @@ import sys
 
 PROGRAM = pathlib.Path(__file__).resolve().parent.parent / "bin" / "rgatext"
 NAME = re.compile("[a-z0-9-]{1,32}")  # of a room: `notes.1.ops` is an old document
+SITES = 32
 MOST = 64  # characters of an insertion, and operations of a line
 UNREADABLE = ValueError, KeyError, TypeError, AttributeError, RecursionError  # what is raised where a text isn't what it should be
 
@@ -88,11 +90,21 @@ def typed(text):
         yield {"t": "pull", "s": 1, "have": at, "max": MOST}
 
 
+def free_site(file, operations):
+    """The least site of which a file has no operation. Where it has some of each it is 0, which is told."""
+    if free := {*range(SITES)} - {it["s"] for it in operations}:
+        return min(free)
+    print(f"renew.py: {file}: its log has operations of all {SITES} sites: the new document is of site 0, as a part of it is", file=sys.stderr)
+    return 0
+
+
 def renewed(program, file):
-    """The file that keeps a new document with the text of this one, written by site 0."""
-    text = run(program, "text", given=snapshot(kept_operations(file.read_bytes()))).removesuffix("\n")
+    """The file that keeps a new document with the text of this one, typed by a site of which this one has no operation."""
+    operations = kept_operations(file.read_bytes())
+    text = run(program, "text", given=snapshot(operations)).removesuffix("\n")
     requests = [*typed(text), *({"t": "ops", "after": at, "max": MOST} for at in range(0, len(text), MOST))]
-    replies = run(program, "lines", given="".join(json.dumps(it) + "\n" for it in requests)).split("\n")
+    given, site = "".join(json.dumps(it) + "\n" for it in requests), free_site(file, operations)
+    replies = run(program, "lines", "--site", str(site), given=given).split("\n")
     return digested(line.encode() for line in replies if line and json.loads(line)["r"] == "ops")
 
 
