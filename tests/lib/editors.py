@@ -1,5 +1,5 @@
-"""What tests/try_editors tries. The arguments are the program, where to save a picture or an empty text, and what there is of neovim, emacs
-and codemirror."""
+"""What tests/try_editors tries. The arguments are the program, what there is of "neovim emacs codemirror", and what is asked for: the names of
+some cases, where not all are tried, and a file for a picture."""
 import json
 import os
 import pathlib
@@ -16,7 +16,8 @@ from terminal_picture import terminal_html
 from terminals import Emacs, Neovim
 
 TOP = pathlib.Path(__file__).resolve().parents[2]
-PROGRAM, PICTURE, *KINDS = sys.argv[1:]
+PROGRAM, KINDS, *ASKED = sys.argv[1:]
+PICTURE = next((it for it in ASKED if it.endswith(".png")), "")
 OPERATIONS = 131_072  # of a room
 
 
@@ -758,6 +759,14 @@ def save_picture():
     window.driver.save_screenshot(PICTURE)
 
 
+attempts = (tries_page, tries_typing, tries_undo, tries_lines, tries_wide, tries_bytes, tries_untold_changes, tries_many_places)
+attempts += (tries_random_typing, tries_waiting, tries_waiting_in_commands, tries_full_room, tries_leaving, tries_commands)
+attempts += (tries_server_that_ends, tries_program_that_ends, tries_program_that_ends_with_unsent_text)
+attempts += (tries_program_that_is_slow, tries_another_text)
+CASES = {it.__name__.removeprefix("tries_"): it for it in attempts}
+asked = [it for it in ASKED if it != PICTURE] or CASES
+if not set(asked) <= set(CASES):
+    sys.exit(f"the cases are {' '.join(CASES)}")
 work = pathlib.Path(tempfile.mkdtemp())
 editors, windows, terminals = [], [], []
 server = Server("notes", "page", "many", "full", "left", "ended", "another")
@@ -775,14 +784,10 @@ try:
         windows[0].name = "a window"
     editors += windows
     until(lambda: all(it.state.startswith("up to date") for it in editors), "all have joined", 60)
-    cases = (tries_page, tries_typing, tries_undo, tries_lines, tries_wide, tries_bytes, tries_untold_changes, tries_many_places)
-    cases += (tries_random_typing, tries_waiting, tries_waiting_in_commands, tries_full_room, tries_leaving, tries_commands)
-    cases += (tries_server_that_ends, tries_program_that_ends, tries_program_that_ends_with_unsent_text)
-    cases += (tries_program_that_is_slow, tries_another_text)
-    for attempt in cases:
+    for name in asked:
         began = time.monotonic()
-        attempt()
-        print(f"{attempt.__name__.removeprefix('tries_').replace('_', ' ')}: {time.monotonic() - began:.0f} s", flush=True)
+        CASES[name]()
+        print(f"{name}: {time.monotonic() - began:.0f} s", flush=True)
     if PICTURE:
         save_picture()
 finally:
