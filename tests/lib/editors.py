@@ -1,5 +1,5 @@
-"""What tests/try_editors tries. The arguments are the program, what there is of "neovim emacs codemirror", and what is asked for: the names of
-some cases, where not all are tried, and a file for a picture."""
+"""What tests/try_editors tries. The arguments are the program, what there is of "neovim emacs codemirror", and what is asked for: names of
+cases, where not all are tried, and a file for a picture."""
 import json
 import os
 import pathlib
@@ -415,6 +415,36 @@ def tries_waiting():
         clear("waiting")
 
 
+def tries_mapping_that_asks():
+    """While an `<expr>` mapping of Neovim asks for a key others' changes wait. What can't be shown stays in the room."""
+    mapping = "inoremap <expr> <C-L> nr2char(getchar())"  # as `:help map-expression` has it
+    for it in of(Neovim):
+        other = other_than(it)
+        it.do(mapping)
+        it.put("one")
+        same("a text", "one")
+        it.keys("A", ["C-l"])
+        other.put("> ")
+        until(lambda: room_text() == "> one", "others' text")
+        time.sleep(3)
+        assert it.text == "one", it.screen
+        it.keys("!", ["Escape"])
+        same("others' text while a mapping asked", "> one!")
+        clear("a mapping that asks")
+    for it in one_of_each("ended"):
+        if isinstance(it, Neovim):
+            it.clear()
+            it.put("one")
+            it.do(f"{mapping} .. strpart(execute('RgatextUnsent'), 0, 0)")  # (it takes what is new)
+            it.keys("A", ["C-l"])
+            fill("ended", "> ")
+            time.sleep(3)
+            it.keys("!", ["Escape"])
+            until(lambda: it.state == "closed: its program has ended", "it is given up")
+            time.sleep(2)
+            assert (room_text("ended"), it.text) == ("> one", "one!"), it.screen
+
+
 def tries_waiting_in_commands():
     """While a command of Emacs or a search waits for its user others' changes wait: it may know places by their numbers. M-x knows none."""
     for it in of(Emacs):
@@ -760,8 +790,8 @@ def save_picture():
 
 
 attempts = (tries_page, tries_typing, tries_undo, tries_lines, tries_wide, tries_bytes, tries_untold_changes, tries_many_places)
-attempts += (tries_random_typing, tries_waiting, tries_waiting_in_commands, tries_full_room, tries_leaving, tries_commands)
-attempts += (tries_server_that_ends, tries_program_that_ends, tries_program_that_ends_with_unsent_text)
+attempts += (tries_random_typing, tries_waiting, tries_mapping_that_asks, tries_waiting_in_commands, tries_full_room, tries_leaving)
+attempts += (tries_commands, tries_server_that_ends, tries_program_that_ends, tries_program_that_ends_with_unsent_text)
 attempts += (tries_program_that_is_slow, tries_another_text)
 CASES = {it.__name__.removeprefix("tries_"): it for it in attempts}
 asked = [it for it in ASKED if it != PICTURE] or CASES

@@ -10,10 +10,11 @@ local ANSWER, SENDING, BUSY = 2000, 5000, 50
 local mode_before -- that which was left last
 
 -- Whether others' text would come between what is done. (Replace mode knows by its place what stood under each letter that was typed, and
--- insertion in a block its lines by their numbers.)
+-- insertion in a block its lines by their numbers. While an `<expr>` mapping asks for a key nothing may be changed, nor a window chosen.)
 local function is_busy()
   local is_free = { n = true, niI = true, i = mode_before ~= "\22", t = true, nt = true }
-  return not is_free[api.nvim_get_mode().mode] or fn.pumvisible() == 1
+  local may_change = pcall(api.nvim_set_current_win, api.nvim_get_current_win())
+  return not is_free[api.nvim_get_mode().mode] or fn.pumvisible() == 1 or not may_change
 end
 
 local function say(text, kind) api.nvim_echo({ { text, kind } }, kind ~= nil, {}) end
@@ -122,7 +123,7 @@ function Room:step()
   self:flush()
   if not self.has_news then return end
   self.has_news = false
-  self:play(self:ask({ take = true }))
+  self:bring({ take = true })
 end
 
 -- The text: there is an LF between two lines, and none behind the last one.
@@ -190,11 +191,19 @@ function Room:play(told)
   self:show(self.told)
 end
 
+-- Asks for changes and plays them. Where that fails the program is given up: what isn't shown would be taken to be deleted.
+function Room:bring(request)
+  local is_played, why = pcall(self.play, self, self:ask(request))
+  if is_played then return end
+  self:give_up()
+  api.nvim_err_writeln("rgatext: " .. why)
+end
+
 -- Undoes one's own last step, or does it again.
 function Room:turn(does)
   self:step()
   for _ = 1, vim.v.count1 do
-    self:play(self:ask({ [does] = true }))
+    self:bring({ [does] = true })
   end
 end
 
