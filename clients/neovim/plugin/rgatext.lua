@@ -19,9 +19,6 @@ end
 
 local function say(text, kind) api.nvim_echo({ { text, kind } }, kind ~= nil, {}) end
 
--- How many bytes of the current buffer stand before a line. (Neovim says -1 where the text is empty.)
-local function before(line) return math.max(0, fn.line2byte(line) - 1) end
-
 local Room = {}
 Room.__index = Room
 local rooms = {} -- of each buffer
@@ -134,18 +131,27 @@ function Room:flush()
   local text = self:whole()
   if text ~= self.text then
     local is_current = api.nvim_get_current_buf() == self.buffer
-    self:send({ whole = text, caret = is_current and before(".") + fn.col(".") - 1 or nil })
+    self:send({ whole = text, caret = is_current and self:before(fn.line(".") - 1) + fn.col(".") - 1 or nil })
     self.text, self.sent = text, self.sent + 1
   end
   self:show(self.told)
 end
 
+-- How many bytes stand before a row, whatever 'fileformat' says of the ends of lines. (Neovim says -1 where the text is empty.)
+function Room:before(row) return math.max(0, api.nvim_buf_get_offset(self.buffer, row)) end
+
 -- The row and the column that have so many bytes before them.
 function Room:position(place)
-  return unpack(api.nvim_buf_call(self.buffer, function()
-    local line = math.max(1, fn.byte2line(place + 1))
-    return { line - 1, place - before(line) }
-  end))
+  local row, beyond = 0, api.nvim_buf_line_count(self.buffer)
+  while beyond - row > 1 do
+    local middle = math.floor((row + beyond) / 2)
+    if self:before(middle) <= place then
+      row = middle
+    else
+      beyond = middle
+    end
+  end
+  return row, place - self:before(row)
 end
 
 -- A mark that stays in the text: on the character behind it, or else behind the one before.
