@@ -398,22 +398,31 @@ def tries_waiting():
         it.ask("execute('write')")  # as other plugins do when the terminal is left
         it.keys("d")
         same("what is written while an operator is begun takes nothing", "> \ntwo")
-        it.keys("gg0l", ["C-v"], "jIx")
-        other.put("> \r")
-        time.sleep(3)
-        assert it.text == ">x \ntwo", it.text
-        it.keys(["Escape"])
-        same("what is put in a block goes into its lines", "> \n>x \ntxwo")
+        for keys, typed, wanted in (
+            (["Ix"], ">x \ntwo", "> \n>x \ntxwo"),
+            (["Ax"], "> x\ntwo", "> \n> x\ntwxo"),
+            (["cx"], ">x\nto", "> \n>x\ntxo"),
+            ([["C-g"], "x"], ">x\nto", "> \n>x\ntxo"),
+        ):
+            it.keys("gg0l", ["C-v"], "j", *keys)
+            other.put("> \r")
+            time.sleep(3)
+            assert it.text == typed, it.text
+            it.keys(["Escape"])
+            same(f"what is put in a block goes into its lines: {keys}", wanted)
+            other.undo()
+            it.undo()
+            same("undone", "> \ntwo")
         it.keys("gg0")
         other.put("! \r")
-        same("a line where the caret is", "! \n> \n>x \ntxwo")
+        same("a line where the caret is", "! \n> \ntwo")
         it.keys("dd")
-        same("the caret has stayed on its line", "! \n>x \ntxwo")
+        same("the caret has stayed on its line", "! \ntwo")
         it.keys("GAab")
         other.put("> \r")
-        same("others' line above what is typed", "> \n! \n>x \ntxwoab")
+        same("others' line above what is typed", "> \n! \ntwoab")
         it.keys(["C-w"], "c", ["C-w"], "d", ["Escape"])
-        same("CTRL-W deletes what was typed", "> \n! \n>x \ntxwod")
+        same("CTRL-W deletes what was typed", "> \n! \ntwod")
         it.do("2,$d")
         same("one line", "> ")
         it.do("split | terminal")

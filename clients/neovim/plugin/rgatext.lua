@@ -7,12 +7,12 @@ local marks = api.nvim_create_namespace("rgatext")
 -- Milliseconds: until it is told that the program is waited for, until the room has all, and until what is busy or late is looked at again.
 local ANSWER, SENDING, BUSY = 2000, 5000, 50
 
-local mode_before -- that which was left last
+local mode_before = "" -- that which was left last
 
 -- Whether others' text would come between what is done. (Replace mode knows by its place what stood under each letter that was typed, and
 -- insertion in a block its lines by their numbers. While an `<expr>` mapping asks for a key nothing may be changed, nor a window chosen.)
 local function is_busy()
-  local is_free = { n = true, niI = true, i = mode_before ~= "\22", t = true, nt = true }
+  local is_free = { n = true, niI = true, i = not mode_before:find("[\22\19]"), t = true, nt = true }
   local may_change = pcall(api.nvim_set_current_win, api.nvim_get_current_win())
   return not is_free[api.nvim_get_mode().mode] or fn.pumvisible() == 1 or not may_change
 end
