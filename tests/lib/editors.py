@@ -615,6 +615,24 @@ def tries_random_typing():
         clear("random typing")
 
 
+def tries_read_only():
+    """What its user has made read-only stays so while others' changes come."""
+    for it in of(Neovim):
+        it.put("one")
+        same("a text", "one")
+        it.turn_read_only()
+        other_than(it).put("> ")
+        same("others' text where nothing may be typed", "> one")
+        it.put("no")
+        it.undo()
+        time.sleep(2)
+        same("nothing is typed there", "> one")
+        it.turn_read_only()
+        it.put("yes ")
+        same("and then it is", "yes > one")
+        clear("what is read-only")
+
+
 def tries_full_room():
     """What doesn't fit is taken back, and told; what fits is in the room. A full room is read-only."""
     lines = OPERATIONS // 64 - 1
@@ -811,9 +829,9 @@ def save_picture():
 
 
 attempts = (tries_page, tries_typing, tries_undo, tries_lines, tries_wide, tries_bytes, tries_untold_changes, tries_many_places)
-attempts += (tries_random_typing, tries_waiting, tries_mapping_that_asks, tries_waiting_in_commands, tries_full_room, tries_leaving)
-attempts += (tries_commands, tries_server_that_ends, tries_program_that_ends, tries_program_that_ends_with_unsent_text)
-attempts += (tries_program_that_is_slow, tries_another_text)
+attempts += (tries_random_typing, tries_waiting, tries_mapping_that_asks, tries_waiting_in_commands, tries_read_only, tries_full_room)
+attempts += (tries_leaving, tries_commands, tries_server_that_ends, tries_program_that_ends)
+attempts += (tries_program_that_ends_with_unsent_text, tries_program_that_is_slow, tries_another_text)
 CASES = {it.__name__.removeprefix("tries_"): it for it in attempts}
 asked = [it for it in ASKED if it != PICTURE] or CASES
 if not set(asked) <= set(CASES):

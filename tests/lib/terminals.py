@@ -96,6 +96,10 @@ class Neovim(Terminal):
     def clear(self):
         self.do("%d _")
 
+    def turn_read_only(self):
+        """The user doesn't want the text to be changed, or does so again."""
+        self.do("set modifiable!")
+
     def replace(self):
         self.do("%s/the/some/g")
 

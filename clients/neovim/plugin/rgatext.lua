@@ -94,11 +94,12 @@ function Room:ends(last)
   end)
 end
 
--- Shows how the session stands: in the status line, by 'modifiable', and by 'modified', which is what the room isn't told to have.
+-- Shows how it stands: in the status line, by 'modified', which is what the room isn't told to have, and at its turns by 'modifiable'.
 function Room:show(told)
-  self.told = told
+  local is_fixed = told.state == "refused" or told.state == "closed"
+  if is_fixed ~= self.is_fixed then vim.bo[self.buffer].modifiable = not is_fixed end
+  self.told, self.is_fixed = told, is_fixed
   vim.b[self.buffer].rgatext = told.words
-  vim.bo[self.buffer].modifiable = told.state ~= "refused" and told.state ~= "closed"
   vim.bo[self.buffer].modified = told.ahead or told.heard < self.sent or self.is_due
   vim.cmd("redrawstatus!")
 end
@@ -165,7 +166,7 @@ function Room:marked(mark) return unpack(api.nvim_buf_get_extmark_by_id(self.buf
 -- Plays changes that the program knows. Carets stay where they are in the text: on their character, or in Insert mode behind that before.
 -- Their lines stay where they are seen.
 function Room:play(told)
-  local views, current, had_moved = {}, api.nvim_get_current_win(), self.has_moved
+  local views, current, had_moved, is_modifiable = {}, api.nvim_get_current_win(), self.has_moved, vim.bo[self.buffer].modifiable
   local typing = api.nvim_get_mode().mode:find("i") and current -- the window that is typed in
   for _, window in ipairs(fn.win_findbuf(self.buffer)) do
     local view = api.nvim_win_call(window, fn.winsaveview)
@@ -183,6 +184,7 @@ function Room:play(told)
     local last_row, last_column = self:position(at + removed)
     api.nvim_buf_set_text(self.buffer, row, column, last_row, last_column, vim.split(text, "\n", { plain = true }))
   end
+  vim.bo[self.buffer].modifiable = is_modifiable
   for window, view in pairs(views) do
     local row, column = self:marked(view.mark)
     if told.caret and window == current then row, column = self:position(told.caret) end
@@ -207,6 +209,7 @@ end
 
 -- Undoes one's own last step, or does it again.
 function Room:turn(does)
+  if not vim.bo[self.buffer].modifiable then return api.nvim_err_writeln("E21: Cannot make changes, 'modifiable' is off") end
   self:step()
   for _ = 1, vim.v.count1 do
     self:bring({ [does] = true })
