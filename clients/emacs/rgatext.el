@@ -212,14 +212,19 @@ It shows in words what a REQUEST is answered."
   "Whether something was done here that the room isn't told to have."
   (or (plist-get rgatext--told :ahead) (< (plist-get rgatext--told :heard) rgatext--sent) (rgatext--is-untold)))
 
+(defun rgatext--is-fixed ()
+  "Whether nothing may be typed, as the session stands."
+  (and (member (plist-get rgatext--told :state) '("refused" "closed")) t))
+
 (defun rgatext--show (told)
-  "Show how the session stands, as TOLD, in the mode line and by the flags."
-  (setq rgatext--told told)
-  (let ((is-fixed (and (member (plist-get told :state) '("refused" "closed")) t)))
-    (unless (eq is-fixed buffer-read-only)
+  "Show how the session stands, as TOLD, in the mode line and by the flags.
+Where it was made read-only by its user it stays so until the session turns."
+  (let ((was-fixed (rgatext--is-fixed)))
+    (setq rgatext--told told)
+    (unless (eq was-fixed (rgatext--is-fixed))
       (dolist (it (buffer-list))
         (when (memq (current-buffer) (list it (buffer-base-buffer it)))
-          (with-current-buffer it (setq buffer-read-only is-fixed))))))
+          (with-current-buffer it (setq buffer-read-only (not was-fixed)))))))
   (restore-buffer-modified-p (rgatext--is-ahead))
   (force-mode-line-update t))
 

@@ -617,7 +617,7 @@ def tries_random_typing():
 
 def tries_read_only():
     """What its user has made read-only stays so while others' changes come."""
-    for it in of(Neovim):
+    for it in terminals:
         it.put("one")
         same("a text", "one")
         it.turn_read_only()

@@ -183,6 +183,9 @@ class Emacs(Terminal):
         if self.text != "":  # (an error would throw away the keys that follow)
             self.keys(["C-x"], "h", ["DC"])
 
+    def turn_read_only(self):
+        self.keys(["C-x", "C-q"])
+
     def replace(self):
         self.keys(["M-<", "M-%"], "the", ["Enter"], "some", ["Enter"], "!")
 
