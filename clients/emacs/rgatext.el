@@ -25,11 +25,27 @@
 (defvar-local rgatext--has-news nil "Whether there is something to take.")
 (defvar-local rgatext--is-due nil "Whether `rgatext--step' is to come.")
 
+(defun rgatext--wait (seconds does)
+  "Call DOES until it gives something or the program is over.
+Nothing is typed meanwhile. Where that takes more SECONDS it is said, and C-g
+gives the program up."
+  (let ((late (+ (float-time) seconds)) (inhibit-quit t) is-told)
+    (while (not (or rgatext--over (with-local-quit (funcall does))))
+      (when (and is-told quit-flag) (rgatext--give-up))
+      (setq quit-flag nil)
+      (when (> (float-time) late)
+        (setq is-told t)
+        (message "rgatext: waiting for its program; C-g gives it up")))
+    (when is-told (message nil))))
+
 (defun rgatext--send (&rest request)
   "Send a REQUEST, a list of keys and values."
-  (let ((line (concat (json-serialize request) "\n")))
-    (unless rgatext--over
-      (ignore-errors (process-send-string rgatext--process line))))) ; (that the program has ended is told soon)
+  (let ((rest (concat (json-serialize request) "\n")))
+    (rgatext--wait
+     2 (lambda ()
+         (with-timeout (0.1) ; (Emacs keeps what wasn't written by then, and writes it first the next time)
+           (ignore-errors (process-send-string rgatext--process (prog1 rest (setq rest "")))) ; (that it has ended is told soon)
+           t)))))
 
 (defun rgatext--receive (process output)
   "Hear each whole line of the OUTPUT of a PROCESS."
@@ -59,24 +75,15 @@
   (or (buffer-base-buffer) (current-buffer)))
 
 (defun rgatext--ask (&rest request)
-  "Send a REQUEST and give its answer, or what the program told at its end.
-Nothing is typed meanwhile. Where that is late it is said, and C-g gives it up."
+  "Send a REQUEST and give its answer, or what the program told at its end."
   (unless (buffer-local-value 'rgatext--process (rgatext--room)) (user-error "This is no room"))
   (rgatext--tell)
   (with-current-buffer (rgatext--room)
-    (let ((late (+ (float-time) 2 (/ (or (plist-get request :flush) 0) 1000)))
-          (inhibit-quit t) is-told)
-      (setq rgatext--answer nil)
-      (apply #'rgatext--send request)
-      (while (not (or rgatext--answer rgatext--over))
-        (accept-process-output rgatext--process 0.1 nil 1)
-        (when (and is-told quit-flag) (rgatext--give-up))
-        (setq quit-flag nil)
-        (when (> (float-time) late)
-          (setq is-told t)
-          (message "rgatext: waiting for its program; C-g gives it up")))
-      (when is-told (message nil))
-      (or rgatext--answer rgatext--over))))
+    (setq rgatext--answer nil)
+    (apply #'rgatext--send request)
+    (rgatext--wait (+ 2 (/ (or (plist-get request :flush) 0) 1000))
+                   (lambda () (accept-process-output rgatext--process 0.1 nil 1) rgatext--answer))
+    (or rgatext--answer rgatext--over)))
 
 (defun rgatext--give-up ()
   "Go on without the program, which sends what was written to it, and ends."

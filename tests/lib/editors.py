@@ -770,6 +770,36 @@ def tries_program_that_is_slow():
         until(lambda: it.state == "", f"{it.name} is left without a question")
 
 
+def tries_program_that_does_not_read():
+    """An editor says that it waits, too, where its text is longer than what a pipe takes of it, and its user may give the program up."""
+    text = "世" * 70_000
+    fill("large", text)
+    for it in one_of_each("large"):
+        until(lambda: it.text == text and it.state == "up to date", "a large text")
+        program = program_of(it)
+        os.kill(program, signal.SIGSTOP)
+        it.put("x")
+        it.keys(it.gives_up)
+        it.undo()
+        until(lambda: "waiting for its program" in it.screen, f"{it.name} says that it waits")
+        os.kill(program, signal.SIGCONT)
+        until(lambda: it.text == text == room_text("large") and it.state == "up to date", "it goes on", 60)
+        os.kill(program, signal.SIGSTOP)
+        it.put("y")
+        it.save()
+        until(lambda: "waiting for its program" in it.screen, f"{it.name} says it again")
+        it.keys(it.gives_up)
+        until(lambda: it.state == "closed: its program has ended", f"{it.name} has given it up")
+        assert it.text == "y" + text, f"{it.text[:9]} of {len(it.text)}"
+        os.kill(program, signal.SIGCONT)
+        until(lambda: not pathlib.Path(f"/proc/{program}").exists(), "it ends")
+        it.ask_to_leave()
+        if room_text("large") == text:
+            until(lambda: it.refuses in it.screen, f"{it.name} asks, since the program didn't read all")
+        else:
+            until(lambda: it.state == "", f"{it.name} is left without a question")
+
+
 def tries_another_text():
     """Where the room has another text the user chooses."""
     for it in one_of_each("another"):
@@ -831,14 +861,15 @@ def save_picture():
 attempts = (tries_page, tries_typing, tries_undo, tries_lines, tries_wide, tries_bytes, tries_untold_changes, tries_many_places)
 attempts += (tries_random_typing, tries_waiting, tries_mapping_that_asks, tries_waiting_in_commands, tries_read_only, tries_full_room)
 attempts += (tries_leaving, tries_commands, tries_server_that_ends, tries_program_that_ends)
-attempts += (tries_program_that_ends_with_unsent_text, tries_program_that_is_slow, tries_another_text)
+attempts += (tries_program_that_ends_with_unsent_text, tries_program_that_is_slow)
+attempts += (tries_program_that_does_not_read, tries_another_text)
 CASES = {it.__name__.removeprefix("tries_"): it for it in attempts}
 asked = [it for it in ASKED if it != PICTURE] or CASES
 if not set(asked) <= set(CASES):
     sys.exit(f"the cases are {' '.join(CASES)}")
 work = pathlib.Path(tempfile.mkdtemp())
 editors, windows, terminals = [], [], []
-server = Server("notes", "page", "many", "full", "left", "ended", "another")
+server = Server("notes", "page", "many", "full", "left", "ended", "large", "another")
 try:
     for kind in (Neovim, Emacs):
         for n in (1, 2) if kind.__name__.lower() in KINDS else ():
