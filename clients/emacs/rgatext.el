@@ -35,7 +35,8 @@ gives the program up."
       (setq quit-flag nil)
       (when (> (float-time) late)
         (setq is-told t)
-        (message "rgatext: waiting for its program; C-g gives it up")))
+        (let (set-message-function) ; (that puts it beside what a minibuffer asks, which isn't shown before the wait is over)
+          (message "rgatext: waiting for its program; C-g gives it up"))))
     (when is-told (message nil))))
 
 (defun rgatext--send (&rest request)

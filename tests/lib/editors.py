@@ -772,9 +772,9 @@ def tries_program_that_is_slow():
 
 def tries_program_that_does_not_read():
     """An editor says that it waits, too, where its text is longer than what a pipe takes of it, and its user may give the program up."""
-    text = "世" * 70_000
-    fill("large", text)
+    fill("large", "世" * 70_000)
     for it in one_of_each("large"):
+        text = room_text("large")
         until(lambda: it.text == text and it.state == "up to date", "a large text")
         program = program_of(it)
         os.kill(program, signal.SIGSTOP)
@@ -785,11 +785,18 @@ def tries_program_that_does_not_read():
         os.kill(program, signal.SIGCONT)
         until(lambda: it.text == text == room_text("large") and it.state == "up to date", "it goes on", 60)
         os.kill(program, signal.SIGSTOP)
-        it.put("y")
-        it.save()
+        if isinstance(it, Emacs):
+            it.keys(["M-x"])  # (a minibuffer shows what it is told later)
+            it.ask('(progn (goto-char 1) (insert "y"))')
+            it.keys("rgatext-unsent", ["Enter"])
+        else:
+            it.put("y")
+            it.show_unsent()
         until(lambda: "waiting for its program" in it.screen, f"{it.name} says it again")
         it.keys(it.gives_up)
-        until(lambda: it.state == "closed: its program has ended", f"{it.name} has given it up")
+        until(lambda: "is still ending" in it.screen, f"{it.name} has given it up, and does what was typed ahead")
+        it.stay()
+        until(lambda: it.state == "closed: its program has ended", f"{it.name} says so")
         assert it.text == "y" + text, f"{it.text[:9]} of {len(it.text)}"
         os.kill(program, signal.SIGCONT)
         until(lambda: not pathlib.Path(f"/proc/{program}").exists(), "it ends")
