@@ -712,6 +712,11 @@ def tries_program_that_ends():
         assert (it.text, room_text("ended")) == ("lost kept ", "kept "), it.text
         it.show_unsent()
         until(lambda: "ended without a word" in it.screen, "nobody knows what is unsent")
+        if isinstance(it, Neovim):
+            it.do("edit!")
+            until(lambda: (it.state, it.text) == ("up to date", "kept "), "it is opened again")
+            it.put("and ")
+            until(lambda: room_text("ended") == "and kept ", "it is typed in again")
 
 
 def tries_program_that_ends_with_unsent_text():

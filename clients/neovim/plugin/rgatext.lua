@@ -269,6 +269,7 @@ local function open(buffer)
   end)
   rooms[buffer] = self
   self:begin(0, 0)
+  vim.bo[buffer].modifiable = true -- (else `fileformat` can't be set)
   for option, value in pairs({ swapfile = false, undolevels = -1, fileformat = "unix", fixendofline = false, endofline = false }) do
     vim.bo[buffer][option] = value
   end
