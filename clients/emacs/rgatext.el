@@ -202,19 +202,16 @@ it, but right after a change with that before it."
   (interactive "p")
   (rgatext--turn :redo times))
 
-(defmacro rgatext--define (name documentation &rest request)
-  "Define a command by its NAME and DOCUMENTATION.
-It shows in words what a REQUEST is answered."
-  `(defun ,name ()
-     ,documentation
-     (interactive)
-     (message "%s" (plist-get (rgatext--ask ,@request) :words))))
-
-(rgatext--define rgatext-flush "Wait until the room has all that was done here, or say what is wrong." :flush 5000)
-(rgatext--define rgatext-unsent "Show what was done here and the room isn't known to have." :unsent t)
-(rgatext--define rgatext-other "Show the text of the room, where it is another one." :other t)
-(rgatext--define rgatext-take-theirs "Take the text of the room in place of what is shown." :choose "theirs")
-(rgatext--define rgatext-put-mine "Put what is shown into the room in place of its text." :choose "mine")
+(pcase-dolist
+    (`(,name ,documentation . ,request)
+     '((rgatext-flush "Wait until the room has all that was done here, or say what is wrong." :flush 5000)
+       (rgatext-unsent "Show what was done here and the room isn't known to have." :unsent t)
+       (rgatext-other "Show the text of the room, where it is another one." :other t)
+       (rgatext-take-theirs "Take the text of the room in place of what is shown." :choose "theirs")
+       (rgatext-put-mine "Put what is shown into the room in place of its text." :choose "mine")))
+  (defalias name
+    (lambda () (interactive) (message "%s" (plist-get (apply #'rgatext--ask request) :words)))
+    documentation))
 
 (defun rgatext--is-ahead ()
   "Whether something was done here that the room isn't told to have."

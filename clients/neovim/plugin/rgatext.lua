@@ -30,29 +30,25 @@ function Room:send(request)
   if not self.over then self.input:write(vim.json.encode(request) .. "\n") end
 end
 
--- Takes a line of the program: an answer is kept for who waits for it, all else is heard as soon as nothing else is done.
-function Room:receive(line)
+-- Hears a line of the program: an answer and its end at once, all else as soon as nothing else is done.
+function Room:hear(line)
   local told = vim.json.decode(line)
-  if told.closed then
-    self:ends(told)
-  elseif told.state or told.news or told.refused or told.wrong then
-    vim.schedule(function() self:hear(told) end)
-  else
+  local trouble = told.refused or told.wrong
+  if told.closed then return self:ends(told) end
+  if not (told.state or told.news or trouble) then
     self.answer = told
+    return
   end
-end
-
-function Room:hear(told)
-  if self.over or not self:is_there() then return end
-  if told.news then
-    self.has_news = true
-    self:keep_in_step()
-  elseif told.state then
-    self:show(told)
-  else
-    say("rgatext: " .. (told.refused or told.wrong), "WarningMsg")
+  vim.schedule(function()
+    if self.over or not self:is_there() then return end
+    if told.state then return self:show(told) end
+    if told.news then
+      self.has_news = true
+      return self:keep_in_step()
+    end
+    say("rgatext: " .. trouble, "WarningMsg")
     if told.wrong then self:give_up() end
-  end
+  end)
 end
 
 -- Sends a request and gives its answer, or what the program said at its end. Nothing is typed meanwhile. Where that is late it is told, and
@@ -264,7 +260,7 @@ local function open(buffer)
     local lines = vim.split(held .. (block or ""), "\n", { plain = true })
     held = table.remove(lines)
     for _, line in ipairs(lines) do
-      self:receive(line)
+      self:hear(line)
     end
   end)
   rooms[buffer] = self
@@ -281,21 +277,14 @@ local function open(buffer)
   for key, pattern in pairs({ ["\21"] = "^", ["\23"] = [[\%(\k\+\|\%(\k\@!\S\)\+\)\?\s*$]] }) do -- CTRL-U and CTRL-W
     vim.keymap.set("i", key, function() self:erase(key, pattern) end, { buffer = buffer })
   end
+  local requests = { Unsent = { unsent = true }, Other = { other = true }, Theirs = { choose = "theirs" }, Mine = { choose = "mine" } }
+  for name, request in pairs(requests) do
+    api.nvim_buf_create_user_command(buffer, "Rgatext" .. name, function()
+      self:step()
+      say(self:ask(request).words)
+    end, {})
+  end
 end
-
--- A command for the room of the current buffer.
-local function command(name, request)
-  api.nvim_create_user_command("Rgatext" .. name, function()
-    local room = rooms[api.nvim_get_current_buf()]
-    if not room then return api.nvim_err_writeln("rgatext: this is no room") end
-    room:step()
-    say(room:ask(request).words)
-  end, {})
-end
-command("Unsent", { unsent = true })
-command("Other", { other = true })
-command("Theirs", { choose = "theirs" })
-command("Mine", { choose = "mine" })
 
 local group = api.nvim_create_augroup("rgatext", {})
 local function on(event, does, pattern)
