@@ -28,6 +28,7 @@ PROGRAM = pathlib.Path(__file__).resolve().parent.parent / "bin" / "rgatext"
 NAME = re.compile("[a-z0-9-]{1,32}")  # of a room: `notes.1.ops` is an old document
 SITES = 32
 MOST = 64  # characters of an insertion, and operations of a line
+LONGEST = 65_536  # bytes of a line
 UNREADABLE = ValueError, KeyError, TypeError, AttributeError, RecursionError  # what is raised where a text isn't what it should be
 
 
@@ -64,9 +65,11 @@ def digested(lines):
 
 def kept_operations(data):
     """The operations and runs that stand in a kept file, of which a line may tell the digest of all bytes before it. A last line that was
-    cut short, inside a character perhaps, is left out."""
+    cut short, inside a character perhaps, is left out, as the program does: where a whole line stands before it."""
     operations, digest = [], hashlib.sha256()
-    whole, _, _ = data.rpartition(b"\n")
+    whole, _, tail = data.rpartition(b"\n")
+    if len(tail) > (LONGEST if whole else 0):
+        raise Unrenewed(f"its last {len(tail)} bytes are no line that was cut short (examples/mend.py)")
     for number, line in enumerate(whole.split(b"\n") if whole else [], 1):
         if line != digest_line(digest):
             try:
