@@ -95,7 +95,7 @@ pub(crate) fn prepare<R: Wait + Clock>(
     }
 }
 
-// Whether a room's log or history nears its limit, which is said each five minutes, or each minute.
+// Whether a room's log or history nears its limit, which is said more and more seldom, or each minute.
 fn do_rooms_run_out<R: Wait + Clock>(
     rt: &R,
     shared: Shared<'_>,

@@ -15,10 +15,6 @@ use std::sync::{Mutex, Wait};
 use std::time::{Clock, SystemTime, UNIX_EPOCH};
 use std::{fs, io};
 
-// Where a log nears its limit it is looked so often whether it can begin anew, in seconds: what fails, as on a full disk, is tried again
-// before the log is full.
-const AGAIN: u64 = 300;
-
 // What was seen of a room last, and why it was kept no further.
 #[derive(Drop)]
 struct Seen {
@@ -57,7 +53,7 @@ impl RoomState {
                 calls: 0,
                 sessions: 0,
                 fault: None,
-                renewal: Seldom::each(AGAIN),
+                renewal: Seldom::more_and_more(),
                 running_out: Seldom::new(),
                 stays: None,
                 told: Seldom::hourly(),
@@ -76,7 +72,7 @@ impl RoomState {
             ..
         } = seen.into_inner();
         let (renewal, stays, told) = if is_new {
-            (Seldom::each(AGAIN), None, Seldom::hourly())
+            (Seldom::more_and_more(), None, Seldom::hourly())
         } else {
             (renewal, stays, told)
         };
@@ -112,7 +108,7 @@ impl RoomState {
         self.seen.lock(rt).fault = why;
     }
 
-    /// Whether its log nears a limit, as a look tells, which isn't said again for five minutes, or its history does, for one.
+    /// Whether its log nears a limit, as a look tells, which isn't said again for five minutes and then more, or its history does, for one.
     pub(crate) fn runs_out<R: Wait + Clock>(&self, rt: &R, look: &Look) -> bool {
         let mut seen = self.seen.lock(rt);
         let does_log = nears_limit(look.version, &self.begun) && seen.renewal.is_due(rt);

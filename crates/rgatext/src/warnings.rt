@@ -18,25 +18,32 @@ const HOUR: u64 = 3600;
 #[derive(Drop)]
 pub(crate) struct Seldom {
     told: Option<Instant>,
+    // How long it isn't told again, which doubles each time, up to the most.
     seconds: u64,
+    most: u64,
 }
 
 impl Seldom {
     /// It wasn't told yet, and is told each minute.
     pub(crate) fn new() -> Seldom {
-        Seldom::each(MINUTE)
+        Seldom::between(MINUTE, MINUTE)
     }
 
     /// The same, each hour.
     pub(crate) fn hourly() -> Seldom {
-        Seldom::each(HOUR)
+        Seldom::between(HOUR, HOUR)
     }
 
-    /// The same, each so many seconds.
-    pub(crate) fn each(seconds: u64) -> Seldom {
+    /// The same, after five minutes, ten, and so on up to an hour.
+    pub(crate) fn more_and_more() -> Seldom {
+        Seldom::between(5 * MINUTE, HOUR)
+    }
+
+    fn between(seconds: u64, most: u64) -> Seldom {
         Seldom {
             told: None,
             seconds,
+            most,
         }
     }
 
@@ -50,6 +57,10 @@ impl Seldom {
             None => true,
         };
         if is_due {
+            // (it is told for the first time at once)
+            if self.told.is_some() {
+                self.seconds = self.seconds.saturating_mul(2).min(self.most);
+            }
             self.told = Instant::now(rt).ok();
         }
         is_due
