@@ -7,12 +7,12 @@ local marks = api.nvim_create_namespace("rgatext")
 -- Milliseconds: until it is told that the program is waited for, until the room has all, and until what is busy or late is looked at again.
 local ANSWER, SENDING, BUSY = 2000, 5000, 50
 
-local mode_before = "" -- that which was left last
+local is_in_block = false -- from where a block is put into or typed over until that insertion ends
 
 -- Whether others' text would come between what is done. (Replace mode knows by its place what stood under each letter that was typed, and
 -- insertion in a block its lines by their numbers. While an `<expr>` mapping asks for a key nothing may be changed, nor a window chosen.)
 local function is_busy()
-  local is_free = { n = true, niI = true, i = not mode_before:find("[\22\19]"), t = true, nt = true }
+  local is_free = { n = true, niI = true, i = not is_in_block, t = true, nt = true }
   local may_change = pcall(api.nvim_set_current_win, api.nvim_get_current_win())
   return not is_free[api.nvim_get_mode().mode] or fn.pumvisible() == 1 or not may_change
 end
@@ -137,18 +137,20 @@ end
 -- How many bytes stand before a row, whatever 'fileformat' says of the ends of lines. (Neovim says -1 where the text is empty.)
 function Room:before(row) return math.max(0, api.nvim_buf_get_offset(self.buffer, row)) end
 
--- The row and the column that have so many bytes before them.
+-- The row and the column that have so many bytes before them. (Neovim counts a line that it changed last in the current buffer alone.)
 function Room:position(place)
-  local row, beyond = 0, api.nvim_buf_line_count(self.buffer)
-  while beyond - row > 1 do
-    local middle = math.floor((row + beyond) / 2)
-    if self:before(middle) <= place then
-      row = middle
-    else
-      beyond = middle
+  return unpack(api.nvim_buf_call(self.buffer, function()
+    local row, beyond = 0, api.nvim_buf_line_count(self.buffer)
+    while beyond - row > 1 do
+      local middle = math.floor((row + beyond) / 2)
+      if self:before(middle) <= place then
+        row = middle
+      else
+        beyond = middle
+      end
     end
-  end
-  return row, place - self:before(row)
+    return { row, place - self:before(row) }
+  end))
 end
 
 -- A mark that stays in the text: on the character behind it, or else behind the one before.
@@ -295,7 +297,11 @@ local function of_room(does)
     if rooms[it.buf] then does(rooms[it.buf]) end
   end
 end
-on("ModeChanged", function() mode_before = vim.v.event.old_mode end, "*")
+on("ModeChanged", function()
+  local old, new = vim.v.event.old_mode, vim.v.event.new_mode
+  local is_insertion = new:find("^i") ~= nil or new == "niI"
+  is_in_block = is_insertion and (is_in_block or old:find("[\22\19]") ~= nil)
+end, "*")
 on("BufReadCmd", function(it) open(it.buf) end)
 on("BufWriteCmd", function(it)
   local room = rooms[it.buf]
