@@ -68,7 +68,7 @@ def kept_operations(data):
     cut short, inside a character perhaps, is left out, as the program does: where a whole line stands before it."""
     operations, digest = [], hashlib.sha256()
     whole, _, tail = data.rpartition(b"\n")
-    if len(tail) > (LONGEST if whole else 0):
+    if len(tail) > (LONGEST if whole else 0) or b"\r" in tail:
         raise Unrenewed(f"its last {len(tail)} bytes are no line that was cut short (examples/mend.py)")
     for number, line in enumerate(whole.split(b"\n") if whole else [], 1):
         if line != digest_line(digest):
@@ -103,7 +103,10 @@ def free_site(file, operations):
 
 def renewed(program, file):
     """The file that keeps a new document with the text of this one, typed by a site of which this one has no operation."""
-    operations = kept_operations(file.read_bytes())
+    data = file.read_bytes()
+    operations, cut = kept_operations(data), len(data.rpartition(b"\n")[2])
+    if cut:
+        print(f"renew.py: {file}: its last {cut} bytes are a line that was cut short, and were left out", file=sys.stderr)
     text = run(program, "text", given=snapshot(operations)).removesuffix("\n")
     requests = [*typed(text), *({"t": "ops", "after": at, "max": MOST} for at in range(0, len(text), MOST))]
     given, site = "".join(json.dumps(it) + "\n" for it in requests), free_site(file, operations)

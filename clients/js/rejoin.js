@@ -89,8 +89,8 @@ async function wayWithin(document, room, log, edits, others) {
 
 /**
  * Whether a log may be the one that was joined, and have lost more than is known of it: its first site has as many operations as it had
- * there. A room that is renewed by hand begins with a text of site 0, which may be as long: then another site has to have as many, too, or
- * what was put in here is missing.
+ * there. A room that is renewed by hand when all sites are used begins with a text of site 0, which may be as long: then another site has
+ * to have as many, too, or what was put in here is missing.
  */
 function isShorter({ counts }, room, first, own) {
   const same = [...counts.keys()].filter((site) => room.counts.get(site) === counts.get(site));
