@@ -1,5 +1,6 @@
 """Editors of clients/stdio that type, a program and a thread for each, for bin/soak_clients."""
 import json
+import os
 import pathlib
 import queue
 import random
@@ -11,22 +12,31 @@ import traceback
 PROGRAM = pathlib.Path(__file__).resolve().parents[2] / "clients" / "stdio" / "rgatext-stdio.mjs"
 ANSWER = 60  # seconds until an answer is missed
 
+# How an editor may tell its changes: the keys that it sends. The third way is that of clients/neovim and clients/emacs.
+WAYS = ("replace", "replace+more+caret", "whole+caret", "whole+more+caret")
+
+# How an editor may count places: in so many bytes of an encoding
+COUNTS = {"characters": ("utf-32-le", 4), "units": ("utf-16-le", 2), "bytes": ("utf-8", 1)}
+
 
 class StdioTypist(threading.Thread):
     """Types and deletes at random in a text of its own, undoes and does again, and takes what others did some time after it was told of it.
-    Places count characters, as Python's do."""
+    How it tells its changes, and how it counts places, it draws at first. Here they count characters, as Python's do."""
 
     def __init__(self, who, text, answer, port, tally, is_of_words):
         super().__init__(daemon=True)
         self.who, self.supply, self.answer, self.port, self.tally, self.is_of_words = who, text, answer, port, tally, is_of_words
-        self.dice, self.used, self.asked, self.differs, self.ended = random.Random(who), 0, 0, 0, 0
+        self.dice = random.Random(f"{who} {os.environ.get('STDIO_SEED')}")
+        self.way, self.count = os.environ.get("STDIO_WAY") or self.dice.choice(WAYS), self.dice.choice(list(COUNTS))
+        self.key, *self.beside = self.way.split("+")
+        self.used, self.asked, self.differs, self.ended = 0, 0, 0, 0
         self.is_typing, self.is_open, self.fault, self.reports = True, True, "", queue.Queue()
         self.begin()
         self.start()
 
     def begin(self):
         self.text, self.caret, self.last, self.has_news, self.state, self.lines = "", 0, "", False, {"state": "joining"}, queue.Queue()
-        words = ["node", "--experimental-websocket", "--no-warnings", str(PROGRAM), f"ws://127.0.0.1:{self.port}", "notes", "characters"]
+        words = ["node", "--experimental-websocket", "--no-warnings", str(PROGRAM), f"ws://127.0.0.1:{self.port}", "notes", self.count]
         self.program = subprocess.Popen(words, stdin=subprocess.PIPE, stdout=subprocess.PIPE)
         threading.Thread(target=self.listen, args=(self.program, self.lines), daemon=True).start()
 
@@ -63,14 +73,27 @@ class StdioTypist(threading.Thread):
             if self.state["state"] == "over":
                 raise EOFError
 
+    def places(self, text):
+        """How many places a text takes."""
+        encoding, width = COUNTS[self.count]
+        return len(text.encode(encoding)) // width
+
+    def characters(self, places):
+        """How many characters of the shown text are before a place."""
+        encoding, width = COUNTS[self.count]
+        shown = self.text.encode(encoding)
+        assert places * width <= len(shown), "a place is beyond the text"
+        return len(shown[: places * width].decode(encoding))  # (which throws inside of a character)
+
     def play(self, changes):
         """Shows changes, and gives what they put in and took out."""
         put = taken = ""
-        for at, removed, text in changes:
-            put, taken = put + text, taken + self.text[at : at + removed]
-            self.text = self.text[:at] + text + self.text[at + removed :]
+        for place, removed, text in changes:
+            at, end = self.characters(place), self.characters(place + removed)
+            put, taken = put + text, taken + self.text[at:end]
+            self.text = self.text[:at] + text + self.text[end:]
             if self.caret > at:
-                self.caret = max(at, self.caret - removed)
+                self.caret = max(at, self.caret - (end - at))
                 self.caret += len(text) * (self.caret > at)
         return put, taken
 
@@ -78,12 +101,14 @@ class StdioTypist(threading.Thread):
         self.has_news = False
         self.play(self.ask("changes", take=True)["changes"])
 
-    def change(self, at, removed, text):
-        """A change of the shown text, told with its neighbours."""
-        taken, left, right = self.text[at : at + removed], self.text[max(0, at - 1) : at], self.text[at + removed : at + removed + 1]
-        self.say(replace=[at, removed, text])
-        self.text = self.text[:at] + text + self.text[at + removed :]
-        self.caret = at + len(text)
+    def change(self, at, removed, text, is_more=False):
+        """A change of the shown text, told with its neighbours; it may be one of the same step as that before."""
+        before, taken, behind = self.text[:at], self.text[at : at + removed], self.text[at + removed :]
+        left, right = before[-1:], behind[:1]
+        self.text, self.caret = before + text + behind, at + len(text)
+        told = {"replace": [self.places(before), self.places(taken), text], "whole": self.text}
+        beside = {"more": is_more, "caret": self.places(before + text)}
+        self.say(**{self.key: told[self.key]}, **{it: beside[it] for it in self.beside})
         self.tally.note(self.who, put=text, taken=taken, left=left, right=right)
 
     def put(self):
@@ -92,7 +117,7 @@ class StdioTypist(threading.Thread):
         count = self.dice.randint(65, 134) if self.dice.random() < 0.02 else self.dice.randint(1, 5)
         text, self.last = self.supply[self.used : self.used + count], ""
         for part in [text] if count > 5 or self.dice.random() < 0.5 else text:
-            self.change(self.caret, 0, part)
+            self.change(self.caret, 0, part, is_more=self.last != "")
             self.used += len(part)
             self.last += part
 
@@ -102,15 +127,19 @@ class StdioTypist(threading.Thread):
             if last and self.text[: self.caret].endswith(last):
                 self.change(self.caret - len(last), len(last), "")
                 self.last = self.last[: -len(last)]
-        elif self.text:
-            at = max(0, self.caret - self.dice.randint(1, 4)) if self.dice.random() < 0.7 else self.dice.randrange(len(self.text))
+            return
+        for n in range(self.dice.randint(1, 3) if "more" in self.beside else 1):  # (a step at several places)
+            at = max(0, self.caret - self.dice.randint(1, 4)) if self.dice.random() < 0.7 else self.dice.randrange(len(self.text) + 1)
             if at < len(self.text):
-                self.change(at, min(self.dice.randint(1, 4), len(self.text) - at), "")
+                self.change(at, min(self.dice.randint(1, 4), len(self.text) - at), "", is_more=n > 0)
 
     def turn(self):
         """Undoes a step, or does it again; what others did is taken before."""
         self.take()
-        put, taken = self.play(self.ask("changes", **{self.dice.choice(("undo", "undo", "redo")): True})["changes"])
+        turned = self.ask("changes", **{self.dice.choice(("undo", "undo", "redo")): True})
+        put, taken = self.play(turned["changes"])
+        if "caret" in turned:
+            self.caret = self.characters(turned["caret"])
         self.tally.note(self.who, put=put, taken=taken, left="", right="", undone=True)
 
     def run(self):
@@ -169,6 +198,7 @@ class StdioTypists:
     def __init__(self, texts, port, tally, is_of_words):
         self.reports, self.who = {}, [it["who"] for it in texts]
         self.typists = [StdioTypist(it["who"], it["text"], it["answer"], port, tally, is_of_words) for it in texts]
+        print("editors of clients/stdio: " + ", ".join(f"{it.who} {it.way} in {it.count}" for it in self.typists), flush=True)
 
     @property
     def faults(self):
