@@ -879,6 +879,8 @@ CASES = {it.__name__.removeprefix("tries_"): it for it in attempts}
 asked = [it for it in ASKED if it != PICTURE] or CASES
 if not set(asked) <= set(CASES):
     sys.exit(f"the cases are {' '.join(CASES)}")
+if PICTURE and len(KINDS.split()) < 3:
+    sys.exit("a picture shows Neovim, Emacs and CodeMirror, and not all of them are there")
 work = pathlib.Path(tempfile.mkdtemp())
 editors, windows, terminals = [], [], []
 server = Server("notes", "page", "many", "full", "left", "ended", "large", "another")
