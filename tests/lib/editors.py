@@ -63,13 +63,14 @@ def room_text(room="notes"):
         return line.ask(t="read")["x"]
 
 
-def fill(room, text):
-    """Another puts a text in, in parts from the last one to the first."""
+def fill(room, text, size=64, pause=0):
+    """Another puts a text in at the beginning, in parts of a size from the last one to the first, with pauses."""
     with Line(room) as line:
         joined = line.ask(t="join")
-        starts = range(0, len(text), 64)
+        starts = range(0, len(text), size)
         for n, at in enumerate(reversed(starts)):
-            assert line.ask(t="ins", s=joined["s"], n=n + 1, v=joined["v"], k=0, x=text[at : at + 64])["r"] == "ok"
+            assert line.ask(t="ins", s=joined["s"], n=n + 1, v=joined["v"], k=0, x=text[at : at + size])["r"] == "ok"
+            time.sleep(pause)
         line.ask(t="leave", s=joined["s"])
 
 
@@ -434,6 +435,27 @@ def tries_waiting():
         until(lambda: it.ask("getbufline(1, 1)[0]") == "Still in a terminal >", "and beside its output")
         it.do("bwipeout! %")
         clear("waiting")
+
+
+def tries_pasting():
+    """What a terminal pastes between two letters, at once or in parts, is one text there, while another types in front of it."""
+    typed = "".join(f"{n} " for n in range(60))
+    pasted = "".join(f"{n} é世😀\n" for n in range(700))
+    for it in one_of_each("pasted"):
+        for pastes in (it.paste_at_once, it.paste_in_parts):
+            rest = it.text
+            it.put("<>")
+            until(lambda: room_text("pasted") == f"<>{rest}", "two letters")
+            it.keys("i" if isinstance(it, Neovim) else ["C-b"])
+            other = threading.Thread(target=fill, args=("pasted", typed, 1, 0.01))
+            other.start()
+            time.sleep(0.5)
+            pastes(pasted)
+            other.join()
+            if isinstance(it, Neovim):
+                it.keys(["Escape"])
+            wanted = f"{typed}<{pasted}>{rest}"
+            until(lambda: it.text == wanted == room_text("pasted"), f"{it.name}: {pastes.__name__}: {wanted[:200]!r} of {len(wanted)}", 60)
 
 
 def tries_mapping_that_asks():
@@ -871,8 +893,8 @@ def save_picture():
 
 
 attempts = (tries_page, tries_typing, tries_undo, tries_lines, tries_wide, tries_bytes, tries_untold_changes, tries_many_places)
-attempts += (tries_random_typing, tries_waiting, tries_mapping_that_asks, tries_waiting_in_commands, tries_read_only, tries_full_room)
-attempts += (tries_leaving, tries_commands, tries_server_that_ends, tries_program_that_ends)
+attempts += (tries_random_typing, tries_waiting, tries_mapping_that_asks, tries_waiting_in_commands, tries_pasting, tries_read_only)
+attempts += (tries_full_room, tries_leaving, tries_commands, tries_server_that_ends, tries_program_that_ends)
 attempts += (tries_program_that_ends_with_unsent_text, tries_program_that_is_slow)
 attempts += (tries_program_that_does_not_read, tries_another_text)
 CASES = {it.__name__.removeprefix("tries_"): it for it in attempts}
@@ -883,7 +905,7 @@ if PICTURE and len(KINDS.split()) < 3:
     sys.exit("a picture shows Neovim, Emacs and CodeMirror, and not all of them are there")
 work = pathlib.Path(tempfile.mkdtemp())
 editors, windows, terminals = [], [], []
-server = Server("notes", "page", "many", "full", "left", "ended", "large", "another")
+server = Server("notes", "page", "many", "full", "left", "ended", "large", "another", "pasted")
 try:
     for kind in (Neovim, Emacs):
         for n in (1, 2) if kind.__name__.lower() in KINDS else ():

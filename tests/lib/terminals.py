@@ -26,6 +26,16 @@ class Terminal:
             subprocess.run([*self.tmux, *words], check=True)
             time.sleep(0.05)
 
+    def paste_at_once(self, text):
+        """Pastes as a terminal does: in brackets, and with CRs for LFs."""
+        subprocess.run([*self.tmux, "load-buffer", "-"], input=text.encode(), check=True)
+        self.run("paste-buffer", "-p")
+
+    def paste_in_parts(self, text):
+        """The same over a slow line."""
+        keys = text.replace("\n", "\r")
+        self.keys("\x1b[200~", *(keys[at : at + 300] for at in range(0, len(keys), 300)), "\x1b[201~")
+
     @property
     def screen(self):
         return self.run("capture-pane", "-p").stdout
